@@ -1,0 +1,10 @@
+pub mod Files
+pub mod View
+pub mod Moments
+pub mod Memory
+pub mod Inside
+pub mod Calls
+pub mod Parts
+pub mod Reader
+pub mod Untold
+pub mod Replays
