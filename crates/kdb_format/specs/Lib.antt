@@ -1,0 +1,9 @@
+pub mod Readings
+pub mod Spellings
+pub mod Fields
+pub mod Numbers
+pub mod Laws
+pub mod Answers
+pub mod Moments
+pub mod Lengths
+pub mod Items
