@@ -1,0 +1,14 @@
+pub mod Entries
+pub mod Words
+pub mod Keys
+pub mod Places
+pub mod Expansion
+pub mod Sums
+pub mod Passes
+pub mod Lengths
+pub mod Keyed
+pub mod Relation
+pub mod Returning
+pub mod Inversion
+pub mod Field
+pub mod Mixing

@@ -1,0 +1,6 @@
+pub mod Field
+pub mod Cipher
+pub mod Inverse
+pub mod Stealing
+pub mod Words
+pub mod Steps
