@@ -1,0 +1,10 @@
+pub mod Bits
+pub mod Cyclic
+pub mod Numbers
+pub mod Residues
+pub mod Unsealing
+pub mod LeastMultiple
+pub mod Multiples
+pub mod Parts
+pub mod Pieces
+pub mod Vectors

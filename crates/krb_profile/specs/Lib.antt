@@ -1,0 +1,4 @@
+pub mod BlockKeys
+pub mod Bytes
+pub mod NFold
+pub mod Profile
