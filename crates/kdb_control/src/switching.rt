@@ -1,0 +1,67 @@
+ghost use Rattle.std.specs.Prelude.{◌≡◌, OnOk, Some, None, option_map};
+ghost use Rattle.kdb_base.specs.Causes.{HasCause};
+ghost use Rattle.kdb_disk.specs.View.{View};
+ghost use Rattle.kdb_disk.specs.Moments.{LeavesOnly};
+ghost use Rattle.kdb_control.specs.declared.force.Force.TheVariants.{Nothing, Is};
+ghost use Rattle.kdb_control.specs.Force.{in_force, turn_after};
+ghost use Rattle.kdb_control.specs.Moments.{IsDurable, HasInForce, LeavesEither, IsInForce, force_of, next_turn};
+
+use crate::choice::Control;
+use crate::force::{FIRST, SECOND};
+use crate::front::CONTROL;
+use crate::slots::{begin_slot, fill_slot, open_slot};
+use crate::spare::spare_place;
+use kdb_disk::{Disk, DiskFailed};
+
+// Puts the first choice into force.
+fn switch_first<D: Disk>(disk: &mut D, next: &Control) -> Result<(), DiskFailed>
+    requires durable { D.tells → IsDurable (D.view disk.old) }
+    requires now { D.tells → in_force ((D.view disk.old).seen 0) ≡ Nothing }
+    requires turn { next.now.turn ≡ 0 }
+    ensures moments { D.tells → LeavesOnly (D.view disk.old) (D.view disk.new) (LeavesEither Nothing (Is next.now) (D.view disk.old)) }
+    ensures ok { D.tells → OnOk result (IsInForce (Is next.now) (D.view disk.old) (D.view disk.new)) }
+    ensures same { D.loans disk.new ≡ D.loans disk.old }
+    ensures cause { HasCause (D.faults disk.old) (D.faults disk.new) result }
+{
+    fill_slot(disk, FIRST, next)?;
+    begin_slot(disk, SECOND)?;
+    open_slot(disk, FIRST)
+}
+
+// Puts the next choice into force.
+fn switch_next<D: Disk>(disk: &mut D, now: &Control, next: &Control) -> Result<(), DiskFailed>
+    requires durable { D.tells → IsDurable (D.view disk.old) }
+    requires now { D.tells → in_force ((D.view disk.old).seen 0) ≡ Is now.now }
+    requires turn { next.now.turn ≡ turn_after now.now.turn }
+    ensures moments { D.tells → LeavesOnly (D.view disk.old) (D.view disk.new) (LeavesEither (Is now.now) (Is next.now) (D.view disk.old)) }
+    ensures ok { D.tells → OnOk result (IsInForce (Is next.now) (D.view disk.old) (D.view disk.new)) }
+    ensures same { D.loans disk.new ≡ D.loans disk.old }
+    ensures cause { HasCause (D.faults disk.old) (D.faults disk.new) result }
+{
+    let at = spare_place(disk, now)?;
+    fill_slot(disk, at, next)?;
+    open_slot(disk, at)
+}
+
+/// Puts `next` into force in place of `now`, or of nothing. It takes no memory.
+///
+/// At each moment a crash leaves the one or the other in force, and all other files as before. The
+/// slot that is not the newer one is written. A gate that reads closed is not closed again.
+pub fn switch<D: Disk>(
+    disk: &mut D,
+    now: Option<&Control>,
+    next: &Control,
+) -> Result<(), DiskFailed>
+    requires now { D.tells → HasInForce (force_of (option_map (λ c. c.now) now)) (D.view disk.old) }
+    requires turn { next.now.turn ≡ next_turn (option_map (λ c. c.now) now) }
+    ensures moments { D.tells → LeavesOnly (D.view disk.old) (D.view disk.new) (LeavesEither (force_of (option_map (λ c. c.now) now.entry)) (Is next.now) (D.view disk.old)) }
+    ensures ok { D.tells → OnOk result (IsInForce (Is next.now) (D.view disk.old) (D.view disk.new)) }
+    ensures same { D.loans disk.new ≡ D.loans disk.old }
+    ensures cause { HasCause (D.faults disk.old) (D.faults disk.new) result }
+{
+    disk.sync(CONTROL)?;
+    match now {
+        Some(now) => switch_next(disk, now, next),
+        None => switch_first(disk, next),
+    }
+}
