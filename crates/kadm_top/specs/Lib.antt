@@ -1,0 +1,15 @@
+pub mod State
+pub mod Commands
+pub mod Replies
+pub mod Fields
+pub mod Image
+pub mod Opening
+pub mod Parts
+pub mod Steps
+pub mod Stops
+pub mod Input
+pub mod Intake
+pub mod Run
+pub mod Halts
+pub mod Turns
+pub mod Laws

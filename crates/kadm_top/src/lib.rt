@@ -1,0 +1,16 @@
+//! The program's one call: from the words, the input, the disk and the clock to the replies.
+#![tactic(auto)]
+
+pub mod commands;
+pub mod database;
+pub mod files;
+pub mod halts;
+pub mod intake;
+pub mod laws;
+pub mod names_file;
+pub mod opening;
+pub mod replies;
+pub mod run;
+pub mod session;
+
+pub use run::run_local;

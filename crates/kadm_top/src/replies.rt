@@ -1,0 +1,64 @@
+ghost use Rattle.std.specs.Prelude.{◌≡◌, IfOk, string_bytes};
+ghost use Rattle.kadm_top.specs.Replies.{reply_text, six_digits};
+ghost use Rattle.kadm_top.specs.Steps.{is_refusal};
+
+use kdb_base::{MemoryOut, Point, Refusal};
+use std::alloc::Global;
+
+/// What is answered to one line.
+#[derive(Clone, Copy, Debug, PartialEq, Eq)]
+pub enum Reply {
+    /// The change that the line asked for is made, and this is its point.
+    Accepted(Point),
+    Refused(Refusal),
+}
+
+impl Reply {
+    pub fn is_refusal(&self) -> bool
+        ensures { result ≡ is_refusal self.now }
+    {
+        matches!(self, Reply::Refused(_))
+    }
+}
+
+/// The reply's text, with the line feed that ends it.
+pub fn print_reply(alloc: Global, reply: &Reply) -> Result<String, MemoryOut>
+    ensures { IfOk result (λ text. string_bytes text ≡ reply_text reply.now) }
+{
+    match reply {
+        Reply::Accepted(point) => print_point(alloc, point),
+        Reply::Refused(refusal) => print_refusal(alloc, refusal),
+    }
+}
+
+#[tactic(auto, unfolding(crate::specs::Replies::reply_text))]
+fn print_point(alloc: Global, point: &Point) -> Result<String, MemoryOut>
+    ensures { IfOk result (λ text. string_bytes text ≡ reply_text (Reply.Accepted point.now)) }
+{
+    let sno = point.sno;
+    let secs = point.time.secs();
+    let micros = print_micros(alloc, point.time.usecs())?;
+    let micros = micros.as_str();
+    Ok(format!(in alloc; "ok {sno} {secs}.{micros}\n")?)
+}
+
+/// Six digits.
+fn print_micros(alloc: Global, usecs: u32) -> Result<String, MemoryOut>
+    ensures { IfOk result (λ text. string_bytes text ≡ six_digits usecs) }
+{
+    Ok(format!(in alloc; "{usecs:06}")?)
+}
+
+#[tactic(auto, unfolding(crate::specs::Replies::reply_text))]
+fn print_refusal(alloc: Global, refusal: &Refusal) -> Result<String, MemoryOut>
+    ensures { IfOk result (λ text. string_bytes text ≡ reply_text (Reply.Refused refusal.now)) }
+{
+    match refusal {
+        Refusal::BadLine => Ok(String::from_str(alloc, "err 1 BadLine\n")?),
+        Refusal::Duplicate => Ok(String::from_str(alloc, "err 3 Duplicate\n")?),
+        Refusal::Damaged { file, place } => Ok(format!(in alloc;
+            "err 22 Damaged {file} {place}\n"
+        )?),
+        Refusal::RowsFull { limit } => Ok(format!(in alloc; "err 29 RowsFull {limit}\n")?),
+    }
+}
