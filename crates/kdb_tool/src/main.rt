@@ -1,0 +1,44 @@
+//! `kdb_tool`: the principal database of the folder that it is started in.
+#![tactic(auto)]
+
+use kadm_top::run_local;
+use kdb_disk::Folder;
+use kdb_ports::{ReaderSource, SystemClock, WriterSink, ZeroEntropy};
+use std::alloc::Global;
+use std::process::ExitCode;
+use std::{env, io};
+
+/// The command line without the program's name.
+fn read_words(rt: &HostRuntime, alloc: Global) -> io::Result<Vec<Vec<u8>>> {
+    let mut words = Vec::new(alloc);
+    for word in env::args(rt)?.skip(1) {
+        words.push(word.into_bytes())?;
+    }
+    Ok(words)
+}
+
+fn main(rt: HostRuntime) -> ExitCode {
+    let alloc = rt.alloc();
+    // Words that are not UTF-8 are wrong words, as none at all are.
+    let words = match read_words(&rt, alloc) {
+        Ok(words) => words,
+        Err(_) => Vec::new(alloc),
+    };
+    let mut source = ReaderSource::new(rt.stdin());
+    let mut sink = WriterSink::new(rt.stdout());
+    let mut disk = Folder::new(&rt, alloc, ".");
+    let mut clock = SystemClock::new(&rt);
+    let status = run_local(
+        alloc,
+        &words,
+        &mut source,
+        &mut sink,
+        &mut disk,
+        &mut clock,
+        &mut ZeroEntropy,
+    );
+    ExitCode::from(status.code())
+}
+
+#[cfg(test)]
+mod tests;
