@@ -8,7 +8,7 @@ use Rattle.std.proofs.lemmas.Bool.{eqb-true, eqb-false, le-leb}
 use Rattle.std.proofs.lemmas.List.{length-append}
 use Rattle.std.proofs.lemmas.List.Elements.{All-nil}
 use Rattle.kdb_base.specs.Moment.{Moment}
-use Rattle.kdb_base.specs.declared.outcomes.Refusal.TheVariants.{BadLine, Duplicate, Damaged, RowsFull}
+use Rattle.kdb_base.specs.declared.outcomes.Refusal.TheVariants.{BadLine, BadName, Duplicate, UnknownPrincipal, Protected, PassTooShort, PassClasses, BadValue, NotADatabase, AlreadyThere, Damaged, TimeEnd, LineTooLong, RowsFull}
 use Rattle.kdb_ports.proofs.Told.{after_told-nil}
 use Rattle.kdb_disk.specs.Files.{Files}
 use Rattle.kdb_disk.specs.View.{View}
@@ -191,6 +191,16 @@ opens_so bytes (Opens other) state opens spells = ap Opens (same_state bytes oth
 opens_so bytes (Refuses (Damaged file place)) state opens spells = absurd (opens.0 state spells)
 opens_so bytes (Refuses BadLine) state opens spells = absurd opens
 opens_so bytes (Refuses Duplicate) state opens spells = absurd opens
+opens_so bytes (Refuses (BadName offset)) state opens spells = absurd opens
+opens_so bytes (Refuses UnknownPrincipal) state opens spells = absurd opens
+opens_so bytes (Refuses Protected) state opens spells = absurd opens
+opens_so bytes (Refuses PassTooShort) state opens spells = absurd opens
+opens_so bytes (Refuses PassClasses) state opens spells = absurd opens
+opens_so bytes (Refuses (BadValue field)) state opens spells = absurd opens
+opens_so bytes (Refuses NotADatabase) state opens spells = absurd opens
+opens_so bytes (Refuses AlreadyThere) state opens spells = absurd opens
+opens_so bytes (Refuses TimeEnd) state opens spells = absurd opens
+opens_so bytes (Refuses LineTooLong) state opens spells = absurd opens
 opens_so bytes (Refuses (RowsFull limit)) state opens spells = absurd opens
 
 -- the opening of a file that stands for none
@@ -199,6 +209,16 @@ opens_not bytes (Opens other) opens none = absurd (none other opens)
 opens_not bytes (Refuses (Damaged file place)) opens none = λ i. Refuses (Damaged (opens.1 i) (opens.2 i))
 opens_not bytes (Refuses BadLine) opens none = absurd opens
 opens_not bytes (Refuses Duplicate) opens none = absurd opens
+opens_not bytes (Refuses (BadName offset)) opens none = absurd opens
+opens_not bytes (Refuses UnknownPrincipal) opens none = absurd opens
+opens_not bytes (Refuses Protected) opens none = absurd opens
+opens_not bytes (Refuses PassTooShort) opens none = absurd opens
+opens_not bytes (Refuses PassClasses) opens none = absurd opens
+opens_not bytes (Refuses (BadValue field)) opens none = absurd opens
+opens_not bytes (Refuses NotADatabase) opens none = absurd opens
+opens_not bytes (Refuses AlreadyThere) opens none = absurd opens
+opens_not bytes (Refuses TimeEnd) opens none = absurd opens
+opens_not bytes (Refuses LineTooLong) opens none = absurd opens
 opens_not bytes (Refuses (RowsFull limit)) opens none = absurd opens
 
 -- a run may stop before it began

@@ -4,7 +4,7 @@ use Rattle.std.specs.Prelude.{Option, Some, None, option_map, map}
 use Rattle.std.proofs.lemmas.Option.{same_Some}
 use Rattle.kdb_base.specs.Moment.{Moment}
 use Rattle.kdb_base.specs.declared.outcomes.Refusal.{Refusal}
-use Rattle.kdb_base.specs.declared.outcomes.Refusal.TheVariants.{BadLine, Duplicate, Damaged, RowsFull}
+use Rattle.kdb_base.specs.declared.outcomes.Refusal.TheVariants.{BadLine, BadName, Duplicate, UnknownPrincipal, Protected, PassTooShort, PassClasses, BadValue, NotADatabase, AlreadyThere, Damaged, TimeEnd, LineTooLong, RowsFull}
 use Rattle.kdb_base.specs.declared.outcomes.Halt.{Halt}
 use Rattle.kdb_base.specs.declared.outcomes.Halt.TheVariants as disk
 use Rattle.kdb_base.specs.declared.outcomes.Status.{Status}
@@ -136,6 +136,16 @@ right_words words bytes (Opens state) is right = is.1
 right_words words bytes (Refuses (Damaged file place)) is right = is.1
 right_words words bytes (Refuses Duplicate) is right = is.1
 right_words words bytes (Refuses (RowsFull limit)) is right = is.1
+right_words words bytes (Refuses (BadName offset)) is right = is.1
+right_words words bytes (Refuses UnknownPrincipal) is right = is.1
+right_words words bytes (Refuses Protected) is right = is.1
+right_words words bytes (Refuses PassTooShort) is right = is.1
+right_words words bytes (Refuses PassClasses) is right = is.1
+right_words words bytes (Refuses (BadValue field)) is right = is.1
+right_words words bytes (Refuses NotADatabase) is right = is.1
+right_words words bytes (Refuses AlreadyThere) is right = is.1
+right_words words bytes (Refuses TimeEnd) is right = is.1
+right_words words bytes (Refuses LineTooLong) is right = is.1
 right_words words bytes (Refuses BadLine) is right = absurd (is right)
 
 pub wrong_words : (words : List (List ℕ)) (bytes : List ℕ) (opening : Opening) → IsOpening words bytes opening → words ≢ admin_words → opening ≡ Refuses BadLine
@@ -143,4 +153,14 @@ wrong_words words bytes (Opens state) is wrong = absurd (wrong is.0)
 wrong_words words bytes (Refuses (Damaged file place)) is wrong = absurd (wrong is.0)
 wrong_words words bytes (Refuses Duplicate) is wrong = absurd (wrong is.0)
 wrong_words words bytes (Refuses (RowsFull limit)) is wrong = absurd (wrong is.0)
+wrong_words words bytes (Refuses (BadName offset)) is wrong = absurd (wrong is.0)
+wrong_words words bytes (Refuses UnknownPrincipal) is wrong = absurd (wrong is.0)
+wrong_words words bytes (Refuses Protected) is wrong = absurd (wrong is.0)
+wrong_words words bytes (Refuses PassTooShort) is wrong = absurd (wrong is.0)
+wrong_words words bytes (Refuses PassClasses) is wrong = absurd (wrong is.0)
+wrong_words words bytes (Refuses (BadValue field)) is wrong = absurd (wrong is.0)
+wrong_words words bytes (Refuses NotADatabase) is wrong = absurd (wrong is.0)
+wrong_words words bytes (Refuses AlreadyThere) is wrong = absurd (wrong is.0)
+wrong_words words bytes (Refuses TimeEnd) is wrong = absurd (wrong is.0)
+wrong_words words bytes (Refuses LineTooLong) is wrong = absurd (wrong is.0)
 wrong_words words bytes (Refuses BadLine) is wrong = refl

@@ -3,9 +3,10 @@ use Rattle.std.specs.Prelude.{ℕ, ◌-◌, nat_le, List, ◌++◌, length, repl
 use Rattle.std.specs.Fmt.{decimal}
 use Rattle.std.specs.List.{list_any}
 use Rattle.std.specs.Str.{bytes_eq}
+use Rattle.kdb_base.specs.Outcomes.{field_word}
 use Rattle.kdb_base.specs.declared.moments.Point.{Point}
 use Rattle.kdb_base.specs.declared.outcomes.Refusal.{Refusal}
-use Rattle.kdb_base.specs.declared.outcomes.Refusal.TheVariants.{BadLine, Duplicate, Damaged, RowsFull}
+use Rattle.kdb_base.specs.declared.outcomes.Refusal.TheVariants.{BadLine, BadName, Duplicate, UnknownPrincipal, Protected, PassTooShort, PassClasses, BadValue, NotADatabase, AlreadyThere, Damaged, TimeEnd, LineTooLong, RowsFull}
 use Rattle.kadm_top.specs.State.{State, serial_of}
 use Rattle.kadm_top.specs.declared.replies.Reply.{Reply}
 use Rattle.kadm_top.specs.declared.replies.Reply.TheVariants.{Accepted, Refused}
@@ -23,8 +24,18 @@ point_text point = decimal point.sno ++ codes " " ++ decimal point.time.secs ++ 
 
 abbrev pub refusal_text : Refusal → List ℕ
 refusal_text BadLine = codes "err 1 BadLine"
+refusal_text (BadName offset) = codes "err 2 BadName " ++ decimal offset
 refusal_text Duplicate = codes "err 3 Duplicate"
+refusal_text UnknownPrincipal = codes "err 4 UnknownPrincipal"
+refusal_text Protected = codes "err 8 Protected"
+refusal_text PassTooShort = codes "err 9 PassTooShort"
+refusal_text PassClasses = codes "err 10 PassClasses"
+refusal_text (BadValue field) = codes "err 13 BadValue " ++ field_word field
+refusal_text NotADatabase = codes "err 20 NotADatabase"
+refusal_text AlreadyThere = codes "err 21 AlreadyThere"
 refusal_text (Damaged file place) = codes "err 22 Damaged " ++ decimal file ++ codes " " ++ decimal place
+refusal_text TimeEnd = codes "err 23 TimeEnd"
+refusal_text LineTooLong = codes "err 27 LineTooLong"
 refusal_text (RowsFull limit) = codes "err 29 RowsFull " ++ decimal limit
 
 -- a reply's bytes, with the line feed that ends them

@@ -5,3 +5,4 @@ pub mod Outcomes
 pub mod Etypes
 pub mod Key
 pub mod KeyBytes
+pub mod Versions

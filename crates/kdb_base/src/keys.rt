@@ -1,6 +1,7 @@
 ghost use Rattle.std.specs.Prelude.{◌≡◌, length};
-ghost use Rattle.kdb_base.specs.Etypes.{key_len};
+ghost use Rattle.kdb_base.specs.Etypes.{key_len, number_of, etype_of};
 
+use crate::blobs::Blob;
 use std::marker::Model;
 
 /// An encryption type (RFC 3962, section 7).
@@ -13,6 +14,27 @@ pub enum Etype {
 }
 
 impl Etype {
+    /// The type's number (RFC 3961, section 8).
+    pub fn number(self) -> u16
+        ensures { result ≡ number_of self }
+    {
+        match self {
+            Etype::Aes128 => 17,
+            Etype::Aes256 => 18,
+        }
+    }
+
+    /// The type of this number, if there is one.
+    pub fn from_number(number: u16) -> Option<Etype>
+        ensures { result ≡ etype_of number }
+    {
+        match number {
+            17 => Some(Etype::Aes128),
+            18 => Some(Etype::Aes256),
+            _ => None,
+        }
+    }
+
     /// The bytes of a key of this type.
     pub fn key_len(self) -> usize
         ensures { result ≡ key_len self }
@@ -22,6 +44,15 @@ impl Etype {
             Etype::Aes256 => 32,
         }
     }
+}
+
+/// What is mixed into a password before a key is made of it.
+#[derive(Debug, Drop)]
+pub enum Salt {
+    /// The realm and the components of the principal's own name.
+    Normal,
+    /// These bytes.
+    Special(Blob),
 }
 
 /// A key in the plain. Contracts see its encryption type and as many bytes as keys of that type have.

@@ -7,9 +7,11 @@ pub mod fails;
 pub mod keys;
 pub mod moments;
 pub mod outcomes;
+pub mod versions;
 
 pub use blobs::Blob;
 pub use fails::Fails;
-pub use keys::{Etype, PlainKey};
+pub use keys::{Etype, PlainKey, Salt};
 pub use moments::{Point, Time, order_points};
-pub use outcomes::{Halt, MemoryOut, Refusal, Status, Stop};
+pub use outcomes::{Field, Halt, MemoryOut, Refusal, Status, Stop};
+pub use versions::{Activation, Activations, AuxKey, AuxList};

@@ -1,5 +1,5 @@
 ghost use Rattle.std.specs.Prelude.{◌≡◌};
-ghost use Rattle.kdb_base.specs.Outcomes.{code_of};
+ghost use Rattle.kdb_base.specs.Outcomes.{code_of, field_word};
 
 use std::alloc::{AllocError, AllocFailed};
 use thiserror::Error;
@@ -21,15 +21,83 @@ impl<T: Drop> From<AllocFailed<T>> for MemoryOut {
     }
 }
 
+/// The value of a line or a word that is unreadable or out of its range.
+#[derive(Clone, Copy, Debug, PartialEq, Eq)]
+pub enum Field {
+    Expire,
+    PwExpire,
+    MaxLife,
+    MaxRenewLife,
+    MinLife,
+    MinLength,
+    MinClasses,
+    History,
+    KeepKvno,
+    Enctypes,
+    Policy,
+    UlogSize,
+    Realm,
+    Mkvno,
+    Time,
+    Glob,
+}
+
+impl Field {
+    /// The word by which a refusal names it.
+    #[tactic(auto, unfolding(crate::specs::Outcomes::field_word))]
+    pub fn word(self) -> &'static str
+        ensures { result.now ≡ field_word self }
+    {
+        match self {
+            Field::Expire => "expire",
+            Field::PwExpire => "pwexpire",
+            Field::MaxLife => "maxlife",
+            Field::MaxRenewLife => "maxrenewlife",
+            Field::MinLife => "minlife",
+            Field::MinLength => "minlength",
+            Field::MinClasses => "minclasses",
+            Field::History => "history",
+            Field::KeepKvno => "keepkvno",
+            Field::Enctypes => "enctypes",
+            Field::Policy => "policy",
+            Field::UlogSize => "ulogsize",
+            Field::Realm => "realm",
+            Field::Mkvno => "mkvno",
+            Field::Time => "time",
+            Field::Glob => "glob",
+        }
+    }
+}
+
 /// Why a command, a line or an opening was refused. The state is then as it was.
 #[derive(Clone, Copy, Debug, PartialEq, Eq)]
 pub enum Refusal {
     /// The line or the words are not of the grammar.
     BadLine,
-    /// The name to be added is there.
+    /// A name breaks its grammar at this byte of its word, or has another realm there.
+    BadName { offset: u32 },
+    /// The name or the policy to be added is there.
     Duplicate,
+    /// The named principal is not there.
+    UnknownPrincipal,
+    /// A change names the master key's or the history key's principal.
+    Protected,
+    /// The password is shorter than its policy's least length.
+    PassTooShort,
+    /// The password has fewer classes of characters than its policy's least.
+    PassClasses,
+    /// A value is unreadable or out of its range.
+    BadValue { field: Field },
+    /// No control slot is whole and open.
+    NotADatabase,
+    /// A database is there already.
+    AlreadyThere,
     /// This place of a file breaks the file's grammar.
     Damaged { file: u8, place: u64 },
+    /// The log is to start anew, and the time of the last change is the greatest there is.
+    TimeEnd,
+    /// A line has more bytes than a line may have.
+    LineTooLong,
     /// A row more than this number would be added.
     RowsFull { limit: u32 },
 }

@@ -1,0 +1,106 @@
+//! What is kept by the version of a master key: when it becomes active, and the auxiliary keys.
+ghost use Rattle.std.specs.Prelude.{◌≡◌, map};
+ghost use Rattle.kdb_base.specs.Versions.{AreRising};
+
+use crate::blobs::Blob;
+use crate::keys::Etype;
+use std::marker::Model;
+
+/// From when on a version of the master key may be active, in seconds since 1970.
+#[derive(Clone, Copy, Debug, PartialEq, Eq)]
+pub struct Activation {
+    pub version: u16,
+    pub secs: u32,
+}
+
+/// Activations by rising versions.
+#[derive(Debug, Drop)]
+pub struct Activations {
+    items: Vec<Activation>,
+}
+
+impl Model for Activations {
+    ghost use Rattle.kdb_base.specs.declared.versions.Activation.{Activation};
+    ghost use Rattle.std.specs.Prelude.{List, map};
+    ghost use Rattle.kdb_base.specs.Versions.{AreRising};
+
+    ghost Value = { List Activation };
+
+    ghost view = { λ a. a.items.items };
+
+    ghost invariant = { λ a. AreRising (map (λ x. x.version) a.items.items) };
+}
+
+impl Activations {
+    /// The activations of this vector, without a copy.
+    pub fn from_vec(items: Vec<Activation>) -> Activations
+        requires { AreRising (map (λ x. x.version) items.items) }
+        ensures { result ≡ items.items }
+    {
+        Activations { items }
+    }
+
+    /// The activations as a vector, without a copy.
+    pub fn into_vec(self) -> Vec<Activation>
+        ensures { result.items ≡ self }
+    {
+        self.items
+    }
+
+    pub fn as_slice(&self) -> &[Activation]
+        ensures { result.now ≡ self.now }
+    {
+        &self.items
+    }
+}
+
+/// The newest master key, wrapped under the master key of an older version.
+#[derive(Debug, Drop)]
+pub struct AuxKey {
+    /// The older version.
+    pub version: u16,
+    /// The type of the newest key.
+    pub etype: Etype,
+    pub wrapped: Blob,
+}
+
+/// Auxiliary keys by rising versions.
+#[derive(Debug, Drop)]
+pub struct AuxList {
+    items: Vec<AuxKey>,
+}
+
+impl Model for AuxList {
+    ghost use Rattle.kdb_base.specs.declared.versions.AuxKey.{AuxKey};
+    ghost use Rattle.std.specs.Prelude.{List, map};
+    ghost use Rattle.kdb_base.specs.Versions.{AreRising};
+
+    ghost Value = { List AuxKey };
+
+    ghost view = { λ a. a.items.items };
+
+    ghost invariant = { λ a. AreRising (map (λ x. x.version) a.items.items) };
+}
+
+impl AuxList {
+    /// The keys of this vector, without a copy.
+    pub fn from_vec(items: Vec<AuxKey>) -> AuxList
+        requires { AreRising (map (λ x. x.version) items.items) }
+        ensures { result ≡ items.items }
+    {
+        AuxList { items }
+    }
+
+    /// The keys as a vector, without a copy.
+    pub fn into_vec(self) -> Vec<AuxKey>
+        ensures { result.items ≡ self }
+    {
+        self.items
+    }
+
+    pub fn as_slice(&self) -> &[AuxKey]
+        ensures { result.now ≡ self.now }
+    {
+        &self.items
+    }
+}

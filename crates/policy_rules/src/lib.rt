@@ -1,0 +1,13 @@
+//! Policies, and what they ask of passwords.
+#![tactic(auto)]
+
+pub mod passwords;
+pub mod policies;
+pub mod reuse;
+
+pub use passwords::check_password;
+pub use policies::{Policy, is_history, is_min_classes, is_min_length, is_policy_name};
+pub use reuse::{kept_sets, reused};
+
+#[cfg(test)]
+mod tests;

@@ -1,0 +1,39 @@
+ghost use Rattle.std.specs.Prelude.{◌≡◌, ◌↔◌, ◌⊎◌, ◌-◌, ◌≤◌, Contains, IsTrue, min};
+ghost use Rattle.policy_rules.specs.Reuse.{IsReused};
+
+use kdb_base::PlainKey;
+
+fn is_same(a: &PlainKey, b: &PlainKey) -> bool
+    ensures { IsTrue result ↔ (a.now ≡ b.now) }
+{
+    a.etype() == b.etype() && a.as_slice() == b.as_slice()
+}
+
+fn holds(keys: &[PlainKey], key: &PlainKey) -> bool
+    ensures { IsTrue result ↔ Contains keys.now key.now }
+{
+    keys.iter().any(|other| is_same(other, key))
+}
+
+fn is_used(key: &PlainKey, now: &[PlainKey], old: &[PlainKey]) -> bool
+    ensures { IsTrue result ↔ (Contains now.now key.now ⊎ Contains old.now key.now) }
+{
+    holds(now, key) || holds(old, key)
+}
+
+/// Whether a key of a new password equals, in its encryption type and its bytes, a key of the
+/// standing password, `now`, or a remembered one, `old`.
+pub fn reused(fresh: &[PlainKey], now: &[PlainKey], old: &[PlainKey]) -> bool
+    ensures { IsTrue result ↔ IsReused fresh.now now.now old.now }
+{
+    fresh.iter().any(|key| is_used(key, now, old))
+}
+
+/// How many of `old` remembered sets of keys stay, a newly remembered one counted among them. The
+/// standing password is one of those that the history counts.
+pub fn kept_sets(history: u16, old: usize) -> usize
+    requires { 1 ≤ history }
+    ensures { result ≡ min old (history - 1) }
+{
+    old.min(usize::from(history - 1))
+}

@@ -1,0 +1,14 @@
+pub mod Bytewise
+pub mod Takes
+pub mod ByteKinds
+pub mod Sound
+pub mod Complete
+pub mod Costs
+pub mod Shapes
+pub mod Projections
+pub mod Parsed
+pub mod PrintedForms
+pub mod PatternWords
+pub mod Matching
+pub mod PrintedSpells
+pub mod FaultlessWords

@@ -1,0 +1,12 @@
+pub mod Bytes
+pub mod Names
+pub mod Spelling
+pub mod Faults
+pub mod Reading
+pub mod Steps
+pub mod Whole
+pub mod Answers
+pub mod Shape
+pub mod Patterns
+pub mod Found
+pub mod Equal

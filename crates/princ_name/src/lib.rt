@@ -1,0 +1,22 @@
+//! Names of principals: the words that spell them, their one printed form, and the patterns that
+//! match them.
+#![tactic(auto)]
+
+mod bytes;
+mod faults;
+pub mod laws;
+mod limits;
+pub mod names;
+mod parts;
+pub mod patterns;
+pub mod printing;
+mod reading;
+#[cfg(test)]
+mod tests;
+mod whole;
+
+pub use faults::NameFault;
+pub use names::{Name, parse_name, parse_own_name};
+pub use parts::Part;
+pub use patterns::{Hits, Pattern};
+pub use printing::print_name;

@@ -1,0 +1,191 @@
+use super::*;
+use kdb_base::Blob;
+use std::alloc::{AllocError, Global};
+use std::test::*;
+
+const REALM: &[u8] = b"EXAMPLE.ORG";
+
+/// The answer of a reader in short: the printed form, or the offset of the fault.
+fn told(alloc: Global, answer: Result<Name, NameFault>) -> Result<Result<Blob, usize>, NameFault> {
+    match answer {
+        Ok(name) => Ok(Ok(print_name(alloc, &name)?)),
+        Err(NameFault::BadName { offset }) => Ok(Err(offset)),
+        Err(NameFault::MemoryOut) => Err(NameFault::MemoryOut),
+    }
+}
+
+/// So many letters, and then this text.
+fn letters(alloc: Global, count: usize, text: &[u8]) -> Result<Vec<u8>, AllocError> {
+    let mut word = Vec::new(alloc);
+    for _ in 0..count {
+        word.push(b'n')?;
+    }
+    word.extend_from_slice(text)?;
+    Ok(word)
+}
+
+/// Words, and their names in the printed form.
+const SPELLED: [(&[u8], &[u8]); 12] = [
+    (b"alice", b"alice@EXAMPLE.ORG"),
+    (b"alice@EXAMPLE.ORG", b"alice@EXAMPLE.ORG"),
+    (b"host/", b"host/@EXAMPLE.ORG"),
+    (b"", b"@EXAMPLE.ORG"),
+    (b"//", b"//@EXAMPLE.ORG"),
+    (b"K\\/M", b"K\\/M@EXAMPLE.ORG"),
+    (b"kadmin/histor\\y", b"kadmin/history@EXAMPLE.ORG"),
+    (b"\\n\\t\\b\\0", b"\\n\\t\\b\\0@EXAMPLE.ORG"),
+    (b"\\@\\\\\\ \\*", b"\\@\\\\ *@EXAMPLE.ORG"),
+    (b"a@\\@\\/", b"a@\\@\\/"),
+    (b"*", b"*@EXAMPLE.ORG"),
+    (
+        b"a/a/a/a/a/a/a/a/a/a/a/a/a/a/a/a",
+        b"a/a/a/a/a/a/a/a/a/a/a/a/a/a/a/a@EXAMPLE.ORG",
+    ),
+];
+
+/// Words that spell no name, and the places of their faults.
+const REFUSED: [(&[u8], usize); 14] = [
+    (b"a@", 2),
+    (b"a@X@Y", 3),
+    (b"a@X/Y", 3),
+    (b"a\\", 1),
+    (b"a@X\\", 3),
+    (b"a\nb", 1),
+    (b"\x7f", 0),
+    (b"a\\\x1f", 2),
+    (b"a@\x01@", 2),
+    (b"a@X@\x01", 3),
+    (b"\x00\\", 0),
+    (b"@", 1),
+    (b"a/a/a/a/a/a/a/a/a/a/a/a/a/a/a/a/a", 33),
+    (b"a/a/a/a/a/a/a/a/a/a/a/a/a/a/a/a/a@OTHER", 39),
+];
+
+#[test]
+fn reads_each_spelling_and_prints_one(rt: HostRuntime) -> Result<(), Fail> {
+    for (word, printed) in SPELLED.iter() {
+        let answer = parse_name(rt.alloc(), word, REALM);
+        let answer = told(rt.alloc(), answer)?;
+        assert!(rt;
+            answer.map_or(false, |text| text.as_slice() == *printed),
+            "{word:?}"
+        );
+        let again = parse_name(rt.alloc(), printed, b"OTHER");
+        let again = told(rt.alloc(), again)?;
+        assert!(rt;
+            again.map_or(false, |text| text.as_slice() == *printed),
+            "{word:?} again"
+        );
+    }
+    Ok(())
+}
+
+#[test]
+fn refuses_at_the_first_fault(rt: HostRuntime) -> Result<(), Fail> {
+    for (word, offset) in REFUSED.iter() {
+        let answer = parse_name(rt.alloc(), word, REALM);
+        assert_eq!(rt; told(rt.alloc(), answer)?.err(), Some(*offset), "{word:?}");
+    }
+    // 255 and 256 printed bytes
+    let longest = letters(rt.alloc(), 243, b"")?;
+    let name = parse_own_name(rt.alloc(), &longest, REALM)?;
+    assert_eq!(rt; name.printed_len(), 255);
+    let longer = letters(rt.alloc(), 244, b"")?;
+    let answer = parse_own_name(rt.alloc(), &longer, REALM);
+    assert_eq!(rt; told(rt.alloc(), answer)?.err(), Some(244));
+    // a byte that no name may have, and none at all, in the given realm
+    assert_eq!(rt;
+        told(rt.alloc(), parse_name(rt.alloc(), b"a", b""))?.err(),
+        Some(1)
+    );
+    assert_eq!(rt;
+        told(rt.alloc(), parse_name(rt.alloc(), b"a", b"\x01"))?.err(),
+        Some(1)
+    );
+    Ok(())
+}
+
+#[test]
+fn wants_the_own_realm(rt: HostRuntime) -> Result<(), Fail> {
+    let answer = parse_own_name(rt.alloc(), b"a@OTHER", REALM);
+    assert_eq!(rt; told(rt.alloc(), answer)?.err(), Some(2));
+    let answer = parse_own_name(
+        rt.alloc(),
+        b"a/a/a/a/a/a/a/a/a/a/a/a/a/a/a/a/a@OTHER",
+        REALM,
+    );
+    assert_eq!(rt; told(rt.alloc(), answer)?.err(), Some(39));
+    let short = parse_own_name(rt.alloc(), b"a\\/b", REALM)?;
+    let long = parse_own_name(rt.alloc(), b"\\a\\/b@EXAMPLE.ORG", REALM)?;
+    let other = parse_own_name(rt.alloc(), b"a/b", REALM)?;
+    assert!(rt; short == long && short != other);
+    assert_eq!(rt; other.parts().len(), 2);
+    Ok(())
+}
+
+/// The hits of a pattern at a name, where it matches.
+fn hits_at(alloc: Global, pattern: &[u8], name: &[u8]) -> Result<Option<Hits>, NameFault> {
+    let pattern = Pattern::parse(alloc, pattern, REALM)?;
+    let name = parse_name(alloc, name, REALM)?;
+    let mut hits = Hits { at: [Some(7); 9] };
+    let matched = pattern.matches(&name, &mut hits);
+    Ok(if matched { Some(hits) } else { None })
+}
+
+const NONE: [Option<u8>; 9] = [None; 9];
+
+/// Patterns, names, and the places that the wildcards hit.
+const MATCHED: [(&[u8], &[u8], [Option<u8>; 9]); 5] = [
+    (b"*", b"a/b@OTHER", NONE),
+    (b"\\*", b"\\*", NONE),
+    (
+        b"*/admin",
+        b"alice/admin",
+        [Some(0), None, None, None, None, None, None, None, None],
+    ),
+    (
+        b"host/*@*",
+        b"host/a@OTHER",
+        [Some(1), Some(2), None, None, None, None, None, None, None],
+    ),
+    (
+        b"*/*/*/*/*/*/*/*/*/*@*",
+        b"a/a/a/a/a/a/a/a/a/a",
+        [
+            Some(0),
+            Some(1),
+            Some(2),
+            Some(3),
+            Some(4),
+            Some(5),
+            Some(6),
+            Some(7),
+            Some(8),
+        ],
+    ),
+];
+
+const UNMATCHED: [(&[u8], &[u8]); 6] = [
+    (b"a*", b"ab"),
+    (b"\\*", b"alice"),
+    (b"*/admin", b"alice/admin@OTHER"),
+    (b"*/*", b"a"),
+    (b"*/*", b"a/a/a"),
+    (b"*@OTHER", b"a"),
+];
+
+#[test]
+fn matches_part_by_part(rt: HostRuntime) -> Result<(), Fail> {
+    for (pattern, name, at) in MATCHED.iter() {
+        let hits = hits_at(rt.alloc(), pattern, name)?;
+        assert_eq!(rt; hits, Some(Hits { at: *at }), "{pattern:?}");
+    }
+    for (pattern, name) in UNMATCHED.iter() {
+        assert_eq!(rt; hits_at(rt.alloc(), pattern, name)?, None, "{pattern:?}");
+    }
+    let every = Pattern::parse(rt.alloc(), b"*", b"")?;
+    assert!(rt; every.parts().is_none());
+    let fault = Pattern::parse(rt.alloc(), b"*@", REALM).err();
+    assert_eq!(rt; fault, Some(NameFault::BadName { offset: 2 }));
+    Ok(())
+}

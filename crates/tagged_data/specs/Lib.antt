@@ -1,0 +1,9 @@
+pub mod Kinds
+pub mod Rising
+pub mod Items
+pub mod Lists
+pub mod Contents
+pub mod Numbers
+pub mod Modifiers
+pub mod Versions
+pub mod Answers

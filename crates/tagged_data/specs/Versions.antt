@@ -1,0 +1,217 @@
+-- Activations and auxiliary keys, by rising versions of the master key.
+use Rattle.std.proofs.Common.{◌≡◌, ℕ, ◌+◌, ◌*◌, ◌^◌, ◌<◌, List, [], ◌∷◌, ◌++◌, length, map, Option, Some, None, refl, sym, ap, ◌∙◌, arith, inl, inr}
+use Rattle.std.specs.Prelude.{option_map}
+use Rattle.std.specs.List.{All, flat_map, sum_by}
+use Rattle.std.proofs.lemmas.List.{length-append, append-nil}
+use Rattle.std.proofs.lemmas.List.Sums.{sum_by-cons}
+use Rattle.std.proofs.lemmas.Bool.{cases_eq, ne_eqb}
+use Rattle.std.proofs.lemmas.Option.{same_Some}
+use Rattle.kdb_base.specs.Etypes.{number_of, etype_of}
+use Rattle.kdb_base.specs.Versions.{AreRising}
+use Rattle.kdb_base.specs.declared.keys.Etype.{Etype}
+use Rattle.kdb_base.specs.declared.keys.Etype.TheVariants.{Aes128, Aes256}
+use Rattle.kdb_base.specs.declared.versions.Activation.{Activation}
+use Rattle.kdb_base.specs.declared.versions.AuxKey.{AuxKey}
+use Rattle.kdb_format.specs.Readings.{Reading, ◌>>=◌, done, known, little_at, bytes_at}
+use Rattle.kdb_format.specs.Spellings.{little}
+use Rattle.kdb_format.specs.Numbers.{length-little}
+use Rattle.kdb_format.specs.Fields.{IsField}
+use Rattle.kdb_format.specs.Laws.{same_field, first_field, then_field, last_field, little_field, bytes_field}
+use Rattle.tagged_data.specs.Contents.{IsContent, items_of, items_content, in_order, in_order_content, map_some}
+use Rattle.tagged_data.specs.Numbers.{version_at, IsVersion, version_field}
+
+-- ---- activations
+
+-- a version, and its seconds since 1970
+unfoldable pub activation_at : Reading Activation
+activation_at = do
+  version ← version_at
+  secs ← little_at 4
+  done (record { version = version; secs = secs })
+
+unfoldable pub activation : Activation → List ℕ
+activation a = little 2 a.version ++ little 4 a.secs
+
+pub record IsActivation (a : Activation) : Type 0 where
+  pub version : IsVersion a.version
+  pub secs : a.secs < 2 ^ 32
+
+pub activation_field : IsField activation_at activation IsActivation
+unfolding activation_at activation
+activation_field = same_field
+    (first_field version_field (λ (a : Activation). a.version) (λ version _.
+    last_field (little_field 4) (λ (a : Activation). a.secs) (λ secs. record { version = version; secs = secs }) (λ _ _. (refl, refl)) (λ a k. ap (λ (n : ℕ). record { version = n; secs = a.secs }) (sym k))))
+    (λ a f. (refl, record { version = f.0; secs = f.1 }))
+    (λ a f. (f.version, f.secs))
+
+unfoldable pub activations_at : List ℕ → Option (List Activation)
+activations_at = in_order (λ a. a.version) (items_of activation_at)
+
+unfoldable pub activations_text : List Activation → List ℕ
+activations_text list = flat_map activation list
+
+pub record AreActivations (list : List Activation) : Type 0 where
+  pub each : All IsActivation list
+  pub rising : AreRising (map (λ a. a.version) list)
+
+length-activation : (a : Activation) → length (activation a) ≡ 6
+unfolding activation
+length-activation a = omega (arith, length-append (little 2 a.version) (little 4 a.secs), length-little 2 a.version, length-little 4 a.secs)
+
+pub length-activations_text : (list : List Activation) → length (activations_text list) ≡ 6 * length list
+unfolding activations_text
+length-activations_text [] = refl
+length-activations_text (a ∷ list) = omega (arith, length-append (activation a) (flat_map activation list), length-activation a, length-activations_text list)
+
+same_content : {A : Type 0} {read : List ℕ → Option A} {s : A → List ℕ} {F G : A → Type 0} → IsContent read s F → ((x : A) → F x → G x) → ((x : A) → G x → F x) → IsContent read s G
+same_content content to from = record {
+  spelled = λ bytes x fits e. content.spelled bytes x fits e;
+  fits = λ bytes x fits e. to x (content.fits bytes x fits e);
+  again = λ x f. content.again x (from x f);
+}
+
+pub activations_content : IsContent activations_at activations_text AreActivations
+unfolding activations_at activations_text
+activations_content = same_content (in_order_content (λ (a : Activation). a.version) (items_content activation_field (λ a _. omega (arith, length-activation a))))
+    (λ list f. record { each = f.0; rising = f.1 })
+    (λ list f. (f.each, f.rising))
+
+-- ---- auxiliary keys
+
+-- the number of an encryption type
+unfoldable pub etype_at : Reading Etype
+etype_at = do
+  number ← little_at 2
+  known (etype_of number)
+
+unfoldable pub etype_text : Etype → List ℕ
+etype_text etype = little 2 (number_of etype)
+
+number_is : (n : ℕ) (etype : Etype) → etype_of n ≡ Some etype → number_of etype ≡ n
+number_is n etype e =
+    elim (cases_eq n 17) [
+      | inl is ↦
+          let here : etype_of n ≡ Some Aes128 = rw is refl in
+          ap number_of (same_Some etype Aes128 (sym e ∙ here)) ∙ sym is
+      | inr not17 ↦
+          elim (cases_eq n 18) [
+            | inl is ↦
+                let here : etype_of n ≡ Some Aes256 = rw is refl in
+                ap number_of (same_Some etype Aes256 (sym e ∙ here)) ∙ sym is
+            | inr not18 ↦
+                let no17 = ne_eqb n 17 not17 in
+                let no18 = ne_eqb n 18 not18 in
+                let none : etype_of n ≡ None = rw (no17, no18) refl in
+                absurd cc
+          ]
+    ]
+
+of_number : (etype : Etype) → etype_of (number_of etype) ≡ Some etype
+of_number Aes128 = refl
+of_number Aes256 = refl
+
+-- the type of a number that was read
+type_field : (n : ℕ) → IsField (known (etype_of n)) (λ _. []) (λ etype. (number_of etype ≡ n) × Unit {0})
+type_field n = record {
+  spelled = λ bytes etype rest fits e.
+      let a = map_some (λ (t : Etype). let x : Etype × List ℕ = (t, bytes) in x) (etype_of n) (etype, rest) e in
+      ap (λ (x : Etype × List ℕ). x.1) a.2;
+  fits = λ bytes etype rest fits e.
+      let a = map_some (λ (t : Etype). let x : Etype × List ℕ = (t, bytes) in x) (etype_of n) (etype, rest) e in
+      (ap number_of (sym (ap (λ (x : Etype × List ℕ). x.0) a.2)) ∙ number_is n a.0 a.1, tt);
+  again = λ etype rest f.
+      ap (option_map (λ (t : Etype). let x : Etype × List ℕ = (t, rest) in x)) (ap etype_of (sym f.0) ∙ of_number etype);
+}
+
+small_number : (etype : Etype) → number_of etype < 2 ^ 16
+small_number Aes128 = omega arith
+small_number Aes256 = omega arith
+
+pub etype_field : IsField etype_at etype_text (λ _. Unit {0})
+unfolding etype_at etype_text
+etype_field = same_field (first_field (little_field 2) number_of (λ n _. type_field n))
+    (λ etype f. (append-nil (little 2 (number_of etype)), tt))
+    (λ etype _. (small_number etype, tt))
+
+-- a length, and that many bytes
+unfoldable pub wrapped_at : Reading (List ℕ)
+wrapped_at = do
+  n ← little_at 2
+  bytes_at n
+
+unfoldable pub wrapped_text : List ℕ → List ℕ
+wrapped_text bytes = little 2 (length bytes) ++ bytes
+
+pub wrapped_field : IsField wrapped_at wrapped_text (λ bytes. length bytes < 2 ^ 16)
+unfolding wrapped_at wrapped_text
+wrapped_field =
+    let text : (n : ℕ) → n < 2 ^ 16 → IsField (bytes_at n) (λ xs. xs) (λ xs. (length xs ≡ n) × Unit {0}) = λ n lt. same_field (bytes_field n) (λ xs e. (refl, (e, tt))) (λ xs f. f.0) in
+    same_field (first_field (little_field 2) (length {A = ℕ}) text) (λ xs f. (refl, f.0)) (λ xs lt. (lt, tt))
+
+-- a version, the newest key's type, and the newest key wrapped under that version's
+unfoldable pub aux_key_at : Reading AuxKey
+aux_key_at = do
+  version ← version_at
+  etype ← etype_at
+  wrapped ← wrapped_at
+  done (record { version = version; etype = etype; wrapped = wrapped })
+
+unfoldable pub aux_key : AuxKey → List ℕ
+aux_key k = little 2 k.version ++ (etype_text k.etype ++ wrapped_text k.wrapped)
+
+pub record IsAuxKey (k : AuxKey) : Type 0 where
+  pub version : IsVersion k.version
+  pub wrapped : length k.wrapped < 2 ^ 16
+
+same_key : (k : AuxKey) (version : ℕ) (etype : Etype) → k.version ≡ version → k.etype ≡ etype → ◌≡◌ {A = AuxKey} (record { version = version; etype = etype; wrapped = k.wrapped }) k
+same_key k version etype v e =
+    let made : ℕ → Etype → AuxKey = λ (n : ℕ) (t : Etype). record { version = n; etype = t; wrapped = k.wrapped } in
+    ap (λ (n : ℕ). made n etype) (sym v) ∙ ap (λ (t : Etype). made k.version t) (sym e)
+
+pub aux_key_field : IsField aux_key_at aux_key IsAuxKey
+unfolding aux_key_at aux_key
+aux_key_field = same_field
+    (first_field version_field (λ (k : AuxKey). k.version) (λ version _.
+    then_field {K = λ (k : AuxKey). k.version ≡ version} etype_field (λ (k : AuxKey). k.etype) (λ etype _.
+    last_field {K = λ (k : AuxKey). (k.etype ≡ etype) × (k.version ≡ version)} wrapped_field (λ (k : AuxKey). k.wrapped) (λ wrapped. record { version = version; etype = etype; wrapped = wrapped })
+    (λ _ _. (refl, (refl, refl)))
+    (λ k e. same_key k version etype e.1 e.0))))
+    (λ k f. (refl, record { version = f.0; wrapped = f.1.1 }))
+    (λ k f. (f.version, (tt, f.wrapped)))
+
+unfoldable pub aux_keys_at : List ℕ → Option (List AuxKey)
+aux_keys_at = in_order (λ k. k.version) (items_of aux_key_at)
+
+unfoldable pub aux_keys_text : List AuxKey → List ℕ
+aux_keys_text list = flat_map aux_key list
+
+pub record AreAuxKeys (list : List AuxKey) : Type 0 where
+  pub each : All IsAuxKey list
+  pub rising : AreRising (map (λ k. k.version) list)
+
+length-aux_key : (k : AuxKey) → length (aux_key k) ≡ 6 + length k.wrapped
+unfolding aux_key etype_text wrapped_text
+length-aux_key k =
+    omega (
+      arith,
+      length-append (little 2 k.version) (little 2 (number_of k.etype) ++ (little 2 (length k.wrapped) ++ k.wrapped)),
+      length-append (little 2 (number_of k.etype)) (little 2 (length k.wrapped) ++ k.wrapped),
+      length-append (little 2 (length k.wrapped)) k.wrapped,
+      length-little 2 k.version,
+      length-little 2 (number_of k.etype),
+      length-little 2 (length k.wrapped),
+    )
+
+pub length-aux_keys_text : (list : List AuxKey) → length (aux_keys_text list) ≡ sum_by (λ k. 6 + length k.wrapped) list
+unfolding aux_keys_text
+length-aux_keys_text [] = refl
+length-aux_keys_text (k ∷ list) =
+    let f : AuxKey → ℕ = λ (k : AuxKey). 6 + length k.wrapped in
+    let one : sum_by f (k ∷ list) ≡ f k + sum_by f list = sum_by-cons f k list in
+    omega (arith, one, length-append (aux_key k) (flat_map aux_key list), length-aux_key k, length-aux_keys_text list)
+
+pub aux_keys_content : IsContent aux_keys_at aux_keys_text AreAuxKeys
+unfolding aux_keys_at aux_keys_text
+aux_keys_content = same_content (in_order_content (λ (k : AuxKey). k.version) (items_content aux_key_field (λ k _. omega (arith, length-aux_key k))))
+    (λ list f. record { each = f.0; rising = f.1 })
+    (λ list f. (f.each, f.rising))
