@@ -1,5 +1,5 @@
 -- How a run of calls on the control file goes on.
-use Rattle.std.proofs.Common.{◌≡◌, ◌≢◌, ℕ, ◌≤◌, ◌<◌, ◌⊎◌, inl, inr, ⊎_elim, ◌+◌, List, [], ◌∷◌, length, get_or, take, drop, sym, ◌∙◌, ap, arith}
+use Rattle.std.proofs.Common.{◌≡◌, ◌≢◌, ℕ, ◌≤◌, ◌<◌, ◌⊎◌, inl, inr, ⊎_elim, ◌+◌, List, [], ◌∷◌, length, get_or, take, drop, refl, sym, ◌∙◌, ap, arith}
 use Rattle.std.specs.Prelude.{Result, Ok, Err, OnOk}
 use Rattle.std.proofs.lemmas.Bool.{cases_eq}
 use Rattle.std.proofs.lemmas.List.{get_or-take, drop-take}
@@ -9,11 +9,12 @@ use Rattle.kdb_disk.specs.Moments.{LeavesOnly, Stands, Keeps}
 use Rattle.kdb_disk.proofs.Puts.{written-same, written-other, take-put, between-put, length-put, get_or-put_before}
 use Rattle.kdb_disk.proofs.Runs.{started, then_on, weaken, at_end, looked, stands_here, stands_other, no_shorter, stands_byte}
 use Rattle.kdb_control.specs.declared.force.Force.{Force}
+use Rattle.kdb_control.specs.declared.force.Force.TheVariants.{Is}
 use Rattle.kdb_control.specs.Force.{in_force}
 use Rattle.kdb_control.specs.Choice.{Choice}
 use Rattle.kdb_control.specs.Bodies.{body, IsBody}
-use Rattle.kdb_control.specs.Moments.{Leaves, LeavesEither, IsDurable, IsPlace, IsShut, IsReady, IsFilled, HasInForce, without}
-use Rattle.kdb_control.proofs.Effects.{shut_torn, begun_torn, without-put, gate_within}
+use Rattle.kdb_control.specs.Moments.{Leaves, LeavesEither, IsDurable, IsPlace, IsShut, IsReady, IsFilled, HasInForce, IsFirst, without}
+use Rattle.kdb_control.proofs.Effects.{gate_closed, shut_torn, begun_torn, without-put, gate_within}
 
 -- nothing was done yet
 leaves_now : {one : Force} {old : View} → IsDurable old → in_force (old.seen 0) ≡ one → (c : Files) → old.images c → Leaves one old c
@@ -157,3 +158,11 @@ ready_on {mid} {new} {next} ready shut = record {
   fits = ready.fits;
   durable = shut.durable;
 }
+
+-- the first choice is in force, behind which the second slot is closed
+pub first_made : {T E : Type 0} (r : Result T E) (old new : List ℕ) (next : Choice) → get_or old 64 0 ≢ 165 → 64 < length old
+    → OnOk r (in_force new ≡ Is next) → OnOk r (get_or new 64 0 ≡ get_or old 64 0) → OnOk r (length new ≡ length old) → OnOk r (IsFirst next new)
+first_made (Ok x) old new next gate begun force same long =
+    let shut : get_or new 64 0 ≢ 165 = λ e. gate (sym same ∙ e) in
+    record { here = sym (gate_closed 64 new (inr refl) shut) ∙ force; gate = shut; begun = omega (arith, long, begun) }
+first_made (Err e) old new next gate begun force same long = tt

@@ -94,3 +94,9 @@ pub record HasNothing (c : Files) : Type 0 where
 -- the choice is in force still, with all other files as before, or nothing is
 abbrev pub Erases : Choice → View → Files → Type 0
 Erases now old c = Leaves (Is now) old c ⊎ HasNothing c
+
+-- The first choice stands in the first slot alone, and the second slot begins with a closed gate.
+pub record IsFirst (next : Choice) (file : List ℕ) : Type 0 where
+  pub here : without 64 file ≡ Is next
+  pub gate : slice_index file 64 ≢ 165
+  pub begun : 64 < length file

@@ -1,4 +1,4 @@
-ghost use Rattle.std.specs.Prelude.{◌≡◌, ◌≤◌, ◌<◌, length, OnOk, Option};
+ghost use Rattle.std.specs.Prelude.{◌≡◌, ◌≤◌, ◌<◌, length, slice_index, ℕ, OnOk, Option};
 ghost use Rattle.kdb_base.specs.Causes.{HasCause};
 ghost use Rattle.kdb_disk.specs.View.{View};
 ghost use Rattle.kdb_disk.specs.Moments.{LeavesOnly};
@@ -79,6 +79,8 @@ pub(crate) fn open_slot<D: Disk>(disk: &mut D, at: u64) -> Result<(), DiskFailed
     requires within { D.tells → at < length ((D.view disk.old).seen 0) }
     ensures moments { D.tells → (now : Option Choice) (next : Choice) → IsReady at next (D.view disk.old) → HasTurn now → without at ((D.view disk.old).seen 0) ≡ force_of now → next.turn ≡ next_turn now → LeavesOnly (D.view disk.old) (D.view disk.new) (LeavesEither (force_of now) (Is next) (D.view disk.old)) }
     ensures ok { D.tells → (now : Option Choice) (next : Choice) → IsReady at next (D.view disk.old) → HasTurn now → without at ((D.view disk.old).seen 0) ≡ force_of now → next.turn ≡ next_turn now → OnOk result (IsInForce (Is next) (D.view disk.old) (D.view disk.new)) }
+    ensures rest { D.tells → (i : ℕ) → at < i → OnOk result (slice_index ((D.view disk.new).seen 0) i ≡ slice_index ((D.view disk.old).seen 0) i) }
+    ensures length { D.tells → OnOk result (length ((D.view disk.new).seen 0) ≡ length ((D.view disk.old).seen 0)) }
     ensures same { D.loans disk.new ≡ D.loans disk.old }
     ensures cause { HasCause (D.faults disk.old) (D.faults disk.new) result }
 {

@@ -94,7 +94,7 @@ impl Policy {
         self.min_classes
     }
 
-    /// How many passwords count as used, 1 to 16: the standing one, and those remembered.
+    /// How many passwords stay behind a change of the password, 1 to 16, the standing one among them.
     pub fn history(&self) -> u16
         ensures value { result ≡ self.now.history }
         ensures in_range { (1 ≤ result) × (result ≤ 16) }

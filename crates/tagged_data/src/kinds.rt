@@ -18,6 +18,15 @@ pub const ACTIVATIONS: u16 = 9;
 /// The newest master key, wrapped under each older one.
 pub const AUX_KEYS: u16 = 10;
 
+/// The numbers of the types. A law, and no work.
+pub fn numbers_of_the_types()
+    ensures pw_change { PW_CHANGE ≡ 1 }
+    ensures modifier { MODIFIER ≡ 2 }
+    ensures mkvno { MKVNO ≡ 8 }
+    ensures activations { ACTIVATIONS ≡ 9 }
+    ensures aux_keys { AUX_KEYS ≡ 10 }
+{}
+
 /// Whether it is the number of a type.
 #[tactic(auto, unfolding(crate::specs::Kinds::is_kind))]
 pub fn is_kind(number: u16) -> bool

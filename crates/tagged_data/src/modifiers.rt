@@ -46,7 +46,8 @@ fn read_modifier(bytes: &[u8]) -> Option<(u32, &[u8])>
     }
 }
 
-/// When the record was changed last, in seconds since 1970, and the printed name of who did it.
+/// When the record was changed last, in seconds since 1970, and the name of who did it: any bytes but
+/// zeros. Whether they are a printed name is for the reader of the record to judge.
 /// None where there is no such item, or its content is not of this form.
 pub fn modifier(list: &TagList) -> Option<(u32, &[u8])>
     ensures found { IfSome result (λ x. content MODIFIER list.now ≡ Some (modifier_text (x.0, x.1.now)) × IsModifier (x.0, x.1.now)) }

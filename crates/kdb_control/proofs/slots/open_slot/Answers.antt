@@ -1,5 +1,6 @@
-use Rattle.std.proofs.Common.{◌∙◌, ap}
+use Rattle.std.proofs.Common.{ℕ, List, [], ◌∷◌, get_or, ◌∙◌, ap, arith}
 use Rattle.std.proofs.lemmas.Result.{on_ok_weaker}
+use Rattle.kdb_disk.proofs.Puts.{get_or-put_behind}
 use Rattle.kdb_disk.proofs.Runs.{stands_here, stands_other}
 use Rattle.kdb_control.specs.Force.{in_force}
 use Rattle.kdb_control.proofs.Effects.{open_torn, opened}
@@ -18,3 +19,10 @@ returns-clause-ok g c tells now next ready lt force turn =
       durable = stands.durable;
       others = λ h ne. stands_other h stands ne;
     }) (c.open_gate.ensures.ok tells)
+
+pub returns-clause-rest : goal.returns-clause-rest
+returns-clause-rest g c tells i lt =
+    on_ok_weaker c.open_gate.result (λ stands.
+    ap (λ (l : List ℕ). get_or l i 0) (stands_here stands)
+    ∙ get_or-put_behind i c.args.at (165 ∷ []) ((g.D.Disk.view c.args.disk.now).seen 0) 0 (omega (arith, lt)) (omega (arith, c.requires.within tells)))
+    (c.open_gate.ensures.ok tells)

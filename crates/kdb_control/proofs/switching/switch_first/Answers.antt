@@ -1,10 +1,10 @@
-use Rattle.std.proofs.Common.{◌≡◌, ◌∙◌, inl, inr, refl}
+use Rattle.std.proofs.Common.{◌≡◌, ◌∙◌, inl, inr, refl, arith}
 use Rattle.std.specs.Prelude.{None}
 use Rattle.std.proofs.lemmas.Result.{on_ok_weaker}
 use Rattle.kdb_control.specs.declared.force.Force.TheVariants.{Nothing}
 use Rattle.kdb_control.specs.Force.{in_force}
 use Rattle.kdb_control.proofs.Effects.{nothing_without, gate_closed}
-use Rattle.kdb_control.proofs.Steps.{run_on, or_other, ready_on}
+use Rattle.kdb_control.proofs.Steps.{run_on, or_other, ready_on, first_made}
 use Rattle.kdb_control.proofs.switching.switch_first.Goals as goal
 
 pub returns-in_err-fill_slot-clause-moments : goal.returns-in_err-fill_slot-clause-moments
@@ -47,3 +47,18 @@ returns-clause-ok g c tells =
     let last : in_force end ≡ Nothing = gate_closed 64 end (inr refl) shut.gate ∙ shut.rest ∙ nothing_without 64 mid (inr refl) still in
     on_ok_weaker c.open_slot.result (λ set. record { here = set.here; durable = set.durable; others = λ h ne. set.others h ne ∙ shut.others h ne ∙ filled.others h ne })
     (c.open_slot.ensures.ok tells None c.args.next.now (ready_on filled.ready shut) tt (nothing_without 0 end (inl refl) last) c.requires.turn)
+
+pub returns-clause-first : goal.returns-clause-first
+returns-clause-first g c tells =
+    let now = c.requires.now tells in
+    let rest = nothing_without 0 ((g.D.Disk.view c.args.disk.now).seen 0) (inl refl) now in
+    let filled = c.in_ok-fill_slot.ensures.ok tells in
+    let mid = (g.D.Disk.view c.fill_slot.new.disk).seen 0 in
+    let still : in_force mid ≡ Nothing = gate_closed 0 mid (inl refl) filled.ready.gate ∙ filled.rest ∙ rest in
+    let shut = c.in_ok-begin_slot.ensures.ok tells in
+    let end = (g.D.Disk.view c.begin_slot.new.disk).seen 0 in
+    let last : in_force end ≡ Nothing = gate_closed 64 end (inr refl) shut.gate ∙ shut.rest ∙ nothing_without 64 mid (inr refl) still in
+    first_made c.open_slot.result end ((g.D.Disk.view c.open_slot.new.disk).seen 0) c.args.next.now shut.gate (c.in_ok-begin_slot.ensures.begun tells)
+    (on_ok_weaker c.open_slot.result (λ set. set.here) (c.open_slot.ensures.ok tells None c.args.next.now (ready_on filled.ready shut) tt (nothing_without 0 end (inl refl) last) c.requires.turn))
+    (c.open_slot.ensures.rest tells 64 (omega arith))
+    (c.open_slot.ensures.length tells)

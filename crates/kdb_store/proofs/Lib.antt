@@ -1,0 +1,5 @@
+pub mod Ordered
+pub mod Finding
+pub mod Ranges
+pub mod Making
+mod Keys

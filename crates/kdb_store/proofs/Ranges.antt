@@ -1,0 +1,48 @@
+-- What the ranges of a choice of files say.
+use Rattle.std.proofs.Common.{◌≡◌, ℕ, ◌<◌, ◌≤◌, ◌-◌, ◌⊎◌, inl, inr, ⊎_elim, true, false, ◌||◌, ◌&&◌, refl, sym, ◌∙◌, ap, arith}
+use Rattle.std.specs.Prelude.{nat_eq, nat_lt}
+use Rattle.std.proofs.lemmas.Bool.{ltb-true, lt-ltb, and_parts, cases_eq, ne_eqb, false≢true}
+use Rattle.kdb_control.specs.Choice.{in_ranges}
+use Rattle.kdb_control.specs.Force.{turn_after}
+
+one_of_two : (n a b : ℕ) → (nat_eq n a || nat_eq n b) ≡ true → (n ≡ a) ⊎ (n ≡ b)
+one_of_two n a b is = ⊎_elim
+    (λ e. inl e)
+    (λ other. ⊎_elim (λ e. inr e) (λ neither. let none : (nat_eq n a || nat_eq n b) ≡ false = rw (ne_eqb n a other, ne_eqb n b neither) refl in absurd (false≢true (sym none ∙ is))) (cases_eq n b))
+    (cases_eq n a)
+
+image_one_of : (turn image log stash size block : ℕ) → in_ranges turn image log stash size block ≡ true → (image ≡ 1) ⊎ (image ≡ 2)
+unfolding in_ranges
+image_one_of turn image log stash size block is = one_of_two image 1 2 (and_parts _ _ (and_parts _ _ (and_parts _ _ (and_parts _ _ (and_parts _ _ is).0).0).0).0).1
+
+pub image_low : (turn image log stash size block : ℕ) → in_ranges turn image log stash size block ≡ true → 1 ≤ image
+image_low turn image log stash size block is = ⊎_elim (λ e. omega (arith, e)) (λ e. omega (arith, e)) (image_one_of turn image log stash size block is)
+
+pub image_high : (turn image log stash size block : ℕ) → in_ranges turn image log stash size block ≡ true → image ≤ 2
+image_high turn image log stash size block is = ⊎_elim (λ e. omega (arith, e)) (λ e. omega (arith, e)) (image_one_of turn image log stash size block is)
+
+pub block_low : (turn image log stash size block : ℕ) → in_ranges turn image log stash size block ≡ true → 2047 < block
+unfolding in_ranges
+block_low turn image log stash size block is = ltb-true _ _ (and_parts _ _ (and_parts _ _ is).1).0
+
+spare_in_range : (image : ℕ) → (image ≡ 1) ⊎ (image ≡ 2) → (nat_eq (3 - image) 1 || nat_eq (3 - image) 2) ≡ true
+spare_in_range image either = ⊎_elim (λ e. ap (λ (n : ℕ). nat_eq (3 - n) 1 || nat_eq (3 - n) 2) e) (λ e. ap (λ (n : ℕ). nat_eq (3 - n) 1 || nat_eq (3 - n) 2) e) either
+
+turn_in_range : (turn : ℕ) → nat_lt (turn_after turn) 3 ≡ true
+unfolding turn_after
+turn_in_range turn = lt-ltb _ _ (omega arith)
+
+-- the next turn, with the other image file
+pub next_in_ranges : (turn image log stash size block : ℕ) → in_ranges turn image log stash size block ≡ true → in_ranges (turn_after turn) (3 - image) log stash size block ≡ true
+unfolding in_ranges
+next_in_ranges turn image log stash size block is =
+    let p1 = and_parts _ _ is in
+    let p2 = and_parts _ _ p1.0 in
+    let p3 = and_parts _ _ p2.0 in
+    let p4 = and_parts _ _ p3.0 in
+    let p5 = and_parts _ _ p4.0 in
+    let log_is : (nat_eq log 3 || nat_eq log 4) ≡ true = p4.1 in
+    let stash_is : (nat_eq stash 0 || nat_eq stash 5 || nat_eq stash 6) ≡ true = p3.1 in
+    let size_is : (nat_lt 1 size && nat_lt size 10001) ≡ true = p2.1 in
+    let block_is : (nat_lt 2047 block && nat_lt block 10241) ≡ true = p1.1 in
+    rw (turn_in_range turn, spare_in_range image (one_of_two image 1 2 p5.1), log_is, stash_is, size_is, block_is) refl

@@ -1,0 +1,24 @@
+use Rattle.std.proofs.Common.{◌≡◌, ◌≢◌, ◌-◌, ◌∙◌, sym, ap, ℕ, arith}
+use Rattle.kdb_control.specs.Choice.{Choice, in_ranges}
+use Rattle.kdb_control.specs.Force.{turn_after}
+use Rattle.kdb_store.proofs.Ranges.{image_low, image_high, next_in_ranges}
+use Rattle.kdb_store.proofs.changing.next_control.Goals as goal
+
+pub overflow_sub-result : goal.overflow_sub-result
+overflow_sub-result c = let i = c.now.inside in omega (arith, image_high i.turn i.image i.log i.stash i.size i.block c.now.invariant)
+
+pub invariant_of-result : goal.invariant_of-result
+invariant_of-result c =
+    let i = c.now.inside in
+    let turn : c.turn_after.result ≡ turn_after i.turn = c.turn_after.ensures ∙ ap (λ (x : Choice). turn_after x.turn) (sym c.now.view_is) in
+    ap (λ (t : ℕ). in_ranges t (3 - i.image) i.log i.stash i.size i.block) turn ∙ next_in_ranges i.turn i.image i.log i.stash i.size i.block c.now.invariant
+
+pub returns-clause-spare : goal.returns-clause-spare
+returns-clause-spare c =
+    let i = c.now.inside in
+    let same : i.image ≡ c.args.now.now.image = ap (λ (x : Choice). x.image) c.now.view_is in
+    let low = image_low i.turn i.image i.log i.stash i.size i.block c.now.invariant in
+    let high = image_high i.turn i.image i.log i.stash i.size i.block c.now.invariant in
+    let apart : c.args.now.now.image ≢ 0 = λ e. absurd (omega (arith, low, same, e)) in
+    let other : c.args.now.now.image ≢ 3 - i.image = λ e. absurd (omega (arith, low, high, same, e)) in
+    (apart, other)

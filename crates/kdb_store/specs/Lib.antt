@@ -1,0 +1,9 @@
+pub mod Names
+pub mod Rows
+pub mod Orders
+pub mod Images
+pub mod Laws
+pub mod Places
+pub mod Steps
+pub mod Moments
+pub mod Stores

@@ -1,0 +1,63 @@
+//! A database over a disk that is lent to each call, for callers that cannot hand their disk over.
+ghost use Rattle.std.specs.Prelude.{◌≡◌, ◌≤◌, ◌<◌, ◌+◌, ◌-◌, length, IfOk, OnOk, OnErr, Ok, Err};
+ghost use Rattle.kdb_base.specs.Causes.{Rose};
+ghost use Rattle.kdb_base.specs.Moments.{micros};
+ghost use Rattle.kdb_disk.specs.View.{View};
+ghost use Rattle.kdb_disk.specs.Moments.{LeavesOnly};
+ghost use Rattle.kdb_store.specs.Places.{place_of, Holds};
+ghost use Rattle.kdb_store.specs.Steps.{committed, effect, entry_length, IsOp};
+ghost use Rattle.kdb_store.specs.Moments.{RecoversEither};
+
+use crate::changing::change;
+use crate::op::Op;
+use crate::opened::Opened;
+use kdb_base::{Halt, Point, Time};
+use kdb_disk::Disk;
+use std::alloc::Global;
+
+impl Opened {
+    /// The length of a block of the log, in bytes.
+    #[tactic(auto, unfolding(kdb_control::specs::Choice::in_ranges))]
+    pub fn block(&self) -> u32
+        ensures value { result ≡ self.now.control.block }
+        ensures least { 2048 ≤ result }
+        ensures most { result ≤ 10240 }
+    {
+        self.control.block
+    }
+
+    /// Does one change at a time, and gives its point. Memory is taken before the first device call.
+    ///
+    /// At each moment a crash leaves the place before the change or the one after it. After
+    /// `DiskFault` the disk is to be opened again.
+    pub fn commit<D: Disk>(
+        &mut self,
+        alloc: Global,
+        disk: &mut D,
+        op: Op,
+        time: Time,
+    ) -> Result<Point, Halt>
+        requires holds { D.tells → Holds self.old (D.view disk.old) }
+        requires op { IsOp op }
+        requires fits { entry_length op ≤ self.old.control.block - 1 }
+        requires room { length (effect op self.old.image.rows) ≤ 100000 }
+        requires serial { self.old.image.point.sno < 4294967295 }
+        requires time { micros self.old.image.point.time ≤ micros time }
+        ensures point { IfOk result (λ point. point ≡ (committed op time (place_of self.old)).point) }
+        ensures place { OnOk result (place_of self.new ≡ committed op time (place_of self.old)) }
+        ensures holds { D.tells → OnOk result (Holds self.new (D.view disk.new)) }
+        ensures moments { D.tells → LeavesOnly (D.view disk.old) (D.view disk.new) (RecoversEither (place_of self.old) (committed op time (place_of self.old))) }
+        ensures err { OnErr result (self.new ≡ self.old) }
+        ensures memory { result ≡ Err Halt.MemoryOut → disk.new ≡ disk.old }
+        ensures same { D.loans disk.new ≡ D.loans disk.old }
+        ensures later { D.faults disk.old ≤ D.faults disk.new }
+        ensures cause { result ≡ Err Halt.DiskFault → Rose (D.faults disk.old) (D.faults disk.new) }
+    {
+        let sno = self.image.point.sno + 1;
+        let point = Point { sno, time };
+        match change(alloc, disk, self, op, Point { sno, time }) {
+            Ok(()) => Ok(point),
+            Err(halt) => Err(halt),
+        }
+    }
+}
