@@ -2,8 +2,5 @@ pub mod Texts
 pub mod OneCommand
 pub mod Coming
 pub mod Turning
-pub mod Orders
-pub mod Reading
-pub mod Openings
-pub mod Lasting
 pub mod Running
+pub mod Making

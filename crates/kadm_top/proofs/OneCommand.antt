@@ -1,51 +1,52 @@
 -- How a run goes on over one command.
-use Rattle.std.proofs.Common.{◌≡◌, ℕ, List, ◌∷◌, Bool, ◌||◌, refl, ap, sym, subst, inl, inr}
+use Rattle.std.proofs.Common.{◌≡◌, ℕ, List, ◌∷◌, Bool, ◌||◌, refl, ap, sym, ◌∙◌, subst, inl, inr, ⊎_elim, arith}
 use Rattle.std.proofs.Math.Bool.{or_assoc}
-use Rattle.std.specs.Prelude.{Option, Some, None}
+use Rattle.std.specs.Prelude.{Option, Some, None, Ok, IfSome, suc}
+use Rattle.std.proofs.lemmas.Option.{same_Some}
 use Rattle.kdb_base.specs.Moment.{Moment}
-use Rattle.kdb_base.specs.declared.outcomes.Halt.{Halt}
-use Rattle.kdb_base.specs.declared.outcomes.Halt.TheVariants as disk
+use Rattle.kdb_base.specs.declared.outcomes.Refusal.TheVariants.{BadLine}
 use Rattle.kdb_ports.specs.Told.{after_told}
 use Rattle.kdb_ports.proofs.Told.{after_told-append}
 use Rattle.kdb_disk.specs.Files.{Files}
-use Rattle.kdb_base.specs.declared.outcomes.Refusal.TheVariants.{BadLine}
+use Rattle.kdb_disk.specs.View.{View}
+use Rattle.kdb_disk.specs.Moments.{LeavesOnly}
+use Rattle.kdb_disk.proofs.Runs.{at_end, weaken, started}
+use Rattle.kdb_store.specs.Places.{Place, Holds, place_in, place_of, recovers}
+use Rattle.kdb_store.specs.Moments.{RecoversEither}
+use Rattle.kdb_store.specs.declared.opened.Opened.{Opened}
 use Rattle.kadm_top.specs.declared.replies.Reply.{Reply}
 use Rattle.kadm_top.specs.declared.replies.Reply.TheVariants.{Refused}
-use Rattle.kadm_top.specs.declared.halts.SayHalt.{SayHalt}
-use Rattle.kadm_top.specs.declared.halts.SayHalt.TheVariants as say
-use Rattle.kadm_top.specs.declared.halts.AnswerHalt.{AnswerHalt}
-use Rattle.kadm_top.specs.Halts.{say_as_answer, disk_as_answer}
-use Rattle.kadm_top.specs.State.{State}
-use Rattle.kadm_top.specs.Image.{Shows}
 use Rattle.kadm_top.specs.Parts.{SaidPart}
 use Rattle.kadm_top.specs.Replies.{reply_text}
-use Rattle.kadm_top.specs.Steps.{Command, Decides, reply_to, state_after, moments_after, is_refusal, said, ending}
-use Rattle.kadm_top.specs.Stops.{Place, Stops, MayStop, StopsWithin, OnStopped}
+use Rattle.kadm_top.specs.Standing.{Stands, StandsEither, RecoversToOne}
+use Rattle.kadm_top.specs.Steps.{Command, Decides, reply_to, place_after, places_after, moments_after, is_refusal, said, ending}
+use Rattle.kadm_top.specs.Stops.{Stops, MayStop, StopsWithin, IsStopped}
+use Rattle.kadm_top.specs.Run.{among_places, AmongWithin}
 
 -- a line that is not of the grammar
-pub decides_nothing : (command : Command) (state : State) (moments : Option (ℕ → Moment)) → command ≡ None → Decides command state moments (Refused BadLine) state moments
-unfolding reply_to state_after
-decides_nothing command state moments is = subst (λ (c : Command). Decides c state moments (Refused BadLine) state moments) (sym is) (on moments)
+pub decides_nothing : (command : Command) (place : Place) (moments : Option (ℕ → Moment)) → command ≡ None → Decides command place moments (Refused BadLine) place moments
+unfolding reply_to place_after
+decides_nothing command place moments is = subst (λ (c : Command). Decides c place moments (Refused BadLine) place moments) (sym is) (on moments)
   where
-    on : (m : Option (ℕ → Moment)) → Decides None state m (Refused BadLine) state m
+    on : (m : Option (ℕ → Moment)) → Decides None place m (Refused BadLine) place m
     on None = refl
     on (Some told) = (refl, refl, refl)
 
-ending_step : (taken : Option (List ℕ)) (refused : Bool) (command : Command) (more : List Command) (told : ℕ → Moment) (before : State)
+ending_step : (taken : Option (List ℕ)) (refused : Bool) (command : Command) (more : List Command) (told : ℕ → Moment) (before : Place)
     → ending taken refused (Some (command ∷ more)) (Some told) before
-    ≡ ending (after_told taken (reply_text (reply_to command before (told 0)))) (refused || is_refusal (reply_to command before (told 0))) (Some more) (Some (moments_after command told)) (state_after command before (told 0))
+    ≡ ending (after_told taken (reply_text (reply_to command before (told 0)))) (refused || is_refusal (reply_to command before (told 0))) (Some more) (Some (moments_after command told)) (place_after command before (told 0))
 unfolding ending said
 ending_step taken refused command more told before =
     let reply = reply_to command before (told 0) in
-    let later = said more (moments_after command told) (state_after command before (told 0)) in
+    let later = said more (moments_after command told) (place_after command before (told 0)) in
     λ i. Some (record {
       out = sym (after_told-append taken (reply_text reply) later.bytes) i;
       refused = sym (or_assoc refused (is_refusal reply) later.refused) i;
-      state = later.state;
+      place = later.place;
     })
 
 -- what is answered to all is what is answered to the first, and then to the others
-pub ending_next : (taken taken' : Option (List ℕ)) (refused : Bool) (command : Command) (more : List Command) (moments moments' : Option (ℕ → Moment)) (before later : State) (reply : Reply)
+pub ending_next : (taken taken' : Option (List ℕ)) (refused : Bool) (command : Command) (more : List Command) (moments moments' : Option (ℕ → Moment)) (before later : Place) (reply : Reply)
     → Decides command before moments reply later moments' → taken' ≡ after_told taken (reply_text reply)
     → ending taken refused (Some (command ∷ more)) moments before ≡ ending taken' (refused || is_refusal reply) (Some more) moments' later
 unfolding ending
@@ -55,40 +56,123 @@ ending_next taken taken' refused command more (Some told) moments' before later 
     rw (said_it, decides.0, decides.1, decides.2) (ending_step taken refused command more told before)
 
 -- a run that stops in the others stops in all
-pub stops_within : (start : Files) (taken taken' : Option (List ℕ)) (command : Command) (more : List Command) (moments moments' : Option (ℕ → Moment)) (before later : State) (reply : Reply)
+pub stops_within : (taken taken' : Option (List ℕ)) (command : Command) (more : List Command) (moments moments' : Option (ℕ → Moment)) (before later : Place) (reply : Reply)
     → Decides command before moments reply later moments' → taken' ≡ after_told taken (reply_text reply)
-    → StopsWithin (Stops start taken' (Some more) moments' later) (Stops start taken (Some (command ∷ more)) moments before)
+    → StopsWithin (Stops taken' (Some more) moments' later) (Stops taken (Some (command ∷ more)) moments before)
 unfolding Stops MayStop
-stops_within start taken taken' command more None moments' before later reply decides said_it = λ out files h. tt
-stops_within start taken taken' command more (Some told) moments' before later reply decides said_it = λ out files h.
-    let h1 = subst (λ (t : Option (List ℕ)). Stops start t (Some more) moments' later out files) said_it h in
-    let h2 = subst (λ (m : Option (ℕ → Moment)). Stops start (after_told taken (reply_text reply)) (Some more) m later out files) decides.2 h1 in
-    let h3 = subst (λ (s : State). Stops start (after_told taken (reply_text reply)) (Some more) (Some (moments_after command told)) s out files) decides.1 h2 in
-    inr (subst (λ (r : Reply). Stops start (after_told taken (reply_text r)) (Some more) (Some (moments_after command told)) (state_after command before (told 0)) out files) decides.0 h3)
+stops_within taken taken' command more None moments' before later reply decides said_it = λ out one other h. tt
+stops_within taken taken' command more (Some told) moments' before later reply decides said_it = λ out one other h.
+    let h1 = subst (λ (t : Option (List ℕ)). Stops t (Some more) moments' later out one other) said_it h in
+    let h2 = subst (λ (m : Option (ℕ → Moment)). Stops (after_told taken (reply_text reply)) (Some more) m later out one other) decides.2 h1 in
+    let h3 = subst (λ (p : Place). Stops (after_told taken (reply_text reply)) (Some more) (Some (moments_after command told)) p out one other) decides.1 h2 in
+    inr (subst (λ (r : Reply). Stops (after_told taken (reply_text r)) (Some more) (Some (moments_after command told)) (place_after command before (told 0)) out one other) decides.0 h3)
+
+either_same : {place : Place} {now : View} → Stands (Ok place) now → StandsEither (Ok place) (Ok place) now
+either_same stands = record { each = λ c image. inl (stands.each c image) }
+
+-- a run that stands at a place
+pub stopped_at : (place : Place) (stage : Option (List ℕ) → Place → Place → Type 0) (out : Option (List ℕ)) (now : View) → stage out place place → Stands (Ok place) now → IsStopped stage out now
+stopped_at place stage out now may stands = record { one = place; other = place; may = may; stands = either_same stands }
 
 -- it may stop inside the first reply
-pub stops_inside : (start : Files) (taken out : Option (List ℕ)) (files : Files) (command : Command) (more : List Command) (moments moments' : Option (ℕ → Moment)) (before later : State) (reply : Reply)
-    → Decides command before moments reply later moments' → SaidPart (reply_text reply) taken out → Shows start files later
-    → Stops start taken (Some (command ∷ more)) moments before out files
+pub stops_inside : (taken out : Option (List ℕ)) (now : View) (command : Command) (more : List Command) (moments moments' : Option (ℕ → Moment)) (before later : Place) (reply : Reply)
+    → Decides command before moments reply later moments' → SaidPart (reply_text reply) taken out → Stands (Ok later) now
+    → IsStopped (Stops taken (Some (command ∷ more)) moments before) out now
 unfolding Stops MayStop
-stops_inside start taken out files command more None moments' before later reply decides part shows = tt
-stops_inside start taken out files command more (Some told) moments' before later reply decides part shows =
-    inl (inr (subst (λ (r : Reply). SaidPart (reply_text r) taken out) decides.0 part, subst (λ (s : State). Shows start files s) decides.1 shows))
+stops_inside taken out now command more moments moments' before later reply decides part stands =
+    stopped_at later (Stops taken (Some (command ∷ more)) moments before) out now (may moments decides) stands
+  where
+    may : (m : Option (ℕ → Moment)) → Decides command before m reply later moments' → Stops taken (Some (command ∷ more)) m before out later later
+    may None h = tt
+    may (Some told) h = inl (inr (subst (λ (r : Reply). SaidPart (reply_text r) taken out) h.0 part, h.1, h.1))
 
--- it may stop before the first
-pub stops_before : (start : Files) (taken : Option (List ℕ)) (files : Files) (command : Command) (more : List Command) (moments : Option (ℕ → Moment)) (before : State)
-    → Shows start files before → Stops start taken (Some (command ∷ more)) moments before taken files
+-- it may stop in the change of the first, or before it
+pub stops_changing : (taken : Option (List ℕ)) (now : View) (command : Command) (more : List Command) (moments : Option (ℕ → Moment)) (moment : Moment) (before : Place)
+    → ((told : ℕ → Moment) → moments ≡ Some told → told 0 ≡ moment)
+    → StandsEither (Ok before) (Ok (place_after command before moment)) now
+    → IsStopped (Stops taken (Some (command ∷ more)) moments before) taken now
 unfolding Stops MayStop
-stops_before start taken files command more None before shows = tt
-stops_before start taken files command more (Some told) before shows = inl (inl (refl, shows))
+stops_changing taken now command more moments moment before is stands =
+    record { one = before; other = place_after command before moment; may = may moments is; stands = stands }
+  where
+    may : (m : Option (ℕ → Moment)) → ((told : ℕ → Moment) → m ≡ Some told → told 0 ≡ moment) → Stops taken (Some (command ∷ more)) m before taken before (place_after command before moment)
+    may None h = tt
+    may (Some told) h = inl (inl (refl, refl, ap (place_after command before) (sym (h told refl))))
 
--- a reply that was not written whole
-pub stopped_saying : (halt : SayHalt) (result : AnswerHalt) (P : Place) (out : Option (List ℕ)) (files : Files) → result ≡ say_as_answer halt → P out files → OnStopped result P out files
-stopped_saying say.MemoryOut result P out files is p = subst (λ (h : AnswerHalt). OnStopped h P out files) (sym is) p
-stopped_saying say.WriteFault result P out files is p = subst (λ (h : AnswerHalt). OnStopped h P out files) (sym is) p
+-- ---- the places that a crash may leave
 
--- a command that was not done
-pub stopped_doing : (halt : Halt) (result : AnswerHalt) (P : Place) (out : Option (List ℕ)) (files before : Files) → result ≡ disk_as_answer halt
-    → P out before → (halt ≡ disk.MemoryOut → files ≡ before) → OnStopped result P out files
-stopped_doing disk.MemoryOut result P out files before is p same = subst (λ (h : AnswerHalt). OnStopped h P out files) (sym is) (subst (λ (f : Files). P out f) (sym (same refl)) p)
-stopped_doing disk.DiskFault result P out files before is p same = subst (λ (h : AnswerHalt). OnStopped h P out files) (sym is) (before, p)
+pub either_stands : {one other : Place} {old now : View} → LeavesOnly old now (RecoversEither one other) → StandsEither (Ok one) (Ok other) now
+either_stands run = record { each = λ c image. at_end run c image }
+
+pub holds_stands : {opened : Opened} {now : View} → Holds opened now → Stands (Ok (place_of opened)) now
+holds_stands holds = record { each = λ c image. ap place_in (holds.each c image) }
+
+here : (place : Place) (places : List Place) (c : Files) → recovers c ≡ Ok place → RecoversToOne (place ∷ places) c
+here place places c is = record { place = place; among = (0, omega arith, refl); is = is }
+
+further : (first : Place) (places : List Place) (c : Files) → RecoversToOne places c → RecoversToOne (first ∷ places) c
+further first places c one = record { place = one.place; among = (suc one.among.0, omega (arith, one.among.1), one.among.2); is = one.is }
+
+-- before the first command or after it
+pub among_first : (command : Command) (more : List Command) (moments : Option (ℕ → Moment)) (moment : Moment) (before : Place) (c : Files)
+    → ((told : ℕ → Moment) → moments ≡ Some told → told 0 ≡ moment)
+    → RecoversEither before (place_after command before moment) c → among_places (Some (command ∷ more)) moments before c
+unfolding places_after
+among_first command more None moment before c is either = tt
+among_first command more (Some told) moment before c is either =
+    let rest = places_after more (moments_after command told) (place_after command before (told 0)) in
+    let later = place_after command before (told 0) in
+    ⊎_elim
+    (λ e. here before (later ∷ rest) c e)
+    (λ e. further before (later ∷ rest) c (here later rest c (subst (λ (m : Moment). recovers c ≡ Ok (place_after command before m)) (sym (is told refl)) e)))
+    either
+
+-- where it is
+pub among_here : (commands : Option (List Command)) (moments : Option (ℕ → Moment)) (before : Place) (c : Files) → recovers c ≡ Ok before → among_places commands moments before c
+among_here None moments before c is = tt
+among_here (Some commands) None before c is = tt
+among_here (Some commands) (Some told) before c is = here before (places_after commands told before) c is
+
+-- a place of the others is a place of all
+pub among_within : (command : Command) (more : List Command) (moments moments' : Option (ℕ → Moment)) (before later : Place) (reply : Reply)
+    → Decides command before moments reply later moments'
+    → AmongWithin (among_places (Some more) moments' later) (among_places (Some (command ∷ more)) moments before)
+unfolding places_after
+among_within command more None moments' before later reply decides = λ c h. tt
+among_within command more (Some told) moments' before later reply decides = λ c h.
+    let h1 = subst (λ (m : Option (ℕ → Moment)). among_places (Some more) m later c) decides.2 h in
+    let h2 = subst (λ (p : Place). among_places (Some more) (Some (moments_after command told)) p c) decides.1 h1 in
+    further before (place_after command before (told 0) ∷ places_after more (moments_after command told) (place_after command before (told 0))) c h2
+
+-- ---- a command that was begun
+
+-- the moment that was read is the next one, where they are told
+first_moment : (moments : Option (ℕ → Moment)) (moment : Moment) → IfSome moments (λ f. moment ≡ f 0) → (told : ℕ → Moment) → moments ≡ Some told → told 0 ≡ moment
+first_moment None moment first told is = absurd cc
+first_moment (Some f) moment first told is = sym (first ∙ ap (λ (m : ℕ → Moment). m 0) (same_Some f told is))
+
+pub among_run : {old now : View} (command : Command) (name : List ℕ) (more : List Command) (moments : Option (ℕ → Moment)) (moment : Moment) (before : Place)
+    → command ≡ Some name → IfSome moments (λ f. moment ≡ f 0)
+    → LeavesOnly old now (RecoversEither before (place_after (Some name) before moment))
+    → LeavesOnly old now (among_places (Some (command ∷ more)) moments before)
+among_run command name more moments moment before is first run =
+    weaken run (λ c either. subst (λ (k : Command). among_places (Some (k ∷ more)) moments before c) (sym is)
+    (among_first (Some name) more moments moment before c (first_moment moments moment first) either))
+
+pub stops_run : {old now : View} (taken : Option (List ℕ)) (command : Command) (name : List ℕ) (more : List Command) (moments : Option (ℕ → Moment)) (moment : Moment) (before : Place)
+    → command ≡ Some name → IfSome moments (λ f. moment ≡ f 0)
+    → LeavesOnly old now (RecoversEither before (place_after (Some name) before moment))
+    → IsStopped (Stops taken (Some (command ∷ more)) moments before) taken now
+stops_run {now = now} taken command name more moments moment before is first run =
+    subst (λ (k : Command). IsStopped (Stops taken (Some (k ∷ more)) moments before) taken now) (sym is)
+    (stops_changing taken now (Some name) more moments moment before (first_moment moments moment first) (either_stands run))
+
+-- nothing was done
+pub among_still : {opened : Opened} (now : View) (commands : Option (List Command)) (moments : Option (ℕ → Moment)) → Holds opened now
+    → LeavesOnly now now (among_places commands moments (place_of opened))
+among_still {opened} now commands moments holds =
+    started now (among_places commands moments (place_of opened)) (λ c image. among_here commands moments (place_of opened) c (ap place_in (holds.each c image)))
+
+-- a run that was stopped where it may be from there
+pub stopped_within : {here there : Option (List ℕ) → Place → Place → Type 0} (out : Option (List ℕ)) (now : View) → StopsWithin here there → IsStopped here out now → IsStopped there out now
+stopped_within out now within stopped = record { one = stopped.one; other = stopped.other; may = within out stopped.one stopped.other stopped.may; stands = stopped.stands }

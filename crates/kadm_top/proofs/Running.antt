@@ -1,30 +1,33 @@
 -- From a session to a whole run.
-use Rattle.std.proofs.Common.{◌≡◌, ℕ, ◌+◌, List, [], ◌∷◌, length, get_or, refl, ap, sym, ◌∙◌, subst, Bool, true, false, IsTrue, arith, add-zero, ◌≢◌, ◌↔◌, if◌then◌else◌}
-use Rattle.std.specs.Prelude.{Option, Some, None, option_map, map}
+use Rattle.std.proofs.Common.{◌≡◌, ℕ, ◌+◌, List, [], length, refl, ap, sym, ◌∙◌, subst, Bool, true, false, IsTrue, arith, add-zero}
+use Rattle.std.specs.Prelude.{Option, Some, None, Result, Ok, Err, IfOk, OnErr, option_map}
 use Rattle.std.proofs.lemmas.Option.{same_Some}
 use Rattle.kdb_base.specs.Moment.{Moment}
 use Rattle.kdb_base.specs.declared.outcomes.Refusal.{Refusal}
-use Rattle.kdb_base.specs.declared.outcomes.Refusal.TheVariants.{BadLine, BadName, Duplicate, UnknownPrincipal, Protected, PassTooShort, PassClasses, BadValue, NotADatabase, AlreadyThere, Damaged, TimeEnd, LineTooLong, RowsFull}
-use Rattle.kdb_base.specs.declared.outcomes.Halt.{Halt}
-use Rattle.kdb_base.specs.declared.outcomes.Halt.TheVariants as disk
+use Rattle.kdb_base.specs.declared.outcomes.Refusal.TheVariants.{NotADatabase}
 use Rattle.kdb_base.specs.declared.outcomes.Status.{Status}
-use Rattle.kdb_base.specs.declared.outcomes.Status.TheVariants as status
 use Rattle.kdb_ports.specs.Told.{after_told}
-use Rattle.kdb_disk.specs.Files.{Files, with_file}
+use Rattle.kdb_ports.proofs.Told.{after_told-nil}
+use Rattle.kdb_disk.specs.Files.{Files}
+use Rattle.kdb_disk.specs.View.{View}
+use Rattle.kdb_disk.specs.Moments.{Keeps, LeavesOnly}
+use Rattle.kdb_disk.proofs.Runs.{at_end, weaken, kept_first}
+use Rattle.kdb_store.specs.Places.{Place, Holds, found_in, place_in, place_of, recovers}
+use Rattle.kdb_store.specs.Moments.{HasNone, IsLike, RecoversToNone}
+use Rattle.kdb_store.specs.declared.opened.Opened.{Opened}
 use Rattle.kadm_lines.specs.Lines.{lines_from}
 use Rattle.kadm_lines.specs.Reader.{ReaderState, to_come}
-use Rattle.kadm_top.specs.declared.halts.SayHalt.{SayHalt}
-use Rattle.kadm_top.specs.declared.halts.SayHalt.TheVariants as say
 use Rattle.kadm_top.specs.declared.halts.SessionHalt.{SessionHalt}
 use Rattle.kadm_top.specs.declared.halts.SessionHalt.TheVariants as session
-use Rattle.kadm_top.specs.Halts.{say_as_session, disk_as_session, status_of}
-use Rattle.kadm_top.specs.State.{State}
-use Rattle.kadm_top.specs.Image.{Shows, image_of}
+use Rattle.kadm_top.specs.Halts.{status_after}
 use Rattle.kadm_top.specs.Parts.{SaidPart}
-use Rattle.kadm_top.specs.Steps.{Command, Ending, EndsAs}
-use Rattle.kadm_top.specs.Stops.{Place, OnSessionStopped}
+use Rattle.kadm_top.specs.Standing.{Stands}
+use Rattle.kadm_top.specs.Steps.{Command, Ending, EndsAs, ending}
+use Rattle.kadm_top.specs.Stops.{Stops, IsStopped}
 use Rattle.kadm_top.specs.Intake.{coming, HasTaken}
-use Rattle.kadm_top.specs.Run.{Opening, Opens, Refuses, OpensAs, IsOpening, OnEnd, OnStop, admin_words, RunEnd, RunEndsAs, RunStops, IsShortInput, WereTaken, end_of, input_commands, refusal_line, run_end}
+use Rattle.kadm_top.specs.Run.{Opening, Opens, Refuses, RunEnd, RunEndsAs, RunStops, RunLeaves, IsShortInput, WereTaken, OnEnd, OnStop, admin_of, among_places, behind_opening, end_of, input_commands, refusal_line, run_end}
+use Rattle.kadm_top.proofs.OneCommand.{among_here}
+use Rattle.kadm_top.proofs.Turning.{stops_here}
 
 -- a reader at the front of an input
 abbrev pub fresh : ReaderState
@@ -59,108 +62,125 @@ pub were_taken : (n : ℕ) (told left : Option (List ℕ)) (reader : ReaderState
 were_taken n told left reader takes is = takes.count ∙ ap (λ (k : ℕ). option_map (λ (ys : List ℕ). length ys + k) left) is
 
 -- a run over a database ended
-pub run_ended : (start files : Files) (taken : Option (List ℕ)) (refused : Bool) (state : State) (o : Option Ending) (end : RunEnd)
-    → option_map (end_of start) o ≡ Some end → ((e : Ending) → o ≡ Some e → EndsAs taken refused state e) → Shows start files state → RunEndsAs taken files refused end
-run_ended start files taken refused state None end e ends shows = absurd cc
-run_ended start files taken refused state (Some o) end e ends shows =
-    let opens = ends o refl in
-    subst (λ (x : RunEnd). RunEndsAs taken files refused x) (same_Some _ _ e)
-    (record { out_is = opens.out; files_are = shows ∙ ap (λ (s : State). with_file 1 (image_of s) start) opens.state_is; refused_is = opens.refused_is })
+pub run_ended : {opened : Opened} (taken : Option (List ℕ)) (refused : Bool) (now : View) (end : Ending)
+    → EndsAs taken refused (place_of opened) end → Holds opened now → RunEndsAs taken refused now (end_of end)
+run_ended {opened} taken refused now end ends holds = record {
+  out_is = ends.out;
+  refused_is = ends.refused_is;
+  stands = record { each = λ c image. ap place_in (holds.each c image) ∙ ap Ok ends.place_is };
+}
 
--- a run that was refused at its opening
-pub refusal_ended : (opening : Opening) (refusal : Refusal) (start files : Files) (taken out : Option (List ℕ)) (commands : Option (List Command)) (moments : Option (ℕ → Moment)) (end : RunEnd)
-    → opening ≡ Refuses refusal → run_end opening start taken commands moments ≡ Some end → out ≡ after_told taken (refusal_line refusal) → files ≡ start → RunEndsAs out files true end
-refusal_ended opening refusal start files taken out commands moments end is e said_it same =
-    subst (λ (x : RunEnd). RunEndsAs out files true x) (same_Some _ _ (sym (ap (λ (o : Opening). run_end o start taken commands moments) is) ∙ e))
-    (record { out_is = said_it; files_are = same; refused_is = refl })
+-- ---- what a crash leaves, from what it left at first
 
--- a refusal that was not written whole
-pub refusal_stopped : (opening : Opening) (refusal : Refusal) (start files : Files) (taken out : Option (List ℕ)) (commands : Option (List Command)) (moments : Option (ℕ → Moment)) (halt : SayHalt) (result : SessionHalt)
-    → opening ≡ Refuses refusal → result ≡ say_as_session halt → SaidPart (refusal_line refusal) taken out → files ≡ start
-    → OnSessionStopped result (RunStops opening start taken commands moments) out files
-refusal_stopped opening refusal start files taken out commands moments say.MemoryOut result is from part same =
-    subst (λ (r : SessionHalt). OnSessionStopped r (RunStops opening start taken commands moments) out files) (sym from)
-    (subst (λ (o : Opening). RunStops o start taken commands moments out files) (sym is) (part, same))
-refusal_stopped opening refusal start files taken out commands moments say.WriteFault result is from part same =
-    subst (λ (r : SessionHalt). OnSessionStopped r (RunStops opening start taken commands moments) out files) (sym from)
-    (subst (λ (o : Opening). RunStops o start taken commands moments out files) (sym is) (part, same))
+pub keeps_stands : {found : Result Place Refusal} {old now : View} → Stands found old → Keeps old now → Stands found now
+keeps_stands stands keeps = record { each = λ c image. stands.each c (at_end keeps.leaves c image) }
 
--- a run whose database was not read
-pub stopped_opening : (halt : Halt) (result : SessionHalt) (P : Place) (out : Option (List ℕ)) (files before : Files) → result ≡ disk_as_session halt → P out before → files ≡ before → OnSessionStopped result P out files
-stopped_opening disk.MemoryOut result P out files before is p same = subst (λ (r : SessionHalt). OnSessionStopped r P out files) (sym is) (subst (λ (f : Files). P out f) (sym same) p)
-stopped_opening disk.DiskFault result P out files before is p same = subst (λ (r : SessionHalt). OnSessionStopped r P out files) (sym is) (before, p)
+-- what is like an image of before recovers to the same
+pub like_stands : {found : Result Place Refusal} {old : View} (c : Files) → Stands found old → IsLike old c → recovers c ≡ found
+like_stands c stands like = ap place_in like.same ∙ stands.each like.before like.was
 
--- a list of one
-pub one_item : {A : Type 0} (f : A → List ℕ) (xs : List A) (x d : A) → length xs ≡ 1 → x ≡ get_or xs 0 d → map f xs ≡ f x ∷ []
-one_item f [] x d len is = absurd cc
-one_item f (y ∷ []) x d len is = ap (λ z. f z ∷ []) (sym is)
-one_item f (y ∷ (z ∷ zs)) x d len is = absurd (omega (arith, len))
+pub none_recovers : (c : Files) → HasNone c → recovers c ≡ Err NotADatabase
+none_recovers c none = ap place_in none
 
-pub one_word : (word target : List ℕ) (words : List (List ℕ)) (b : Bool) → words ≡ word ∷ [] → (IsTrue b ↔ (word ≡ target)) → IsTrue b ↔ (words ≡ target ∷ [])
-one_word word target words b is same = (
-  (λ yes. is ∙ ap (λ (w : List ℕ). w ∷ []) (same.0 yes)),
-  (λ all. same.1 (ap (λ (ws : List (List ℕ)). get_or ws 0 word) (sym is ∙ all))),
-)
+pub none_stands : {now : View} → RecoversToNone now → Stands (Err NotADatabase) now
+none_stands none = record { each = λ c image. none_recovers c (none.each c image) }
 
 -- ---- the status
 
 -- a run that went through
-pub on_end : (s : Status) (refused : Bool) (P : Bool → Type 0) → s ≡ (if refused then status.Refused else status.Done) → P refused → OnEnd s P
-on_end s true P is p = subst (λ (x : Status). OnEnd x P) (sym is) p
-on_end s false P is p = subst (λ (x : Status). OnEnd x P) (sym is) p
+pub on_end : (s : Status) (r : Result Bool SessionHalt) (P : Bool → Type 0) → s ≡ status_after r → IfOk r P → OnEnd s P
+on_end s (Ok true) P is p = subst (λ (x : Status). OnEnd x P) (sym is) p
+on_end s (Ok false) P is p = subst (λ (x : Status). OnEnd x P) (sym is) p
+on_end s (Err session.MemoryOut) P is p = subst (λ (x : Status). OnEnd x P) (sym is) tt
+on_end s (Err session.ReadFault) P is p = subst (λ (x : Status). OnEnd x P) (sym is) tt
+on_end s (Err session.WriteFault) P is p = subst (λ (x : Status). OnEnd x P) (sym is) tt
+on_end s (Err session.DiskFault) P is p = subst (λ (x : Status). OnEnd x P) (sym is) tt
+on_end s (Err session.InputTooLong) P is p = subst (λ (x : Status). OnEnd x P) (sym is) tt
 
 -- a run that was stopped
-pub on_stop : (s : Status) (halt : SessionHalt) (P : Place) (out : Option (List ℕ)) (files : Files) → s ≡ status_of halt → OnSessionStopped halt P out files → OnStop s P out files
-on_stop s session.MemoryOut P out files is p = subst (λ (x : Status). OnStop x P out files) (sym is) p
-on_stop s session.ReadFault P out files is p = subst (λ (x : Status). OnStop x P out files) (sym is) p
-on_stop s session.WriteFault P out files is p = subst (λ (x : Status). OnStop x P out files) (sym is) p
-on_stop s session.DiskFault P out files is p = subst (λ (x : Status). OnStop x P out files) (sym is) p
-on_stop s session.InputTooLong P out files is p = subst (λ (x : Status). OnStop x P out files) (sym is) p
+pub on_stop : (s : Status) (r : Result Bool SessionHalt) (P : Type 0) → s ≡ status_after r → OnErr r P → OnStop s P
+on_stop s (Ok true) P is p = subst (λ (x : Status). OnStop x P) (sym is) tt
+on_stop s (Ok false) P is p = subst (λ (x : Status). OnStop x P) (sym is) tt
+on_stop s (Err session.MemoryOut) P is p = subst (λ (x : Status). OnStop x P) (sym is) p
+on_stop s (Err session.ReadFault) P is p = subst (λ (x : Status). OnStop x P) (sym is) p
+on_stop s (Err session.WriteFault) P is p = subst (λ (x : Status). OnStop x P) (sym is) p
+on_stop s (Err session.DiskFault) P is p = subst (λ (x : Status). OnStop x P) (sym is) p
+on_stop s (Err session.InputTooLong) P is p = subst (λ (x : Status). OnStop x P) (sym is) p
 
--- what isn't said of the other kind
-pub no_end : (s : Status) (halt : SessionHalt) (P : Bool → Type 0) → s ≡ status_of halt → OnEnd s P
-no_end s session.MemoryOut P is = subst (λ (x : Status). OnEnd x P) (sym is) tt
-no_end s session.ReadFault P is = subst (λ (x : Status). OnEnd x P) (sym is) tt
-no_end s session.WriteFault P is = subst (λ (x : Status). OnEnd x P) (sym is) tt
-no_end s session.DiskFault P is = subst (λ (x : Status). OnEnd x P) (sym is) tt
-no_end s session.InputTooLong P is = subst (λ (x : Status). OnEnd x P) (sym is) tt
+-- ---- a refusal of the opening
 
-pub no_stop : (s : Status) (refused : Bool) (P : Place) (out : Option (List ℕ)) (files : Files) → s ≡ (if refused then status.Refused else status.Done) → OnStop s P out files
-no_stop s true P out files is = subst (λ (x : Status). OnStop x P out files) (sym is) tt
-no_stop s false P out files is = subst (λ (x : Status). OnStop x P out files) (sym is) tt
+pub refused_ended : (opening : Opening) (refusal : Refusal) (found : Result Place Refusal) (taken out : Option (List ℕ)) (commands : Option (List Command)) (moments : Option (ℕ → Moment)) (now : View) (end : RunEnd)
+    → opening ≡ Refuses refusal → run_end opening found taken commands moments ≡ Some end → out ≡ after_told taken (refusal_line refusal) → Stands found now → RunEndsAs out true now end
+refused_ended opening refusal found taken out commands moments now end is e said_it stands =
+    subst (λ (x : RunEnd). RunEndsAs out true now x) (same_Some _ _ (sym (ap (λ (o : Opening). run_end o found taken commands moments) is) ∙ e))
+    (record { out_is = said_it; refused_is = refl; stands = stands })
 
--- ---- the words
+pub refused_stops : (opening : Opening) (refusal : Refusal) (found : Result Place Refusal) (taken out : Option (List ℕ)) (commands : Option (List Command)) (moments : Option (ℕ → Moment)) (now : View)
+    → opening ≡ Refuses refusal → SaidPart (refusal_line refusal) taken out → Stands found now → RunStops opening found taken commands moments out now
+refused_stops opening refusal found taken out commands moments now is part stands =
+    subst (λ (o : Opening). RunStops o found taken commands moments out now) (sym is) (part, stands)
 
-pub right_words : (words : List (List ℕ)) (bytes : List ℕ) (opening : Opening) → IsOpening words bytes opening → words ≡ admin_words → OpensAs bytes opening
-right_words words bytes (Opens state) is right = is.1
-right_words words bytes (Refuses (Damaged file place)) is right = is.1
-right_words words bytes (Refuses Duplicate) is right = is.1
-right_words words bytes (Refuses (RowsFull limit)) is right = is.1
-right_words words bytes (Refuses (BadName offset)) is right = is.1
-right_words words bytes (Refuses UnknownPrincipal) is right = is.1
-right_words words bytes (Refuses Protected) is right = is.1
-right_words words bytes (Refuses PassTooShort) is right = is.1
-right_words words bytes (Refuses PassClasses) is right = is.1
-right_words words bytes (Refuses (BadValue field)) is right = is.1
-right_words words bytes (Refuses NotADatabase) is right = is.1
-right_words words bytes (Refuses AlreadyThere) is right = is.1
-right_words words bytes (Refuses TimeEnd) is right = is.1
-right_words words bytes (Refuses LineTooLong) is right = is.1
-right_words words bytes (Refuses BadLine) is right = absurd (is right)
+pub refused_leaves : {old now : View} (opening : Opening) (refusal : Refusal) (found : Result Place Refusal) (commands : Option (List Command)) (moments : Option (ℕ → Moment))
+    → opening ≡ Refuses refusal → Stands found old → Keeps old now → LeavesOnly old now (RunLeaves opening found commands moments)
+refused_leaves opening refusal found commands moments is stands keeps =
+    weaken keeps.leaves (λ c image. subst (λ (o : Opening). RunLeaves o found commands moments c) (sym is) (stands.each c image))
 
-pub wrong_words : (words : List (List ℕ)) (bytes : List ℕ) (opening : Opening) → IsOpening words bytes opening → words ≢ admin_words → opening ≡ Refuses BadLine
-wrong_words words bytes (Opens state) is wrong = absurd (wrong is.0)
-wrong_words words bytes (Refuses (Damaged file place)) is wrong = absurd (wrong is.0)
-wrong_words words bytes (Refuses Duplicate) is wrong = absurd (wrong is.0)
-wrong_words words bytes (Refuses (RowsFull limit)) is wrong = absurd (wrong is.0)
-wrong_words words bytes (Refuses (BadName offset)) is wrong = absurd (wrong is.0)
-wrong_words words bytes (Refuses UnknownPrincipal) is wrong = absurd (wrong is.0)
-wrong_words words bytes (Refuses Protected) is wrong = absurd (wrong is.0)
-wrong_words words bytes (Refuses PassTooShort) is wrong = absurd (wrong is.0)
-wrong_words words bytes (Refuses PassClasses) is wrong = absurd (wrong is.0)
-wrong_words words bytes (Refuses (BadValue field)) is wrong = absurd (wrong is.0)
-wrong_words words bytes (Refuses NotADatabase) is wrong = absurd (wrong is.0)
-wrong_words words bytes (Refuses AlreadyThere) is wrong = absurd (wrong is.0)
-wrong_words words bytes (Refuses TimeEnd) is wrong = absurd (wrong is.0)
-wrong_words words bytes (Refuses LineTooLong) is wrong = absurd (wrong is.0)
-wrong_words words bytes (Refuses BadLine) is wrong = refl
+-- nothing was written yet
+pub refused_at_once : (opening : Opening) (refusal : Refusal) (found : Result Place Refusal) (taken : Option (List ℕ)) (commands : Option (List Command)) (moments : Option (ℕ → Moment)) (now : View)
+    → opening ≡ Refuses refusal → Stands found now → RunStops opening found taken commands moments taken now
+refused_at_once opening refusal found taken commands moments now is stands =
+    refused_stops opening refusal found taken taken commands moments now is (record { count = 0; part = sym (after_told-nil taken) }) stands
+
+-- ---- an opening for the input
+
+pub opens_as : (seen : Files) (opened : Opened) → found_in seen ≡ Ok opened → admin_of (recovers seen) ≡ Opens (place_of opened)
+opens_as seen opened is = ap (λ (r : Result Opened Refusal). admin_of (place_in r)) is
+
+pub opens_not : (seen : Files) (refusal : Refusal) → found_in seen ≡ Err refusal → admin_of (recovers seen) ≡ Refuses refusal
+opens_not seen refusal is = ap (λ (r : Result Opened Refusal). admin_of (place_in r)) is
+
+pub opened_ended : (opening : Opening) (place : Place) (found : Result Place Refusal) (taken out : Option (List ℕ)) (refused : Bool) (commands : Option (List Command)) (moments later : Option (ℕ → Moment)) (now : View) (end : RunEnd)
+    → opening ≡ Opens place → later ≡ behind_opening moments → run_end opening found taken commands moments ≡ Some end
+    → ((e : Ending) → ending taken false commands later place ≡ Some e → RunEndsAs out refused now (end_of e)) → RunEndsAs out refused now end
+opened_ended opening place found taken out refused commands moments later now end is next e ends =
+    by (ending taken false commands later place) ends
+    (ap (λ (m : Option (ℕ → Moment)). option_map end_of (ending taken false commands m place)) next ∙ sym (ap (λ (o : Opening). run_end o found taken commands moments) is) ∙ e)
+  where
+    by : (o : Option Ending) → ((x : Ending) → o ≡ Some x → RunEndsAs out refused now (end_of x)) → option_map end_of o ≡ Some end → RunEndsAs out refused now end
+    by None f e = absurd cc
+    by (Some x) f e = subst (λ (y : RunEnd). RunEndsAs out refused now y) (same_Some _ _ e) (f x refl)
+
+pub opened_stops : (opening : Opening) (place : Place) (found : Result Place Refusal) (taken out : Option (List ℕ)) (commands : Option (List Command)) (moments later : Option (ℕ → Moment)) (now : View)
+    → opening ≡ Opens place → later ≡ behind_opening moments → IsStopped (Stops taken commands later place) out now → RunStops opening found taken commands moments out now
+opened_stops opening place found taken out commands moments later now is next stopped =
+    subst (λ (o : Opening). RunStops o found taken commands moments out now) (sym is)
+    (subst (λ (m : Option (ℕ → Moment)). IsStopped (Stops taken commands m place) out now) next stopped)
+
+-- what a crash leaves before the database is opened
+pub found_leaves : (seen c : Files) (found : Result Place Refusal) (commands : Option (List Command)) (moments : Option (ℕ → Moment))
+    → recovers seen ≡ found → recovers c ≡ found → RunLeaves (admin_of (recovers seen)) found commands moments c
+found_leaves seen c found commands moments is here = subst (λ (r : Result Place Refusal). RunLeaves (admin_of r) found commands moments c) (sym is) (by found here)
+  where
+    by : (r : Result Place Refusal) → recovers c ≡ r → RunLeaves (admin_of r) r commands moments c
+    by (Ok place) h = among_here commands (behind_opening moments) place c h
+    by (Err refusal) h = h
+
+pub opened_leaves : {old mid now : View} (opening : Opening) (place : Place) (found : Result Place Refusal) (commands : Option (List Command)) (moments later : Option (ℕ → Moment))
+    → opening ≡ Opens place → later ≡ behind_opening moments → Keeps old mid → ((c : Files) → old.images c → RunLeaves opening found commands moments c)
+    → LeavesOnly mid now (among_places commands later place) → LeavesOnly old now (RunLeaves opening found commands moments)
+opened_leaves opening place found commands moments later is next keeps here run =
+    kept_first keeps
+    (weaken run (λ c h. subst (λ (o : Opening). RunLeaves o found commands moments c) (sym is) (subst (λ (m : Option (ℕ → Moment)). among_places commands m place c) next h)))
+    here
+
+-- a run whose database was not opened
+pub unopened_stops : (seen : Files) (found : Result Place Refusal) (taken : Option (List ℕ)) (commands : Option (List Command)) (moments : Option (ℕ → Moment)) (now : View)
+    → recovers seen ≡ found → Stands found now → RunStops (admin_of (recovers seen)) found taken commands moments taken now
+unopened_stops seen found taken commands moments now is stands = subst (λ (r : Result Place Refusal). RunStops (admin_of r) found taken commands moments taken now) (sym is) (by found stands)
+  where
+    by : (r : Result Place Refusal) → Stands r now → RunStops (admin_of r) r taken commands moments taken now
+    by (Ok place) s = stops_here taken commands (behind_opening moments) place now s
+    by (Err refusal) s = (record { count = 0; part = sym (after_told-nil taken) }, s)
+
+pub opened_stands : {opened : Opened} {place : Place} {now : View} → Holds opened now → place_of opened ≡ place → Stands (Ok place) now
+opened_stands holds is = record { each = λ c image. ap place_in (holds.each c image) ∙ ap Ok is }

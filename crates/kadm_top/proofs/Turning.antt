@@ -6,23 +6,21 @@ use Rattle.kdb_ports.proofs.Told.{after_told-nil}
 use Rattle.std.specs.Prelude.{Option, Some, None, Result, Ok, IfOk}
 use Rattle.kadm_top.specs.Turns.{GoesOn}
 use Rattle.kdb_base.specs.Moment.{Moment}
-use Rattle.kdb_disk.specs.Files.{Files}
-use Rattle.kadm_top.specs.declared.halts.ReadHalt.{ReadHalt}
-use Rattle.kadm_top.specs.declared.halts.ReadHalt.TheVariants as read
-use Rattle.kadm_top.specs.declared.halts.AnswerHalt.{AnswerHalt}
-use Rattle.kadm_top.specs.declared.halts.AnswerHalt.TheVariants as answer
-use Rattle.kadm_top.specs.declared.halts.SessionHalt.{SessionHalt}
-use Rattle.kadm_top.specs.Halts.{answer_as_session, read_as_session}
-use Rattle.kadm_top.specs.State.{State}
-use Rattle.kadm_top.specs.Image.{Shows}
-use Rattle.kadm_top.specs.Steps.{Command, Ending, EndsAs, Said, said, end_with, ending}
-use Rattle.kadm_top.specs.Stops.{Stops, MayStop, StopsWithin, OnStopped, OnSessionStopped}
+use Rattle.kdb_disk.specs.View.{View}
+use Rattle.kdb_disk.specs.Moments.{LeavesOnly}
+use Rattle.kdb_disk.proofs.Runs.{weaken}
+use Rattle.kdb_store.specs.Places.{Place}
+use Rattle.kadm_top.specs.Standing.{Stands}
+use Rattle.kadm_top.specs.Steps.{Command, Ending, EndsAs, Said, said, end_with, ending, place_after}
+use Rattle.kadm_top.specs.Stops.{Stops, MayStop, StopsWithin, IsStopped}
+use Rattle.kadm_top.specs.Run.{among_places, AmongWithin}
 use Rattle.kadm_top.specs.declared.intake.Next.{Next}
 use Rattle.kadm_top.specs.declared.intake.Next.TheVariants as next
 use Rattle.kadm_top.specs.Intake.{Comes, NoCommand, before_commands}
+use Rattle.kadm_top.proofs.OneCommand.{stopped_at}
 
 -- the ending over all is the ending over the others, where the commands are told or not
-pub ending_on : (command : Command) (old new : Option (List Command)) (taken taken' : Option (List ℕ)) (refused refused' : Bool) (moments moments' : Option (ℕ → Moment)) (before later : State)
+pub ending_on : (command : Command) (old new : Option (List Command)) (taken taken' : Option (List ℕ)) (refused refused' : Bool) (moments moments' : Option (ℕ → Moment)) (before later : Place)
     → old ≡ before_commands command new
     → ((more : List Command) → ending taken refused (Some (command ∷ more)) moments before ≡ ending taken' refused' (Some more) moments' later)
     → ending taken refused old moments before ≡ ending taken' refused' new moments' later
@@ -33,70 +31,80 @@ ending_on command old (Some more) taken taken' refused refused' moments moments'
     ap (λ (o : Option (List Command)). ending taken refused o moments before) is ∙ step more
 
 -- the same of the places to stop
-pub within_on : (start : Files) (command : Command) (old new : Option (List Command)) (taken taken' : Option (List ℕ)) (moments moments' : Option (ℕ → Moment)) (before later : State)
+pub within_on : (command : Command) (old new : Option (List Command)) (taken taken' : Option (List ℕ)) (moments moments' : Option (ℕ → Moment)) (before later : Place)
     → old ≡ before_commands command new
-    → ((more : List Command) → StopsWithin (Stops start taken' (Some more) moments' later) (Stops start taken (Some (command ∷ more)) moments before))
-    → StopsWithin (Stops start taken' new moments' later) (Stops start taken old moments before)
+    → ((more : List Command) → StopsWithin (Stops taken' (Some more) moments' later) (Stops taken (Some (command ∷ more)) moments before))
+    → StopsWithin (Stops taken' new moments' later) (Stops taken old moments before)
 unfolding Stops
-within_on start command old None taken taken' moments moments' before later is step = λ out files h.
-    subst (λ (o : Option (List Command)). Stops start taken o moments before out files) (sym is) tt
-within_on start command old (Some more) taken taken' moments moments' before later is step = λ out files h.
-    subst (λ (o : Option (List Command)). Stops start taken o moments before out files) (sym is) (step more out files h)
+within_on command old None taken taken' moments moments' before later is step = λ out one other h.
+    subst (λ (o : Option (List Command)). Stops taken o moments before out one other) (sym is) tt
+within_on command old (Some more) taken taken' moments moments' before later is step = λ out one other h.
+    subst (λ (o : Option (List Command)). Stops taken o moments before out one other) (sym is) (step more out one other h)
+
+-- and of those that a crash leaves
+pub among_on : (command : Command) (old new : Option (List Command)) (moments moments' : Option (ℕ → Moment)) (before later : Place)
+    → old ≡ before_commands command new
+    → ((more : List Command) → AmongWithin (among_places (Some more) moments' later) (among_places (Some (command ∷ more)) moments before))
+    → AmongWithin (among_places new moments' later) (among_places old moments before)
+among_on command old None moments moments' before later is step = λ c h.
+    subst (λ (o : Option (List Command)). among_places o moments before c) (sym is) tt
+among_on command old (Some more) moments moments' before later is step = λ c h.
+    subst (λ (o : Option (List Command)). among_places o moments before c) (sym is) (step more c h)
+
+-- whatever the first of the commands leaves
+pub among_run_on : {old now : View} (command : Command) (all others : Option (List Command)) (moments : Option (ℕ → Moment)) (before : Place)
+    → all ≡ before_commands command others
+    → ((more : List Command) → LeavesOnly old now (among_places (Some (command ∷ more)) moments before))
+    → LeavesOnly old now (among_places all moments before)
+among_run_on command all None moments before is run = weaken (run []) (λ c h. subst (λ (o : Option (List Command)). among_places o moments before c) (sym is) tt)
+among_run_on command all (Some more) moments before is run = weaken (run more) (λ c h. subst (λ (o : Option (List Command)). among_places o moments before c) (sym is) h)
+
+-- a stage of a run of which no commands are told
+pub untold_stage : (taken : Option (List ℕ)) (moments : Option (ℕ → Moment)) (before : Place) (out : Option (List ℕ)) (now : View) (stage : Option (List ℕ) → Place → Place → Type 0)
+    → IsStopped stage out now → IsStopped (Stops taken None moments before) out now
+unfolding Stops
+untold_stage taken moments before out now stage stopped = record { one = stopped.one; other = stopped.other; may = tt; stands = stopped.stands }
 
 -- a run that was stopped in the first command
-pub stopped_on : (start : Files) (command : Command) (old new : Option (List Command)) (taken : Option (List ℕ)) (moments : Option (ℕ → Moment)) (before : State) (halt : AnswerHalt) (result : SessionHalt) (out : Option (List ℕ)) (files : Files)
-    → old ≡ before_commands command new → result ≡ answer_as_session halt
-    → ((more : List Command) → OnStopped halt (Stops start taken (Some (command ∷ more)) moments before) out files)
-    → OnSessionStopped result (Stops start taken old moments before) out files
-unfolding Stops
-stopped_on start command old new taken moments before halt result out files is from step =
-    subst (λ (r : SessionHalt). OnSessionStopped r (Stops start taken old moments before) out files) (sym from)
-    (subst (λ (o : Option (List Command)). OnSessionStopped (answer_as_session halt) (Stops start taken o moments before) out files) (sym is) (by halt new step))
-  where
-    by : (h : AnswerHalt) (n : Option (List Command)) → ((more : List Command) → OnStopped h (Stops start taken (Some (command ∷ more)) moments before) out files)
-        → OnSessionStopped (answer_as_session h) (Stops start taken (before_commands command n) moments before) out files
-    by answer.MemoryOut None f = tt
-    by answer.WriteFault None f = tt
-    by answer.DiskFault None f = (files, tt)
-    by answer.MemoryOut (Some more) f = f more
-    by answer.WriteFault (Some more) f = f more
-    by answer.DiskFault (Some more) f = f more
+pub stopped_on : (command : Command) (old new : Option (List Command)) (taken : Option (List ℕ)) (moments : Option (ℕ → Moment)) (before : Place) (out : Option (List ℕ)) (now : View)
+    → old ≡ before_commands command new
+    → ((more : List Command) → IsStopped (Stops taken (Some (command ∷ more)) moments before) out now)
+    → IsStopped (Stops taken old moments before) out now
+stopped_on command old None taken moments before out now is step =
+    subst (λ (o : Option (List Command)). IsStopped (Stops taken o moments before) out now) (sym is) (untold_stage taken moments before out now _ (step []))
+stopped_on command old (Some more) taken moments before out now is step =
+    subst (λ (o : Option (List Command)). IsStopped (Stops taken o moments before) out now) (sym is) (step more)
 
 -- a run may stop where it is
-pub stops_here : (start : Files) (taken : Option (List ℕ)) (files : Files) (commands : Option (List Command)) (moments : Option (ℕ → Moment)) (before : State)
-    → Shows start files before → Stops start taken commands moments before taken files
+pub stops_here : (taken : Option (List ℕ)) (commands : Option (List Command)) (moments : Option (ℕ → Moment)) (before : Place) (now : View)
+    → Stands (Ok before) now → IsStopped (Stops taken commands moments before) taken now
 unfolding Stops MayStop
-stops_here start taken files None moments before shows = tt
-stops_here start taken files (Some commands) None before shows = tt
-stops_here start taken files (Some []) (Some told) before shows = (refl, shows)
-stops_here start taken files (Some (command ∷ commands)) (Some told) before shows = inl (inl (refl, shows))
-
--- no command came
-pub stopped_reading : (start : Files) (taken : Option (List ℕ)) (files : Files) (commands : Option (List Command)) (moments : Option (ℕ → Moment)) (before : State) (halt : ReadHalt) (result : SessionHalt)
-    → result ≡ read_as_session halt → Shows start files before → OnSessionStopped result (Stops start taken commands moments before) taken files
-stopped_reading start taken files commands moments before read.MemoryOut result is shows =
-    subst (λ (r : SessionHalt). OnSessionStopped r (Stops start taken commands moments before) taken files) (sym is) (stops_here start taken files commands moments before shows)
-stopped_reading start taken files commands moments before read.ReadFault result is shows =
-    subst (λ (r : SessionHalt). OnSessionStopped r (Stops start taken commands moments before) taken files) (sym is) (stops_here start taken files commands moments before shows)
-stopped_reading start taken files commands moments before read.InputTooLong result is shows =
-    subst (λ (r : SessionHalt). OnSessionStopped r (Stops start taken commands moments before) taken files) (sym is) (stops_here start taken files commands moments before shows)
+stops_here taken None moments before now stands = stopped_at before (Stops taken None moments before) taken now tt stands
+stops_here taken (Some commands) None before now stands = stopped_at before (Stops taken (Some commands) None before) taken now tt stands
+stops_here taken (Some []) (Some told) before now stands = stopped_at before (Stops taken (Some []) (Some told) before) taken now (refl, refl, refl) stands
+stops_here taken (Some (command ∷ commands)) (Some told) before now stands = record {
+  one = before;
+  other = place_after command before (told 0);
+  may = inl (inl (refl, refl, refl));
+  stands = record { each = λ c image. inl (stands.each c image) };
+}
 
 -- the first of the commands that came
 pub comes_first : (answer : Next) (command : Command) (old new : Option (List Command)) → answer ≡ next.Command command → Comes answer old new → old ≡ before_commands command new
 comes_first answer command old new is comes = subst (λ (n : Next). Comes n old new) is comes
 
 -- no command is left
-pub ended_here : (taken : Option (List ℕ)) (refused : Bool) (commands : Option (List Command)) (moments : Option (ℕ → Moment)) (state : State) (end : Ending)
-    → NoCommand commands → ending taken refused commands moments state ≡ Some end → EndsAs taken refused state end
+pub ended_here : (taken : Option (List ℕ)) (refused : Bool) (commands : Option (List Command)) (moments : Option (ℕ → Moment)) (place : Place) (end : Ending)
+    → NoCommand commands → ending taken refused commands moments place ≡ Some end → EndsAs taken refused place end
 unfolding ending said
-ended_here taken refused None moments state end none e = absurd cc
-ended_here taken refused (Some commands) None state end none e = absurd cc
-ended_here taken refused (Some commands) (Some told) state end none e =
-    let nothing : Said = record { bytes = []; refused = false; state = state } in
-    let is : said commands told state ≡ nothing = ap (λ (c : List Command). said c told state) none in
-    let same : end_with taken refused nothing ≡ end = ap (end_with taken refused) (sym is) ∙ same_Some (end_with taken refused (said commands told state)) end e in
-    subst (λ (x : Ending). EndsAs taken refused state x) same
-    (record { out = sym (after_told-nil taken); refused_is = sym (or-false refused); state_is = refl })
+ended_here taken refused None moments place end none e = absurd cc
+ended_here taken refused (Some commands) None place end none e = absurd cc
+ended_here taken refused (Some commands) (Some told) place end none e =
+    let nothing : Said = record { bytes = []; refused = false; place = place } in
+    let is : said commands told place ≡ nothing = ap (λ (c : List Command). said c told place) none in
+    let same : end_with taken refused nothing ≡ end = ap (end_with taken refused) (sym is) ∙ same_Some (end_with taken refused (said commands told place)) end e in
+    subst (λ (x : Ending). EndsAs taken refused place x) same
+    (record { out = sym (after_told-nil taken); refused_is = sym (or-false refused); place_is = refl })
 
 -- a refusal is among the replies: one of before, or the new one
 pub was_refused : (refused now_refused : Bool) → refused ≡ true → refused ≡ (refused || now_refused)

@@ -1,18 +1,7 @@
 -- What a line of the input says.
-use Rattle.std.specs.Prelude.{ℕ, Bool, ◌&&◌, ◌||◌, nat_le, List, length, take, drop, Option, Some, None, if◌then◌else◌, codes, IsTrue}
-use Rattle.std.specs.List.{list_all}
+use Rattle.std.specs.Prelude.{ℕ, ◌&&◌, List, take, drop, Option, Some, None, if◌then◌else◌, codes}
 use Rattle.std.specs.Str.{bytes_eq}
-
--- a to z, 0 to 9
-abbrev pub is_name_byte : ℕ → Bool
-is_name_byte b = (nat_le 97 b && nat_le b 122) || (nat_le 48 b && nat_le b 57)
-
--- 1 to 64 such bytes
-abbrev pub is_name : List ℕ → Bool
-is_name bytes = nat_le 1 (length bytes) && nat_le (length bytes) 64 && list_all is_name_byte bytes
-
-abbrev pub IsName : List ℕ → Type 0
-IsName bytes = IsTrue (is_name bytes)
+use Rattle.kdb_store.specs.Names.{is_name}
 
 -- the words before the name
 abbrev pub lead : List ℕ

@@ -1,4 +1,5 @@
 -- Why a run ended early, seen one layer up.
+use Rattle.std.specs.Prelude.{Bool, true, false, Result, Ok, Err}
 use Rattle.kdb_base.specs.declared.outcomes.Halt.{Halt}
 use Rattle.kdb_base.specs.declared.outcomes.Halt.TheVariants as disk
 use Rattle.kdb_base.specs.declared.outcomes.Status.{Status}
@@ -50,3 +51,9 @@ status_of session.ReadFault = status.ReadFault
 status_of session.WriteFault = status.WriteFault
 status_of session.DiskFault = status.DiskFault
 status_of session.InputTooLong = status.InputTooLong
+
+-- the status of a run that went through, by whether a refusal was written, or was stopped
+abbrev pub status_after : Result Bool SessionHalt → Status
+status_after (Ok true) = status.Refused
+status_after (Ok false) = status.Done
+status_after (Err halt) = status_of halt

@@ -2,7 +2,7 @@
 use Rattle.std.specs.Prelude.{ℕ, ◌+◌, ◌≡◌, ◌<◌, List, [], ◌∷◌, Option, Some, None, length, option_map, IfSome, IsTrue, ⊤}
 use Rattle.kdb_ports.specs.Told.{IsSpent}
 use Rattle.kadm_lines.specs.Reader.{ReaderState, to_come}
-use Rattle.kadm_top.specs.Commands.{IsName}
+use Rattle.kdb_store.specs.Names.{IsName}
 use Rattle.kadm_top.specs.Steps.{Command}
 use Rattle.kadm_top.specs.Input.{commands_in}
 use Rattle.kadm_top.specs.declared.intake.Next.{Next}

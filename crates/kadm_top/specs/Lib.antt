@@ -1,9 +1,7 @@
-pub mod State
+pub mod Words
+pub mod Standing
 pub mod Commands
 pub mod Replies
-pub mod Fields
-pub mod Image
-pub mod Opening
 pub mod Parts
 pub mod Steps
 pub mod Stops
@@ -12,4 +10,3 @@ pub mod Intake
 pub mod Run
 pub mod Halts
 pub mod Turns
-pub mod Laws

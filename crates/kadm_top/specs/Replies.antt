@@ -7,9 +7,9 @@ use Rattle.kdb_base.specs.Outcomes.{field_word}
 use Rattle.kdb_base.specs.declared.moments.Point.{Point}
 use Rattle.kdb_base.specs.declared.outcomes.Refusal.{Refusal}
 use Rattle.kdb_base.specs.declared.outcomes.Refusal.TheVariants.{BadLine, BadName, Duplicate, UnknownPrincipal, Protected, PassTooShort, PassClasses, BadValue, NotADatabase, AlreadyThere, Damaged, TimeEnd, LineTooLong, RowsFull}
-use Rattle.kadm_top.specs.State.{State, serial_of}
+use Rattle.kdb_store.specs.Places.{Place}
 use Rattle.kadm_top.specs.declared.replies.Reply.{Reply}
-use Rattle.kadm_top.specs.declared.replies.Reply.TheVariants.{Accepted, Refused}
+use Rattle.kadm_top.specs.declared.replies.Reply.TheVariants.{Accepted, Ended, Refused}
 
 -- six digits
 abbrev pub six_digits : ℕ → List ℕ
@@ -41,13 +41,12 @@ refusal_text (RowsFull limit) = codes "err 29 RowsFull " ++ decimal limit
 -- a reply's bytes, with the line feed that ends them
 unfoldable pub reply_text : Reply → List ℕ
 reply_text (Accepted point) = codes "ok " ++ point_text point ++ line_feed
+reply_text Ended = codes "ok" ++ line_feed
 reply_text (Refused refusal) = refusal_text refusal ++ line_feed
 
 -- why a name isn't added: the first of these that holds
-unfoldable pub refusal_of : State → List ℕ → Option Refusal
-refusal_of state name =
-    if list_any (bytes_eq name) state.names then Some Duplicate
-    else (if nat_le 100000 (length state.names) then Some (RowsFull 100000) else None)
-
-abbrev pub point_of : State → Point
-point_of state = record { sno = serial_of state; time = state.time }
+unfoldable pub refusal_of : Place → List ℕ → Option Refusal
+refusal_of place name =
+    if list_any (bytes_eq name) place.rows then Some Duplicate
+    else (if nat_le 100000 (length place.rows) then Some (RowsFull 100000)
+    else (if nat_le 4294967295 place.point.sno then Some TimeEnd else None))

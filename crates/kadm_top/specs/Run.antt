@@ -1,72 +1,145 @@
 -- A whole run of the program: its words, the opening of the database, and its end.
-use Rattle.std.specs.Prelude.{ℕ, ◌+◌, ◌≡◌, ◌<◌, ◌≢◌, Bool, true, false, List, [], ◌∷◌, ◌++◌, Option, Some, IfSome, length, option_map, codes, ⊤}
+use Rattle.std.specs.Prelude.{ℕ, ◌+◌, ◌≡◌, ◌<◌, ◌⊎◌, Bool, true, false, List, [], ◌∷◌, ◌++◌, Option, Some, None, IfSome, Result, Ok, Err, length, option_map, if◌then◌else◌, ⊤}
 use Rattle.kdb_base.specs.Moment.{Moment}
+use Rattle.kdb_base.specs.declared.outcomes.Field.TheVariants.{Realm}
 use Rattle.kdb_base.specs.declared.outcomes.Refusal.{Refusal}
-use Rattle.kdb_base.specs.declared.outcomes.Refusal.TheVariants.{BadLine, Damaged}
+use Rattle.kdb_base.specs.declared.outcomes.Refusal.TheVariants.{BadLine, BadValue, NotADatabase, AlreadyThere, Damaged}
 use Rattle.kdb_base.specs.declared.outcomes.Status.{Status}
 use Rattle.kdb_base.specs.declared.outcomes.Status.TheVariants as status
-use Rattle.kdb_ports.specs.Told.{after_told}
-use Rattle.kdb_disk.specs.Files.{Files, with_file}
-use Rattle.kadm_top.specs.Parts.{SaidPart}
-use Rattle.kadm_top.specs.State.{State}
-use Rattle.kadm_top.specs.Image.{Spells, image_of}
-use Rattle.kadm_top.specs.Replies.{refusal_text, line_feed}
+use Rattle.kdb_ports.specs.Told.{after_told, later_moments}
+use Rattle.kdb_disk.specs.Files.{Files}
+use Rattle.kdb_disk.specs.View.{View}
+use Rattle.kdb_control.specs.Force.{in_force}
+use Rattle.kdb_control.specs.declared.force.Force.{Force}
+use Rattle.kdb_control.specs.declared.force.Force.TheVariants.{Nothing, Is, Broken}
+use Rattle.kdb_store.specs.Images.{is_realm}
+use Rattle.kdb_store.specs.Places.{Place, recovers}
+use Rattle.kdb_store.specs.Steps.{created}
 use Rattle.kadm_lines.specs.Lines.{seen_lines}
+use Rattle.kadm_top.specs.Parts.{SaidPart}
+use Rattle.kadm_top.specs.Replies.{reply_text, refusal_text, line_feed}
+use Rattle.kadm_top.specs.declared.replies.Reply.TheVariants.{Accepted, Ended}
+use Rattle.kadm_top.specs.declared.words.Words.{Words}
+use Rattle.kadm_top.specs.declared.words.Words.TheVariants.{Admin, Create, Destroy}
 use Rattle.kadm_top.specs.Input.{commands_in}
-use Rattle.kadm_top.specs.Steps.{Command, Ending, ending}
-use Rattle.kadm_top.specs.Stops.{Place, Stops}
+use Rattle.kadm_top.specs.Standing.{Stands, StandsEither, RecoversToOne}
+use Rattle.kadm_top.specs.Steps.{Command, Ending, ending, places_after}
+use Rattle.kadm_top.specs.Stops.{Stops, IsStopped}
 
--- the one word that is known
-abbrev pub admin_words : List (List ℕ)
-admin_words = codes "admin" ∷ []
+-- ---- what a run begins with, by its words and the files
 
--- what a run begins with: a refusal, or a database
+-- a refusal; a database whose input is to be answered; one that is to be made, of this realm; or one that is to be ended
 pub data Opening : Type 0 where
   Refuses : Refusal → Opening
-  Opens : State → Opening
+  Opens : Place → Opening
+  Makes : List ℕ → Opening
+  Ends : Opening
 
--- what file 1 is opened as: a database that it spells, or a refusal where it spells none
-abbrev pub OpensAs : List ℕ → Opening → Type 0
-OpensAs bytes (Refuses (Damaged file place)) = ((state : State) → Spells bytes state → ⊥) × (file ≡ 1) × (place ≡ 0)
-OpensAs bytes (Refuses _) = ⊥
-OpensAs bytes (Opens state) = Spells bytes state
+abbrev pub admin_of : Result Place Refusal → Opening
+admin_of (Ok place) = Opens place
+admin_of (Err refusal) = Refuses refusal
 
--- the words are judged first, and then file 1
-abbrev pub IsOpening : List (List ℕ) → List ℕ → Opening → Type 0
-IsOpening words bytes (Refuses BadLine) = words ≢ admin_words
-IsOpening words bytes opening = (words ≡ admin_words) × OpensAs bytes opening
+abbrev pub create_of : List ℕ → Force → Opening
+create_of realm Nothing = Makes realm
+create_of realm (Is choice) = Refuses AlreadyThere
+create_of realm (Broken place) = Refuses AlreadyThere
 
--- what is in the sink, what a read gives of the disk, and whether a refusal was written
+abbrev pub destroy_of : Force → Opening
+destroy_of Nothing = Refuses NotADatabase
+destroy_of (Is choice) = Ends
+destroy_of (Broken place) = Refuses (Damaged 0 place)
+
+-- the words are judged first, then the realm, and then the files
+unfoldable pub opening_of : Option Words → Files → Opening
+opening_of None files = Refuses BadLine
+opening_of (Some Admin) files = admin_of (recovers files)
+opening_of (Some (Create realm)) files = if is_realm realm then create_of realm (in_force (files 0)) else Refuses (BadValue Realm)
+opening_of (Some Destroy) files = destroy_of (in_force (files 0))
+
+-- ---- how it ends where nothing fails
+
+-- what is in the sink, whether a refusal was written, and what the disk recovers to
 pub record RunEnd : Type 0 where
   pub out : Option (List ℕ)
-  pub files : Files
   pub refused : Bool
-
-abbrev pub end_of : Files → Ending → RunEnd
-end_of start end = record { out = end.out; files = with_file 1 (image_of end.state) start; refused = end.refused }
+  pub found : Result Place Refusal
 
 abbrev pub refusal_line : Refusal → List ℕ
 refusal_line refusal = refusal_text refusal ++ line_feed
+
+-- a database that is made has no row; its log holds 1000 entries in blocks of 2048 bytes
+abbrev pub made : List ℕ → Moment → Place
+made realm moment = created realm [] (record { sno = 1; time = moment }) 1000 2048
+
+abbrev pub end_of : Ending → RunEnd
+end_of end = record { out = end.out; refused = end.refused; found = Ok end.place }
 
 -- the commands that the lines of an input are
 abbrev pub input_commands : Option (List ℕ) → Option (List Command)
 input_commands left = commands_in (option_map seen_lines left)
 
--- how the run ends where nothing fails, as far as it is told
-abbrev pub run_end : Opening → Files → Option (List ℕ) → Option (List Command) → Option (ℕ → Moment) → Option RunEnd
-run_end (Refuses refusal) start taken commands moments =
-    Some (record { out = after_told taken (refusal_line refusal); files = start; refused = true })
-run_end (Opens state) start taken commands moments = option_map (end_of start) (ending taken false commands moments state)
+-- an opening reads the clock once
+abbrev pub behind_opening : Option (ℕ → Moment) → Option (ℕ → Moment)
+behind_opening moments = option_map later_moments moments
 
--- where the run may stop early
-abbrev pub RunStops : Opening → Files → Option (List ℕ) → Option (List Command) → Option (ℕ → Moment) → Place
-RunStops (Refuses refusal) start taken commands moments out files = SaidPart (refusal_line refusal) taken out × (files ≡ start)
-RunStops (Opens state) start taken commands moments out files = Stops start taken commands moments state out files
+abbrev pub end_made : List ℕ → Option (List ℕ) → (ℕ → Moment) → RunEnd
+end_made realm taken moments = record { out = after_told taken (reply_text (Accepted (made realm (moments 0)).point)); refused = false; found = Ok (made realm (moments 0)) }
 
-pub record RunEndsAs (out : Option (List ℕ)) (files : Files) (refused : Bool) (end : RunEnd) : Type 0 where
+-- as far as it is told; `found` is what the disk recovered to at first
+abbrev pub run_end : Opening → Result Place Refusal → Option (List ℕ) → Option (List Command) → Option (ℕ → Moment) → Option RunEnd
+run_end (Refuses refusal) found taken commands moments = Some (record { out = after_told taken (refusal_line refusal); refused = true; found = found })
+run_end (Opens place) found taken commands moments = option_map end_of (ending taken false commands (behind_opening moments) place)
+run_end (Makes realm) found taken commands moments = option_map (end_made realm taken) moments
+run_end Ends found taken commands moments = Some (record { out = after_told taken (reply_text Ended); refused = false; found = Err NotADatabase })
+
+pub record RunEndsAs (out : Option (List ℕ)) (refused : Bool) (now : View) (end : RunEnd) : Type 0 where
   pub out_is : out ≡ end.out
-  pub files_are : files ≡ end.files
   pub refused_is : refused ≡ end.refused
+  pub stands : Stands end.found now
+
+-- ---- where it may stop early
+
+-- while a database is made
+abbrev pub MakesStop : List ℕ → Option (List ℕ) → (ℕ → Moment) → Option (List ℕ) → View → Type 0
+MakesStop realm taken moments out now =
+    ((out ≡ taken) × StandsEither (Err NotADatabase) (Ok (made realm (moments 0))) now)
+    ⊎ (SaidPart (reply_text (Accepted (made realm (moments 0)).point)) taken out × Stands (Ok (made realm (moments 0))) now)
+
+abbrev pub IfTold : {A : Type 0} → Option A → (A → Type 0) → Type 0
+IfTold None P = ⊤
+IfTold (Some x) P = P x
+
+-- while one is ended
+abbrev pub EndsStop : Result Place Refusal → Option (List ℕ) → Option (List ℕ) → View → Type 0
+EndsStop found taken out now =
+    ((out ≡ taken) × StandsEither found (Err NotADatabase) now)
+    ⊎ (SaidPart (reply_text Ended) taken out × Stands (Err NotADatabase) now)
+
+abbrev pub RunStops : Opening → Result Place Refusal → Option (List ℕ) → Option (List Command) → Option (ℕ → Moment) → Option (List ℕ) → View → Type 0
+RunStops (Refuses refusal) found taken commands moments out now = SaidPart (refusal_line refusal) taken out × Stands found now
+RunStops (Opens place) found taken commands moments out now = IsStopped (Stops taken commands (behind_opening moments) place) out now
+RunStops (Makes realm) found taken commands moments out now = IfTold moments (λ told. MakesStop realm taken told out now)
+RunStops Ends found taken commands moments out now = EndsStop found taken out now
+
+-- ---- what a crash may leave at any moment of it
+
+abbrev pub among_places : Option (List Command) → Option (ℕ → Moment) → Place → Files → Type 0
+among_places None moments place c = ⊤
+among_places (Some commands) None place c = ⊤
+among_places (Some commands) (Some moments) place c = RecoversToOne (place ∷ places_after commands moments place) c
+
+-- what is among these places is among those
+abbrev pub AmongWithin : (Files → Type 0) → (Files → Type 0) → Type 0
+AmongWithin here there = (c : Files) → here c → there c
+
+-- what was there, a place of the run, or nothing while a database is made or once its end has begun
+abbrev pub RunLeaves : Opening → Result Place Refusal → Option (List Command) → Option (ℕ → Moment) → Files → Type 0
+RunLeaves (Refuses refusal) found commands moments c = recovers c ≡ found
+RunLeaves (Opens place) found commands moments c = among_places commands (behind_opening moments) place c
+RunLeaves (Makes realm) found commands moments c = IfTold moments (λ told. (recovers c ≡ Err NotADatabase) ⊎ (recovers c ≡ Ok (made realm (told 0))))
+RunLeaves Ends found commands moments c = (recovers c ≡ found) ⊎ (recovers c ≡ Err NotADatabase)
+
+-- ---- by the status
 
 -- a fact of a run that went through, by whether a refusal was written
 abbrev pub OnEnd : Status → (Bool → Type 0) → Type 0
@@ -74,14 +147,11 @@ OnEnd status.Done P = P false
 OnEnd status.Refused P = P true
 OnEnd _ P = ⊤
 
--- a fact of the place where a run was stopped; where the disk stopped it, of some files
-abbrev pub OnStop : Status → Place → Place
-OnStop status.MemoryOut P out files = P out files
-OnStop status.ReadFault P out files = P out files
-OnStop status.WriteFault P out files = P out files
-OnStop status.DiskFault P out files = (others : Files) × P out others
-OnStop status.InputTooLong P out files = P out files
-OnStop _ P out files = ⊤
+-- a fact of a run that was stopped
+abbrev pub OnStop : Status → Type 0 → Type 0
+OnStop status.Done P = ⊤
+OnStop status.Refused P = ⊤
+OnStop _ P = P
 
 -- a source that tells what is left has fewer bytes than an input may have
 abbrev pub IsShortInput : Option (List ℕ) → Type 0
@@ -90,3 +160,10 @@ IsShortInput told = IfSome told (λ left. length left < 4294967296)
 -- so many bytes were taken, as far as it is told
 abbrev pub WereTaken : ℕ → Option (List ℕ) → Option (List ℕ) → Type 0
 WereTaken n before after = option_map length before ≡ option_map (λ left. length left + n) after
+
+-- the input is read where a database is opened for it
+abbrev pub ReadsInput : Opening → Type 0
+ReadsInput (Opens place) = Unit {0}
+ReadsInput (Refuses refusal) = ⊥
+ReadsInput (Makes realm) = ⊥
+ReadsInput Ends = ⊥

@@ -1,62 +1,59 @@
--- Where a run may stop early: what is in the sink then, and what the disk shows.
-use Rattle.std.specs.Prelude.{ℕ, ◌≡◌, ◌≤◌, ◌⊎◌, List, [], ◌∷◌, ◌++◌, Option, Some, None, length, take, ⊤}
+-- Where a run may stop early: what is in the sink then, and which places a crash may leave.
+use Rattle.std.specs.Prelude.{ℕ, ◌≡◌, ◌≤◌, ◌+◌, ◌⊎◌, List, [], ◌∷◌, ◌++◌, Option, Some, None, Ok, length, take, ⊤}
 use Rattle.kdb_base.specs.Moment.{Moment}
 use Rattle.kdb_ports.specs.Told.{after_told}
-use Rattle.kdb_disk.specs.Files.{Files}
-use Rattle.kadm_top.specs.declared.halts.AnswerHalt.{AnswerHalt}
-use Rattle.kadm_top.specs.declared.halts.AnswerHalt.TheVariants as answer
-use Rattle.kadm_top.specs.declared.halts.SessionHalt.{SessionHalt}
-use Rattle.kadm_top.specs.declared.halts.SessionHalt.TheVariants as session
+use Rattle.kdb_disk.specs.View.{View}
+use Rattle.kdb_store.specs.Places.{Place}
 use Rattle.kadm_top.specs.Parts.{SaidPart}
-use Rattle.kadm_top.specs.State.{State}
-use Rattle.kadm_top.specs.Image.{Shows}
-use Rattle.kadm_top.specs.Steps.{Command, said, text_to, state_after, moments_after}
+use Rattle.kadm_top.specs.Standing.{StandsEither}
+use Rattle.kadm_top.specs.Steps.{Command, said, text_to, place_after, moments_after}
 
--- what the sink holds and what a read gives of the disk
-abbrev pub Place : Type 1
-Place = Option (List ℕ) → Files → Type 0
+-- what is in the sink, and the two places of which a crash leaves the one or the other
+abbrev pub Stage : Type 1
+Stage = Option (List ℕ) → Place → Place → Type 0
 
--- before a command, or within its reply, when the disk shows what it does
-abbrev pub StopsAt : Files → Option (List ℕ) → List ℕ → State → State → Place
-StopsAt start taken text before later out files =
-    ((out ≡ taken) × Shows start files before) ⊎ (SaidPart text taken out × Shows start files later)
+-- Nothing of the reply was written, and a crash leaves the place before the command or the one after it. Or a part of the
+-- reply was, and it leaves the place after it alone.
+abbrev pub StopsAt : Option (List ℕ) → List ℕ → Place → Place → Stage
+StopsAt taken text before later out one other =
+    ((out ≡ taken) × (one ≡ before) × (other ≡ later)) ⊎ (SaidPart text taken out × (one ≡ later) × (other ≡ later))
 
 -- at one of these commands, or after all of them
-unfoldable pub MayStop : Files → Option (List ℕ) → List Command → (ℕ → Moment) → State → Place
-MayStop start taken [] moments state out files = (out ≡ taken) × Shows start files state
-MayStop start taken (command ∷ commands) moments state out files =
-    StopsAt start taken (text_to command state (moments 0)) state (state_after command state (moments 0)) out files
-    ⊎ MayStop start (after_told taken (text_to command state (moments 0))) commands (moments_after command moments) (state_after command state (moments 0)) out files
+unfoldable pub MayStop : Option (List ℕ) → List Command → (ℕ → Moment) → Place → Stage
+MayStop taken [] moments place out one other = (out ≡ taken) × (one ≡ place) × (other ≡ place)
+MayStop taken (command ∷ commands) moments place out one other =
+    StopsAt taken (text_to command place (moments 0)) place (place_after command place (moments 0)) out one other
+    ⊎ MayStop (after_told taken (text_to command place (moments 0))) commands (moments_after command moments) (place_after command place (moments 0)) out one other
 
 -- the same, where the commands and the moments are told
-unfoldable pub Stops : Files → Option (List ℕ) → Option (List Command) → Option (ℕ → Moment) → State → Place
-Stops start taken None moments state out files = ⊤
-Stops start taken (Some commands) None state out files = ⊤
-Stops start taken (Some commands) (Some moments) state out files = MayStop start taken commands moments state out files
+unfoldable pub Stops : Option (List ℕ) → Option (List Command) → Option (ℕ → Moment) → Place → Stage
+Stops taken None moments place out one other = ⊤
+Stops taken (Some commands) None place out one other = ⊤
+Stops taken (Some commands) (Some moments) place out one other = MayStop taken commands moments place out one other
 
 -- wherever a run may stop from here, it may stop from there
-abbrev pub StopsWithin : Place → Place → Type 0
-StopsWithin here there = (out : Option (List ℕ)) (files : Files) → here out files → there out files
+abbrev pub StopsWithin : Stage → Stage → Type 0
+StopsWithin here there = (out : Option (List ℕ)) (one other : Place) → here out one other → there out one other
 
--- the plain statement: so many commands were done, what was written is a front of their replies, and
--- the disk shows them
-pub record HasStoppedAfter (start : Files) (taken : List ℕ) (commands : List Command) (moments : ℕ → Moment) (state : State) (out : Option (List ℕ)) (files : Files) : Type 0 where
+-- a run has stopped so, with this in its sink, and what a crash leaves of its disk is one of the two places
+pub record IsStopped (stage : Stage) (out : Option (List ℕ)) (now : View) : Type 0 where
+  pub one : Place
+  pub other : Place
+  pub may : stage out one other
+  pub stands : StandsEither (Ok one) (Ok other) now
+
+-- The plain statement: what was written is a front of the replies to the first so many commands, and a crash leaves the
+-- place after these commands, or the place after one more, of whose reply nothing was written.
+pub record HasStoppedAfter (taken : List ℕ) (commands : List Command) (moments : ℕ → Moment) (place : Place) (out : Option (List ℕ)) (one other : Place) : Type 0 where
+  -- the commands of which a byte may have been written, and those that may be done
+  pub answered : ℕ
   pub done : ℕ
+  pub order : answered ≤ done
+  pub next : done ≤ answered + 1
   pub within : done ≤ length commands
   pub written : List ℕ
   pub unwritten : List ℕ
   pub out_is : out ≡ Some (taken ++ written)
-  pub replies : (said (take done commands) moments state).bytes ≡ written ++ unwritten
-  pub shows : Shows start files (said (take done commands) moments state).state
-
--- ---- the same, by what stopped the run
-
--- a fact of the place where something other than the disk stopped the run; where the disk did, of some
--- files, since nothing is said of what it shows
-abbrev pub OnStopped : AnswerHalt → Place → Place
-OnStopped answer.DiskFault P out files = (others : Files) × P out others
-OnStopped _ P out files = P out files
-
-abbrev pub OnSessionStopped : SessionHalt → Place → Place
-OnSessionStopped session.DiskFault P out files = (others : Files) × P out others
-OnSessionStopped _ P out files = P out files
+  pub replies : (said (take answered commands) moments place).bytes ≡ written ++ unwritten
+  pub one_is : one ≡ (said (take answered commands) moments place).place
+  pub other_is : other ≡ (said (take done commands) moments place).place

@@ -1,32 +1,11 @@
 ghost use Rattle.std.specs.Prelude.{◌≡◌, IfSome, option_map};
-ghost use Rattle.std.specs.List.{list_all};
-ghost use Rattle.kadm_top.specs.Commands.{IsName, is_name, is_name_byte, name_in};
+ghost use Rattle.kdb_store.specs.Names.{IsName};
+ghost use Rattle.kadm_top.specs.Commands.{name_in};
 
-/// The longest name, in bytes.
-const MAX_NAME: usize = 64;
+use kdb_store::is_name;
 
 /// What stands before the name on a line that adds one.
 const LEAD: &[u8] = b"addprinc -nokey ";
-
-fn is_name_byte(byte: u8) -> bool
-    ensures { result ≡ is_name_byte byte }
-{
-    byte.is_ascii_lowercase() || byte.is_ascii_digit()
-}
-
-fn has_name_bytes(bytes: &[u8]) -> bool
-    ensures { result ≡ list_all is_name_byte bytes.now }
-{
-    bytes.iter().all(|byte| is_name_byte(*byte))
-}
-
-/// Whether the bytes are a name: 1 to 64 bytes from a to z and 0 to 9.
-pub fn is_name(bytes: &[u8]) -> bool
-    ensures { result ≡ is_name bytes.now }
-{
-    let length = bytes.len();
-    1 <= length && length <= MAX_NAME && has_name_bytes(bytes)
-}
 
 /// The name that a line adds, where the line is `addprinc -nokey NAME`.
 #[tactic(auto, unfolding(crate::specs::Commands::name_in))]

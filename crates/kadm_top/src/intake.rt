@@ -1,7 +1,8 @@
 ghost use Rattle.std.specs.Prelude.{◌≡◌, ◌≢◌, ◌<◌, ◌≤◌, List, ℕ, Option, Some, None, Ok, Err, IfOk, IfSome, OnErr, IsTrue, option_map};
 ghost use Rattle.kdb_base.specs.Causes.{Rose};
 ghost use Rattle.kadm_lines.specs.Reader.{work_left};
-ghost use Rattle.kadm_top.specs.Commands.{IsName, name_in};
+ghost use Rattle.kdb_store.specs.Names.{IsName};
+ghost use Rattle.kadm_top.specs.Commands.{name_in};
 ghost use Rattle.kadm_top.specs.Intake.{coming, Comes, HasName, HasTaken};
 
 use crate::commands::name_in;

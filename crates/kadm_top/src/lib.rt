@@ -2,15 +2,12 @@
 #![tactic(auto)]
 
 pub mod commands;
-pub mod database;
-pub mod files;
 pub mod halts;
 pub mod intake;
 pub mod laws;
-pub mod names_file;
-pub mod opening;
 pub mod replies;
 pub mod run;
 pub mod session;
+pub mod words;
 
 pub use run::run_local;

@@ -10,6 +10,8 @@ use std::alloc::Global;
 pub enum Reply {
     /// The change that the line asked for is made, and this is its point.
     Accepted(Point),
+    /// The database has ended.
+    Ended,
     Refused(Refusal),
 }
 
@@ -27,6 +29,7 @@ pub fn print_reply(alloc: Global, reply: &Reply) -> Result<String, MemoryOut>
 {
     match reply {
         Reply::Accepted(point) => print_point(alloc, point),
+        Reply::Ended => print_ended(alloc),
         Reply::Refused(refusal) => print_refusal(alloc, refusal),
     }
 }
@@ -40,6 +43,13 @@ fn print_point(alloc: Global, point: &Point) -> Result<String, MemoryOut>
     let micros = print_micros(alloc, point.time.usecs())?;
     let micros = micros.as_str();
     Ok(format!(in alloc; "ok {sno} {secs}.{micros}\n")?)
+}
+
+#[tactic(auto, unfolding(crate::specs::Replies::reply_text))]
+fn print_ended(alloc: Global) -> Result<String, MemoryOut>
+    ensures { IfOk result (λ text. string_bytes text ≡ reply_text Reply.Ended) }
+{
+    Ok(String::from_str(alloc, "ok\n")?)
 }
 
 /// Six digits.

@@ -1,26 +1,45 @@
-ghost use Rattle.std.specs.Prelude.{◌≡◌, ◌≢◌, ◌≤◌, ◌⊎◌, ◌↔◌, ⊤, if◌then◌else◌, IsTrue, Bool, true, false, List, ℕ, Option, Some, None, Ok, Err, map, codes, IfOk, IfErr, OnOk, OnErr, IsErr};
+ghost use Rattle.std.specs.Prelude.{◌≡◌, ◌≢◌, ◌≤◌, ◌⊎◌, ◌↔◌, ⊤, if◌then◌else◌, IsTrue, Bool, true, false, List, ℕ, Option, Some, None, Result, Ok, Err, map, codes, IfOk, IfErr, OnOk, OnErr, IsErr};
 ghost use Rattle.kdb_base.specs.Causes.{Rose};
+ghost use Rattle.kdb_base.specs.Moment.{Moment};
+ghost use Rattle.kdb_base.specs.declared.outcomes.Halt.TheVariants.{DiskFault};
+ghost use Rattle.kdb_base.specs.declared.outcomes.Stop.TheVariants.{Refused, Halt as Halts};
+ghost use Rattle.kdb_base.specs.declared.outcomes.Refusal.{Refusal as WhyNot};
+ghost use Rattle.kdb_base.specs.declared.outcomes.Refusal.TheVariants.{BadValue};
+ghost use Rattle.kdb_base.specs.declared.outcomes.Field.TheVariants.{Realm};
 ghost use Rattle.kdb_ports.specs.Told.{after_told, IsSpent};
-ghost use Rattle.kdb_disk.specs.Files.{Files};
-ghost use Rattle.kadm_top.specs.State.{State};
-ghost use Rattle.kadm_top.specs.Image.{IsDurable, Shows, Spells};
+ghost use Rattle.kdb_disk.specs.View.{View};
+ghost use Rattle.kdb_disk.specs.Moments.{Keeps, LeavesOnly};
+ghost use Rattle.kdb_control.specs.Force.{in_force};
+ghost use Rattle.kdb_control.specs.declared.force.Force.TheVariants.{Nothing};
+ghost use Rattle.kdb_store.specs.Images.{is_realm};
+ghost use Rattle.kdb_store.specs.Moments.{Creates};
+ghost use Rattle.kdb_store.specs.Stores.{AnswersMade};
+ghost use Rattle.kdb_store.specs.Places.{Place, Holds, place_of, recovers};
 ghost use Rattle.kadm_top.specs.Parts.{SaidPart};
-ghost use Rattle.kadm_top.specs.Stops.{OnSessionStopped};
-ghost use Rattle.kadm_top.specs.Run.{Opening, Opens, admin_words, RunEnd, RunEndsAs, RunStops, OpensAs, IsOpening, IsShortInput, WereTaken, OnEnd, OnStop, input_commands, refusal_line, run_end};
+ghost use Rattle.kadm_top.specs.Halts.{status_after};
+ghost use Rattle.kadm_top.specs.Words.{words_in};
+ghost use Rattle.kadm_top.specs.declared.words.Words.TheVariants.{Admin, Create};
+ghost use Rattle.kadm_top.specs.Standing.{Stands};
+ghost use Rattle.kadm_top.specs.Steps.{Command, Ending, EndsAs, ending};
+ghost use Rattle.kadm_top.specs.Stops.{IsStopped, Stops};
+ghost use Rattle.kadm_top.specs.Run.{Opening, Opens, Refuses, RunEnd, RunEndsAs, RunStops, RunLeaves, ReadsInput, IsShortInput, WereTaken, OnEnd, OnStop, admin_of, create_of, destroy_of, end_of, opening_of, among_places, input_commands, made, refusal_line, run_end};
 
-use crate::database::Database;
 use crate::halts::{SayHalt, SessionHalt, status_of};
-use crate::opening::open;
 use crate::replies::Reply;
 use crate::session::{say, serve};
+use crate::words::{Words, read_words};
 use kadm_lines::LineReader;
-use kdb_base::{Refusal, Status};
+use kdb_base::{Blob, Field, Point, Refusal, Status, Stop, Time};
 use kdb_disk::Disk;
 use kdb_ports::{Clock, Entropy, Sink, Source};
+use kdb_store::{Opened, Rows, create_files, destroy_files, is_realm, open_files};
 use std::alloc::Global;
 
-/// What is answered where file 1 stands for no database.
-const DAMAGED: Refusal = Refusal::Damaged { file: 1, place: 0 };
+/// How many entries the log of a new database holds.
+const LOG_SIZE: u32 = 1000;
+
+/// The length of a block of a new database's log, in bytes.
+const BLOCK: u32 = 2048;
 
 /// Writes a refusal of the words or of the opening.
 fn refuse<K: Sink>(alloc: Global, sink: &mut K, refusal: Refusal) -> Result<(), SayHalt>
@@ -39,21 +58,21 @@ fn refuse<K: Sink>(alloc: Global, sink: &mut K, refusal: Refusal) -> Result<(), 
 /// Answers the input over a database that was opened.
 fn session<S: Source, K: Sink, D: Disk, C: Clock>(
     alloc: Global,
-    database: Database,
+    opened: Opened,
     source: &mut S,
     sink: &mut K,
     disk: &mut D,
     clock: &mut C,
 ) -> Result<bool, SessionHalt>
-    ensures ended { D.tells → (start : Files) → Shows start (D.view disk.old).seen database → (end : RunEnd)
-        → run_end (Opens database) start (K.taken sink.old) (input_commands (S.left source.old)) (C.moments clock.old) ≡ Some end
-        → IfOk result (λ refused. RunEndsAs (K.taken sink.new) (D.view disk.new).seen refused end) }
-    ensures stopped { D.tells → (start : Files) → Shows start (D.view disk.old).seen database → IfErr result
-        (λ halt. OnSessionStopped halt (RunStops (Opens database) start (K.taken sink.old) (input_commands (S.left source.old)) (C.moments clock.old)) (K.taken sink.new) (D.view disk.new).seen) }
+    requires holds { D.tells → Holds opened (D.view disk.old) }
+    ensures ended { D.tells → (end : Ending) → ending (K.taken sink.old) false (input_commands (S.left source.old)) (C.moments clock.old) (place_of opened) ≡ Some end
+        → IfOk result (λ refused. RunEndsAs (K.taken sink.new) refused (D.view disk.new) (end_of end)) }
+    ensures stopped { D.tells → OnErr result
+        (IsStopped (Stops (K.taken sink.old) (input_commands (S.left source.old)) (C.moments clock.old) (place_of opened)) (K.taken sink.new) (D.view disk.new)) }
+    ensures moments { D.tells → LeavesOnly (D.view disk.old) (D.view disk.new) (among_places (input_commands (S.left source.old)) (C.moments clock.old) (place_of opened)) }
     ensures spent { OnOk result (IsSpent (S.left source.new)) }
     ensures short { OnOk result (IsShortInput (S.left source.old)) }
     ensures too_long { result ≡ Err SessionHalt.InputTooLong → WereTaken 4294967296 (S.left source.old) (S.left source.new) }
-    ensures durable { D.tells → IsDurable (D.view disk.old) → result ≢ Err SessionHalt.DiskFault → IsDurable (D.view disk.new) }
     ensures source_later { S.faults source.old ≤ S.faults source.new }
     ensures sink_later { K.faults sink.old ≤ K.faults sink.new }
     ensures disk_later { D.faults disk.old ≤ D.faults disk.new }
@@ -61,12 +80,12 @@ fn session<S: Source, K: Sink, D: Disk, C: Clock>(
     ensures write { result ≡ Err SessionHalt.WriteFault → Rose (K.faults sink.old) (K.faults sink.new) }
     ensures disk { result ≡ Err SessionHalt.DiskFault → Rose (D.faults disk.old) (D.faults disk.new) }
 {
-    let mut database = database;
+    let mut database = opened;
     let mut reader = match LineReader::new(alloc) {
         Ok(reader) => reader,
         Err(_) => return Err(SessionHalt::MemoryOut),
     };
-    match serve(alloc, &mut reader, &mut database, source, sink, disk, clock) {
+    match serve(alloc, &mut reader, &mut database, disk, source, sink, clock) {
         Ok(refused) => Ok(refused),
         Err(halt) => Err(halt),
     }
@@ -80,17 +99,18 @@ fn admin<S: Source, K: Sink, D: Disk, C: Clock>(
     disk: &mut D,
     clock: &mut C,
 ) -> Result<bool, SessionHalt>
-    ensures ended { D.tells → (opening : Opening) → OpensAs ((D.view disk.old).seen 1) opening → (end : RunEnd)
-        → run_end opening (D.view disk.old).seen (K.taken sink.old) (input_commands (S.left source.old)) (C.moments clock.old) ≡ Some end
-        → IfOk result (λ refused. RunEndsAs (K.taken sink.new) (D.view disk.new).seen refused end) }
-    ensures stopped { D.tells → (opening : Opening) → OpensAs ((D.view disk.old).seen 1) opening → IfErr result
-        (λ halt. OnSessionStopped halt (RunStops opening (D.view disk.old).seen (K.taken sink.old) (input_commands (S.left source.old)) (C.moments clock.old)) (K.taken sink.new) (D.view disk.new).seen) }
-    ensures spent { D.tells → (state : State) → Spells ((D.view disk.old).seen 1) state → OnOk result (IsSpent (S.left source.new)) }
+    ensures ended { D.tells → (found : Result Place WhyNot) → Stands found (D.view disk.old) → (end : RunEnd)
+        → run_end (admin_of (recovers (D.view disk.old).seen)) found (K.taken sink.old) (input_commands (S.left source.old)) (C.moments clock.old) ≡ Some end
+        → IfOk result (λ refused. RunEndsAs (K.taken sink.new) refused (D.view disk.new) end) }
+    ensures stopped { D.tells → (found : Result Place WhyNot) → Stands found (D.view disk.old)
+        → OnErr result (RunStops (admin_of (recovers (D.view disk.old).seen)) found (K.taken sink.old) (input_commands (S.left source.old)) (C.moments clock.old) (K.taken sink.new) (D.view disk.new)) }
+    ensures moments { D.tells → (found : Result Place WhyNot) → Stands found (D.view disk.old)
+        → LeavesOnly (D.view disk.old) (D.view disk.new) (RunLeaves (admin_of (recovers (D.view disk.old).seen)) found (input_commands (S.left source.old)) (C.moments clock.old)) }
     ensures done { result ≡ Ok false → IsSpent (S.left source.new) × IsShortInput (S.left source.old) }
     ensures refused { result ≡ Ok true → (IsSpent (S.left source.new) × IsShortInput (S.left source.old)) ⊎ (source.new ≡ source.old) }
+    ensures read_to_end { D.tells → ReadsInput (admin_of (recovers (D.view disk.old).seen)) → OnOk result (IsSpent (S.left source.new)) }
+    ensures unread { D.tells → (ReadsInput (admin_of (recovers (D.view disk.old).seen)) → ⊥) → source.new ≡ source.old }
     ensures too_long { result ≡ Err SessionHalt.InputTooLong → WereTaken 4294967296 (S.left source.old) (S.left source.new) }
-    ensures unread { D.tells → ((state : State) → Spells ((D.view disk.old).seen 1) state → ⊥) → source.new ≡ source.old }
-    ensures durable { D.tells → IsDurable (D.view disk.old) → result ≢ Err SessionHalt.DiskFault → IsDurable (D.view disk.new) }
     ensures source_later { S.faults source.old ≤ S.faults source.new }
     ensures sink_later { K.faults sink.old ≤ K.faults sink.new }
     ensures disk_later { D.faults disk.old ≤ D.faults disk.new }
@@ -98,54 +118,213 @@ fn admin<S: Source, K: Sink, D: Disk, C: Clock>(
     ensures write { result ≡ Err SessionHalt.WriteFault → Rose (K.faults sink.old) (K.faults sink.new) }
     ensures disk { result ≡ Err SessionHalt.DiskFault → Rose (D.faults disk.old) (D.faults disk.new) }
 {
-    match open(alloc, disk) {
-        Ok(opened) => match opened {
-            Some(database) => match session(alloc, database, source, sink, disk, clock) {
-                Ok(refused) => Ok(refused),
-                Err(halt) => Err(halt),
-            },
-            None => match refuse(alloc, sink, DAMAGED) {
-                Ok(()) => Ok(true),
-                Err(halt) => Err(SessionHalt::from(halt)),
-            },
+    // Nothing depends on the moment of an opening yet.
+    let _opened_at = clock.now();
+    match open_files(alloc, disk) {
+        Ok(opened) => match session(alloc, opened, source, sink, disk, clock) {
+            Ok(refused) => Ok(refused),
+            Err(halt) => Err(halt),
         },
-        Err(halt) => Err(SessionHalt::from(halt)),
+        Err(Stop::Refused(refusal)) => match refuse(alloc, sink, refusal) {
+            Ok(()) => Ok(true),
+            Err(halt) => Err(SessionHalt::from(halt)),
+        },
+        Err(Stop::Halt(halt)) => Err(SessionHalt::from(halt)),
     }
 }
 
-/// The status of a run that went through.
-fn status_of_end(refused: bool) -> Status
-    ensures { result ≡ (if refused then Status.Refused else Status.Done) }
+/// The point of a database that was made at this moment.
+fn first_point(moment: Time) -> Point
+    ensures { result ≡ record { sno = 1; time = moment } }
 {
-    if refused {
-        Status::Refused
+    Point {
+        sno: 1,
+        time: moment,
+    }
+}
+
+/// Makes the files of a database of this realm, without a row.
+fn make_files<D: Disk>(alloc: Global, realm: &Blob, disk: &mut D, moment: Time) -> Result<(), Stop>
+    requires { is_realm realm.now ≡ true }
+    ensures answer { D.tells → AnswersMade result (in_force ((D.view disk.old).seen 0)) }
+    ensures stands { D.tells → OnOk result (Stands (Ok (made realm.now moment)) (D.view disk.new)) }
+    ensures moments { D.tells → LeavesOnly (D.view disk.old) (D.view disk.new) (Creates (D.view disk.old) (made realm.now moment)) }
+    ensures refused { D.tells → (refusal : WhyNot) → result ≡ Err (Refused refusal) → Keeps (D.view disk.old) (D.view disk.new) }
+    ensures there { D.tells → in_force ((D.view disk.old).seen 0) ≢ Nothing → Keeps (D.view disk.old) (D.view disk.new) }
+    ensures later { D.faults disk.old ≤ D.faults disk.new }
+    ensures cause { result ≡ Err (Halts DiskFault) → Rose (D.faults disk.old) (D.faults disk.new) }
+{
+    let rows = Rows::new(alloc);
+    let base = first_point(moment);
+    match create_files(alloc, disk, realm.as_slice(), rows, base, LOG_SIZE, BLOCK) {
+        Ok(_) => Ok(()),
+        Err(stop) => Err(stop),
+    }
+}
+
+/// Makes a database of this realm, and answers its point.
+fn make<K: Sink, D: Disk, C: Clock>(
+    alloc: Global,
+    realm: &Blob,
+    sink: &mut K,
+    disk: &mut D,
+    clock: &mut C,
+) -> Result<bool, SessionHalt>
+    requires { is_realm realm.now ≡ true }
+    ensures ended { D.tells → (commands : Option (List Command)) (found : Result Place WhyNot) → Stands found (D.view disk.old) → (end : RunEnd)
+        → run_end (create_of realm.now (in_force ((D.view disk.old).seen 0))) found (K.taken sink.old) commands (C.moments clock.old) ≡ Some end
+        → IfOk result (λ refused. RunEndsAs (K.taken sink.new) refused (D.view disk.new) end) }
+    ensures stopped { D.tells → (commands : Option (List Command)) (found : Result Place WhyNot) → Stands found (D.view disk.old)
+        → OnErr result (RunStops (create_of realm.now (in_force ((D.view disk.old).seen 0))) found (K.taken sink.old) commands (C.moments clock.old) (K.taken sink.new) (D.view disk.new)) }
+    ensures moments { D.tells → (commands : Option (List Command)) (found : Result Place WhyNot) → Stands found (D.view disk.old)
+        → LeavesOnly (D.view disk.old) (D.view disk.new) (RunLeaves (create_of realm.now (in_force ((D.view disk.old).seen 0))) found commands (C.moments clock.old)) }
+    ensures sink_later { K.faults sink.old ≤ K.faults sink.new }
+    ensures disk_later { D.faults disk.old ≤ D.faults disk.new }
+    ensures read { result ≡ Err SessionHalt.ReadFault → ⊥ }
+    ensures long { result ≡ Err SessionHalt.InputTooLong → ⊥ }
+    ensures write { result ≡ Err SessionHalt.WriteFault → Rose (K.faults sink.old) (K.faults sink.new) }
+    ensures disk { result ≡ Err SessionHalt.DiskFault → Rose (D.faults disk.old) (D.faults disk.new) }
+{
+    let moment = clock.now();
+    match make_files(alloc, realm, disk, moment) {
+        Ok(()) => match say(alloc, sink, &Reply::Accepted(first_point(moment))) {
+            Ok(()) => Ok(false),
+            Err(halt) => Err(SessionHalt::from(halt)),
+        },
+        Err(Stop::Refused(refusal)) => match refuse(alloc, sink, refusal) {
+            Ok(()) => Ok(true),
+            Err(halt) => Err(SessionHalt::from(halt)),
+        },
+        Err(Stop::Halt(halt)) => Err(SessionHalt::from(halt)),
+    }
+}
+
+/// Judges the realm, and makes a database of it.
+#[tactic(auto, unfolding(crate::specs::Run::opening_of))]
+fn create<K: Sink, D: Disk, C: Clock>(
+    alloc: Global,
+    realm: &Blob,
+    sink: &mut K,
+    disk: &mut D,
+    clock: &mut C,
+) -> Result<bool, SessionHalt>
+    ensures ended { D.tells → (commands : Option (List Command)) (found : Result Place WhyNot) → Stands found (D.view disk.old) → (end : RunEnd)
+        → run_end (opening_of (Some (Create realm.now)) (D.view disk.old).seen) found (K.taken sink.old) commands (C.moments clock.old) ≡ Some end
+        → IfOk result (λ refused. RunEndsAs (K.taken sink.new) refused (D.view disk.new) end) }
+    ensures stopped { D.tells → (commands : Option (List Command)) (found : Result Place WhyNot) → Stands found (D.view disk.old)
+        → OnErr result (RunStops (opening_of (Some (Create realm.now)) (D.view disk.old).seen) found (K.taken sink.old) commands (C.moments clock.old) (K.taken sink.new) (D.view disk.new)) }
+    ensures moments { D.tells → (commands : Option (List Command)) (found : Result Place WhyNot) → Stands found (D.view disk.old)
+        → LeavesOnly (D.view disk.old) (D.view disk.new) (RunLeaves (opening_of (Some (Create realm.now)) (D.view disk.old).seen) found commands (C.moments clock.old)) }
+    ensures bad_realm { is_realm realm.now ≡ false → disk.new ≡ disk.old }
+    ensures sink_later { K.faults sink.old ≤ K.faults sink.new }
+    ensures disk_later { D.faults disk.old ≤ D.faults disk.new }
+    ensures read { result ≡ Err SessionHalt.ReadFault → ⊥ }
+    ensures long { result ≡ Err SessionHalt.InputTooLong → ⊥ }
+    ensures write { result ≡ Err SessionHalt.WriteFault → Rose (K.faults sink.old) (K.faults sink.new) }
+    ensures disk { result ≡ Err SessionHalt.DiskFault → Rose (D.faults disk.old) (D.faults disk.new) }
+{
+    if is_realm(realm.as_slice()) {
+        make(alloc, realm, sink, disk, clock)
     } else {
-        Status::Done
+        let refusal = Refusal::BadValue {
+            field: Field::Realm,
+        };
+        match refuse(alloc, sink, refusal) {
+            Ok(()) => Ok(true),
+            Err(halt) => Err(SessionHalt::from(halt)),
+        }
     }
 }
 
-fn is_admin_word(word: &[u8]) -> bool
-    ensures { IsTrue result ↔ (word.now ≡ codes "admin") }
+/// Ends the database.
+fn end<K: Sink, D: Disk>(alloc: Global, sink: &mut K, disk: &mut D) -> Result<bool, SessionHalt>
+    ensures ended { D.tells → (commands : Option (List Command)) (moments : Option (ℕ → Moment)) (found : Result Place WhyNot) → Stands found (D.view disk.old) → (end : RunEnd)
+        → run_end (destroy_of (in_force ((D.view disk.old).seen 0))) found (K.taken sink.old) commands moments ≡ Some end
+        → IfOk result (λ refused. RunEndsAs (K.taken sink.new) refused (D.view disk.new) end) }
+    ensures stopped { D.tells → (commands : Option (List Command)) (moments : Option (ℕ → Moment)) (found : Result Place WhyNot) → Stands found (D.view disk.old)
+        → OnErr result (RunStops (destroy_of (in_force ((D.view disk.old).seen 0))) found (K.taken sink.old) commands moments (K.taken sink.new) (D.view disk.new)) }
+    ensures moments { D.tells → (commands : Option (List Command)) (moments : Option (ℕ → Moment)) (found : Result Place WhyNot) → Stands found (D.view disk.old)
+        → LeavesOnly (D.view disk.old) (D.view disk.new) (RunLeaves (destroy_of (in_force ((D.view disk.old).seen 0))) found commands moments) }
+    ensures sink_later { K.faults sink.old ≤ K.faults sink.new }
+    ensures disk_later { D.faults disk.old ≤ D.faults disk.new }
+    ensures read { result ≡ Err SessionHalt.ReadFault → ⊥ }
+    ensures long { result ≡ Err SessionHalt.InputTooLong → ⊥ }
+    ensures write { result ≡ Err SessionHalt.WriteFault → Rose (K.faults sink.old) (K.faults sink.new) }
+    ensures disk { result ≡ Err SessionHalt.DiskFault → Rose (D.faults disk.old) (D.faults disk.new) }
 {
-    word == b"admin".as_slice()
+    match destroy_files(disk) {
+        Ok(()) => match say(alloc, sink, &Reply::Ended) {
+            Ok(()) => Ok(false),
+            Err(halt) => Err(SessionHalt::from(halt)),
+        },
+        Err(Stop::Refused(refusal)) => match refuse(alloc, sink, refusal) {
+            Ok(()) => Ok(true),
+            Err(halt) => Err(SessionHalt::from(halt)),
+        },
+        Err(Stop::Halt(halt)) => Err(SessionHalt::from(halt)),
+    }
 }
 
-/// Whether the words are the one word `admin`.
-fn is_admin(words: &[Vec<u8>]) -> bool
-    ensures { IsTrue result ↔ (map (λ word. word.items) words.now ≡ admin_words) }
+/// Does what the words ask for. It answers whether a refusal was written.
+fn run_words<S: Source, K: Sink, D: Disk, C: Clock>(
+    alloc: Global,
+    words: Option<Words>,
+    source: &mut S,
+    sink: &mut K,
+    disk: &mut D,
+    clock: &mut C,
+) -> Result<bool, SessionHalt>
+    ensures ended { D.tells → (found : Result Place WhyNot) → Stands found (D.view disk.old) → (end : RunEnd)
+        → run_end (opening_of words (D.view disk.old).seen) found (K.taken sink.old) (input_commands (S.left source.old)) (C.moments clock.old) ≡ Some end
+        → IfOk result (λ refused. RunEndsAs (K.taken sink.new) refused (D.view disk.new) end) }
+    ensures stopped { D.tells → (found : Result Place WhyNot) → Stands found (D.view disk.old)
+        → OnErr result (RunStops (opening_of words (D.view disk.old).seen) found (K.taken sink.old) (input_commands (S.left source.old)) (C.moments clock.old) (K.taken sink.new) (D.view disk.new)) }
+    ensures moments { D.tells → (found : Result Place WhyNot) → Stands found (D.view disk.old)
+        → LeavesOnly (D.view disk.old) (D.view disk.new) (RunLeaves (opening_of words (D.view disk.old).seen) found (input_commands (S.left source.old)) (C.moments clock.old)) }
+    ensures done { result ≡ Ok false → words ≡ Some Admin → IsSpent (S.left source.new) × IsShortInput (S.left source.old) }
+    ensures refused { result ≡ Ok true → (IsSpent (S.left source.new) × IsShortInput (S.left source.old)) ⊎ (source.new ≡ source.old) }
+    ensures read_to_end { D.tells → ReadsInput (opening_of words (D.view disk.old).seen) → OnOk result (IsSpent (S.left source.new)) }
+    ensures unread { D.tells → (ReadsInput (opening_of words (D.view disk.old).seen) → ⊥) → source.new ≡ source.old }
+    ensures other_words { words ≢ Some Admin → source.new ≡ source.old }
+    ensures no_words { words ≡ None → disk.new ≡ disk.old }
+    ensures bad_realm { (realm : List ℕ) → words ≡ Some (Create realm) → is_realm realm ≡ false → disk.new ≡ disk.old }
+    ensures too_long { result ≡ Err SessionHalt.InputTooLong → WereTaken 4294967296 (S.left source.old) (S.left source.new) }
+    ensures source_later { S.faults source.old ≤ S.faults source.new }
+    ensures sink_later { K.faults sink.old ≤ K.faults sink.new }
+    ensures disk_later { D.faults disk.old ≤ D.faults disk.new }
+    ensures read { result ≡ Err SessionHalt.ReadFault → Rose (S.faults source.old) (S.faults source.new) }
+    ensures write { result ≡ Err SessionHalt.WriteFault → Rose (K.faults sink.old) (K.faults sink.new) }
+    ensures disk { result ≡ Err SessionHalt.DiskFault → Rose (D.faults disk.old) (D.faults disk.new) }
 {
     match words {
-        [word] => is_admin_word(word.as_slice()),
-        _ => false,
+        Some(Words::Admin) => admin(alloc, source, sink, disk, clock),
+        Some(Words::Create(realm)) => create(alloc, &realm, sink, disk, clock),
+        Some(Words::Destroy) => end(alloc, sink, disk),
+        None => match refuse(alloc, sink, Refusal::BadLine) {
+            Ok(()) => Ok(true),
+            Err(halt) => Err(SessionHalt::from(halt)),
+        },
     }
 }
 
-/// Does all that the program does: it judges the words, opens the database in file 1 of the disk,
-/// answers each line of the source to the sink, and keeps the file the way the replies say.
+/// The status of a run that went through or was stopped.
+fn status_at_end(ended: Result<bool, SessionHalt>) -> Status
+    ensures { result ≡ status_after ended }
+{
+    match ended {
+        Ok(true) => Status::Refused,
+        Ok(false) => Status::Done,
+        Err(halt) => status_of(halt),
+    }
+}
+
+/// Does all that the program does: it judges the words, makes, ends or opens the database on the disk,
+/// answers each line of the source to the sink, and keeps the disk the way the replies say.
 ///
-/// The one word is `admin`; other words are answered by `err 1 BadLine`, and a file 1 that stands for
-/// no database by `err 22 Damaged 1 0`, before any input is read. Each reply is written whole before
-/// the next line is judged, and after its change is in the file.
+/// The words are `admin`, `create REALM` or `destroy`; other words are answered by `err 1 BadLine`, and
+/// a bad realm by `err 13 BadValue realm`, and no file is touched. Each reply is written whole before
+/// the next line is judged, and after its change is on the disk: a crash at any moment leaves the
+/// database after some of the commands, among them each of which a byte was answered.
 pub fn run_local<S: Source, K: Sink, D: Disk, C: Clock, E: Entropy>(
     alloc: Global,
     words: &[Vec<u8>],
@@ -155,29 +334,32 @@ pub fn run_local<S: Source, K: Sink, D: Disk, C: Clock, E: Entropy>(
     clock: &mut C,
     _entropy: &mut E,
 ) -> Status
-    // Where all is told: the bytes are the replies, the file stands for the database after them, and
-    // the status says whether a refusal is among them.
-    ensures ended { D.tells → (opening : Opening) → IsOpening (map (λ word. word.items) words.now) ((D.view disk.old).seen 1) opening → (end : RunEnd)
-        → run_end opening (D.view disk.old).seen (K.taken sink.old) (input_commands (S.left source.old)) (C.moments clock.old) ≡ Some end
-        → OnEnd result (λ refused. RunEndsAs (K.taken sink.new) (D.view disk.new).seen refused end) }
+    // Where all is told: the bytes are the replies, a crash afterwards leaves the last place, and the
+    // status says whether a refusal is among the replies.
+    ensures ended { D.tells → (found : Result Place WhyNot) → Stands found (D.view disk.old) → (end : RunEnd)
+        → run_end (opening_of (words_in (map (λ word. word.items) words.now)) (D.view disk.old).seen) found (K.taken sink.old) (input_commands (S.left source.old)) (C.moments clock.old) ≡ Some end
+        → OnEnd result (λ refused. RunEndsAs (K.taken sink.new) refused (D.view disk.new) end) }
 
-    // Where it stops early: the bytes are a front of the replies, and the file stands for the database
-    // after some of the commands, among them each of which a byte was answered.
-    ensures stopped { D.tells → (opening : Opening) → IsOpening (map (λ word. word.items) words.now) ((D.view disk.old).seen 1) opening
-        → OnStop result (RunStops opening (D.view disk.old).seen (K.taken sink.old) (input_commands (S.left source.old)) (C.moments clock.old)) (K.taken sink.new) (D.view disk.new).seen }
+    // Where it stops early: the bytes are a front of the replies, and a crash leaves the place after
+    // some of the commands, among them each of which a byte was answered.
+    ensures stopped { D.tells → (found : Result Place WhyNot) → Stands found (D.view disk.old)
+        → OnStop result (RunStops (opening_of (words_in (map (λ word. word.items) words.now)) (D.view disk.old).seen) found (K.taken sink.old) (input_commands (S.left source.old)) (C.moments clock.old) (K.taken sink.new) (D.view disk.new)) }
+
+    // A crash at any moment of it leaves what was there or a place of the run, or nothing while a
+    // database is made or once its end has begun.
+    ensures moments { D.tells → (found : Result Place WhyNot) → Stands found (D.view disk.old)
+        → LeavesOnly (D.view disk.old) (D.view disk.new) (RunLeaves (opening_of (words_in (map (λ word. word.items) words.now)) (D.view disk.old).seen) found (input_commands (S.left source.old)) (C.moments clock.old)) }
 
     // What was read of the input.
-    ensures done { result ≡ Status.Done → IsSpent (S.left source.new) × IsShortInput (S.left source.old) }
+    ensures done { result ≡ Status.Done → words_in (map (λ word. word.items) words.now) ≡ Some Admin → IsSpent (S.left source.new) × IsShortInput (S.left source.old) }
     ensures refused { result ≡ Status.Refused → (IsSpent (S.left source.new) × IsShortInput (S.left source.old)) ⊎ (source.new ≡ source.old) }
-    ensures read_to_end { D.tells → (state : State) → map (λ word. word.items) words.now ≡ admin_words → Spells ((D.view disk.old).seen 1) state
-        → OnEnd result (λ _. IsSpent (S.left source.new)) }
-    // Other words, and a file that stands for no database, are refused before any input is read.
-    ensures other_words { map (λ word. word.items) words.now ≢ admin_words → source.new ≡ source.old }
-    ensures damaged { D.tells → ((state : State) → Spells ((D.view disk.old).seen 1) state → ⊥) → source.new ≡ source.old }
+    ensures read_to_end { D.tells → ReadsInput (opening_of (words_in (map (λ word. word.items) words.now)) (D.view disk.old).seen) → OnEnd result (λ _. IsSpent (S.left source.new)) }
+    // No input is read but where a database was opened for it, and other words touch no file.
+    ensures unread { D.tells → (ReadsInput (opening_of (words_in (map (λ word. word.items) words.now)) (D.view disk.old).seen) → ⊥) → source.new ≡ source.old }
+    ensures other_words { words_in (map (λ word. word.items) words.now) ≢ Some Admin → source.new ≡ source.old }
+    ensures no_words { words_in (map (λ word. word.items) words.now) ≡ None → disk.new ≡ disk.old }
+    ensures bad_realm { (realm : List ℕ) → words_in (map (λ word. word.items) words.now) ≡ Some (Create realm) → is_realm realm ≡ false → disk.new ≡ disk.old }
     ensures too_long { result ≡ Status.InputTooLong → WereTaken 4294967296 (S.left source.old) (S.left source.new) }
-
-    // Unless the disk failed, what a crash leaves of the file after the run is what it reads.
-    ensures durable { D.tells → IsDurable (D.view disk.old) → result ≢ Status.DiskFault → IsDurable (D.view disk.new) }
 
     // The causes.
     ensures read { result ≡ Status.ReadFault → Rose (S.faults source.old) (S.faults source.new) }
@@ -189,15 +371,8 @@ pub fn run_local<S: Source, K: Sink, D: Disk, C: Clock, E: Entropy>(
     ensures disk_later { D.faults disk.old ≤ D.faults disk.new }
     ensures entropy_unused { E.faults _entropy.new ≡ E.faults _entropy.old }
 {
-    if is_admin(words) {
-        match admin(alloc, source, sink, disk, clock) {
-            Ok(refused) => status_of_end(refused),
-            Err(halt) => status_of(halt),
-        }
-    } else {
-        match refuse(alloc, sink, Refusal::BadLine) {
-            Ok(()) => Status::Refused,
-            Err(halt) => status_of(SessionHalt::from(halt)),
-        }
+    match read_words(alloc, words) {
+        Ok(found) => status_at_end(run_words(alloc, found, source, sink, disk, clock)),
+        Err(_) => Status::MemoryOut,
     }
 }

@@ -1,8 +1,8 @@
 use kadm_top::run_local;
-use kdb_base::{Blob, Fails, Status, Time};
-use kdb_disk::MemoryDisk;
-use kdb_disk::whole::replace_file;
+use kdb_base::{Blob, Fails, Point, Status, Time};
+use kdb_disk::{MemoryDisk, replace_file};
 use kdb_ports::{MemoryClock, MemorySink, MemorySource, ZeroEntropy};
+use kdb_store::{Rows, create_files};
 use std::alloc::Global;
 use std::process::Abort;
 use std::test::Fail;
@@ -12,21 +12,18 @@ use std::test::Fail;
 struct Outcome {
     status: Status,
     replies: Vec<u8>,
-    file: Vec<u8>,
 }
 
-/// The calls of the source, the sink and the disk that are to fail, by their numbers.
+/// The calls of the source and the sink that are to fail, by their numbers.
 #[derive(Clone, Copy)]
 struct Faults<'a> {
     source: &'a [u64],
     sink: &'a [u64],
-    disk: &'a [u64],
 }
 
 const NO_FAULTS: Faults<'static> = Faults {
     source: &[],
     sink: &[],
-    disk: &[],
 };
 
 /// Three lines, of which the second and the third are refused.
@@ -34,35 +31,31 @@ const THREE_LINES: &[u8] = b"addprinc -nokey alice\naddprinc -nokey alice\nfrob\
 
 const THREE_REPLIES: &[u8] = b"ok 2 1700000000.000000\nerr 3 Duplicate\nerr 1 BadLine\n";
 
-/// `KDBA`, one name, the time 1700000000.000000, and the name.
-const ALICE: &[u8] = b"KDBA\x00\x00\x00\x01\x65\x53\xf1\x00\x00\x00\x00\x00\x00\x05alice";
+const ONE_LINE: &[u8] = b"addprinc -nokey alice\n";
 
 fn fails(alloc: Global, calls: &[u64]) -> Result<Fails, Fail> {
     Ok(Fails::from_vec(calls.to_vec(alloc)?))
 }
 
-/// A run over a new disk in memory, at the clock 1700000000.000000.
-fn run(alloc: Global, word: &str, input: &[u8], faults: &Faults) -> Result<Outcome, Fail> {
-    let mut disk = MemoryDisk::new(alloc, fails(alloc, faults.disk)?)?;
-    run_over(alloc, word, input, faults, &mut disk)
-}
-
-fn run_over(
+/// A run at the clock 1700000000.000000. The words are separated by spaces.
+fn run(
     alloc: Global,
-    word: &str,
+    disk: &mut MemoryDisk,
+    words: &str,
     input: &[u8],
     faults: &Faults,
-    disk: &mut MemoryDisk,
 ) -> Result<Outcome, Fail> {
-    let mut words = Vec::new(alloc);
-    words.push(word.as_bytes().to_vec(alloc)?)?;
+    let mut list = Vec::new(alloc);
+    for word in words.split(' ') {
+        list.push(word.as_bytes().to_vec(alloc)?)?;
+    }
     let input = Blob::from_bytes(alloc, input)?;
     let mut source = MemorySource::new(input, fails(alloc, faults.source)?);
     let mut sink = MemorySink::new(alloc, fails(alloc, faults.sink)?)?;
     let mut clock = MemoryClock::new(Time::new(1_700_000_000, 0));
     let status = run_local(
         alloc,
-        &words,
+        &list,
         &mut source,
         &mut sink,
         disk,
@@ -72,189 +65,203 @@ fn run_over(
     Ok(Outcome {
         status,
         replies: sink.written().to_vec(alloc)?,
-        file: disk.bytes(1).to_vec(alloc)?,
     })
 }
 
-fn check(rt: &impl Abort, outcome: &Outcome, status: Status, replies: &[u8], file: &[u8]) {
+fn check(rt: &impl Abort, outcome: &Outcome, status: Status, replies: &[u8]) {
     assert_eq!(rt; outcome.status, status);
     assert_eq!(rt; outcome.replies.as_slice(), replies);
-    assert_eq!(rt; outcome.file.as_slice(), file);
 }
 
-#[test]
-fn an_input_without_lines_changes_nothing(rt: HostRuntime) -> Result<(), Fail> {
-    let outcome = run(rt.alloc(), "admin", b"", &NO_FAULTS)?;
-    check(&rt, &outcome, Status::Done, b"", b"");
-    Ok(())
+/// A disk with the database of EXAMPLE.ORG, of which these calls are to fail.
+fn created(alloc: Global, disk_fails: &[u64]) -> Result<MemoryDisk, Fail> {
+    let mut disk = MemoryDisk::new(alloc, fails(alloc, disk_fails)?)?;
+    run(alloc, &mut disk, "create EXAMPLE.ORG", b"", &NO_FAULTS)?;
+    Ok(disk)
 }
 
-#[test]
-fn lines_are_answered_and_stored(rt: HostRuntime) -> Result<(), Fail> {
-    let outcome = run(rt.alloc(), "admin", THREE_LINES, &NO_FAULTS)?;
-    check(&rt, &outcome, Status::Refused, THREE_REPLIES, ALICE);
-    let outcome = run(rt.alloc(), "admin", b"addprinc -nokey alice", &NO_FAULTS)?;
-    check(
-        &rt,
-        &outcome,
-        Status::Done,
-        b"ok 2 1700000000.000000\n",
-        ALICE,
-    );
-    Ok(())
-}
-
-#[test]
-fn other_words_are_refused(rt: HostRuntime) -> Result<(), Fail> {
-    let outcome = run(rt.alloc(), "frob", THREE_LINES, &NO_FAULTS)?;
-    check(&rt, &outcome, Status::Refused, b"err 1 BadLine\n", b"");
-    Ok(())
-}
-
-#[test]
-fn the_next_run_goes_on(rt: HostRuntime) -> Result<(), Fail> {
-    let alloc = rt.alloc();
-    let mut disk = MemoryDisk::new(alloc, Fails::none(alloc))?;
-    run_over(
-        alloc,
-        "admin",
-        b"addprinc -nokey b\n",
-        &NO_FAULTS,
-        &mut disk,
-    )?;
-    let outcome = run_over(
-        alloc,
-        "admin",
-        b"addprinc -nokey b\naddprinc -nokey a\n",
-        &NO_FAULTS,
-        &mut disk,
-    )?;
-    let replies = b"err 3 Duplicate\nok 3 1700000000.000000\n";
-    let both = b"KDBA\x00\x00\x00\x02\x65\x53\xf1\x00\x00\x00\x00\x00\x00\x01a\x00\x01b";
-    check(&rt, &outcome, Status::Refused, replies, both);
-    Ok(())
-}
-
-/// Files that stand for no database.
-const DAMAGED: [&[u8]; 9] = [
-    // another front
-    b"KDBx",
-    // no name
-    b"KDBA\x00\x00\x00\x00\x65\x53\xf1\x00\x00\x00\x00\x00",
-    // a count of one more
-    b"KDBA\x00\x00\x00\x02\x65\x53\xf1\x00\x00\x00\x00\x00\x00\x05alice",
-    // a million microseconds
-    b"KDBA\x00\x00\x00\x01\x65\x53\xf1\x00\x00\x0f\x42\x40\x00\x05alice",
-    // a byte behind
-    b"KDBA\x00\x00\x00\x01\x65\x53\xf1\x00\x00\x00\x00\x00\x00\x05alicex",
-    // a name that ends early
-    b"KDBA\x00\x00\x00\x01\x65\x53\xf1\x00\x00\x00\x00\x00\x00\x05alic",
-    // a name of other bytes
-    b"KDBA\x00\x00\x00\x01\x65\x53\xf1\x00\x00\x00\x00\x00\x00\x05Alice",
-    // a name twice
-    b"KDBA\x00\x00\x00\x02\x65\x53\xf1\x00\x00\x00\x00\x00\x00\x01a\x00\x01a",
-    // names out of order
-    b"KDBA\x00\x00\x00\x02\x65\x53\xf1\x00\x00\x00\x00\x00\x00\x01b\x00\x01a",
+/// The control slot after a creation: size 1000, block 2048, base 1 1700000000.000000.
+const FIRST_SLOT: [u8; 31] = [
+    0xa5, 0x4b, 0x44, 0x42, 0x50, 0x00, 0x01, 0x00, 0x01, 0x03, 0x00, 0x00, 0x00, 0x03, 0xe8, 0x00,
+    0x00, 0x08, 0x00, 0x00, 0x00, 0x00, 0x01, 0x65, 0x53, 0xf1, 0x00, 0x00, 0x00, 0x00, 0x00,
 ];
 
 #[test]
-fn a_damaged_file_is_refused(rt: HostRuntime) -> Result<(), Fail> {
-    for file in DAMAGED {
-        let mut disk = MemoryDisk::new(rt.alloc(), Fails::none(rt.alloc()))?;
-        replace_file(&mut disk, 1, file)?;
-        let outcome = run_over(rt.alloc(), "admin", THREE_LINES, &NO_FAULTS, &mut disk)?;
-        check(
-            &rt,
-            &outcome,
-            Status::Refused,
-            b"err 22 Damaged 1 0\n",
-            file,
-        );
-    }
-    Ok(())
-}
-
-/// A file of 100000 names of seven bytes.
-fn full_file(alloc: Global) -> Result<Vec<u8>, Fail> {
-    let mut file = b"KDBA\x00\x01\x86\xa0\x65\x53\xf1\x00\x00\x00\x00\x00".to_vec(alloc)?;
-    for number in 0..100_000u32 {
-        let name = format!(in alloc; "\x00\x07n{number:06}")?;
-        file.extend_from_slice(name.as_bytes())?;
-    }
-    Ok(file)
-}
-
-#[test]
-fn a_full_database_takes_no_more(rt: HostRuntime) -> Result<(), Fail> {
+fn a_database_is_made_changed_and_ended(rt: HostRuntime) -> Result<(), Fail> {
     let alloc = rt.alloc();
-    let file = full_file(alloc)?;
     let mut disk = MemoryDisk::new(alloc, Fails::none(alloc))?;
-    replace_file(&mut disk, 1, &file)?;
-    let input = b"addprinc -nokey n000000\naddprinc -nokey x\n";
-    let outcome = run_over(alloc, "admin", input, &NO_FAULTS, &mut disk)?;
-    let replies = b"err 3 Duplicate\nerr 29 RowsFull 100000\n";
-    check(&rt, &outcome, Status::Refused, replies, &file);
+    let made = run(alloc, &mut disk, "create EXAMPLE.ORG", b"", &NO_FAULTS)?;
+    check(&rt, &made, Status::Done, b"ok 1 1700000000.000000\n");
+    assert_eq!(rt; disk.bytes(0).starts_with(&FIRST_SLOT), true);
+    assert_eq!(rt; disk.bytes(0)[31..64].iter().all(|byte| *byte == 0), true);
+    let added = run(alloc, &mut disk, "admin", ONE_LINE, &NO_FAULTS)?;
+    check(&rt, &added, Status::Done, b"ok 2 1700000000.000000\n");
+    let again = run(alloc, &mut disk, "create EXAMPLE.ORG", b"", &NO_FAULTS)?;
+    check(&rt, &again, Status::Refused, b"err 21 AlreadyThere\n");
+    let ended = run(alloc, &mut disk, "destroy", b"", &NO_FAULTS)?;
+    check(&rt, &ended, Status::Done, b"ok\n");
+    let none = run(alloc, &mut disk, "admin", ONE_LINE, &NO_FAULTS)?;
+    check(&rt, &none, Status::Refused, b"err 20 NotADatabase\n");
+    let none = run(alloc, &mut disk, "destroy", b"", &NO_FAULTS)?;
+    check(&rt, &none, Status::Refused, b"err 20 NotADatabase\n");
     Ok(())
 }
 
 #[test]
-fn a_fault_of_each_device_ends_the_run(rt: HostRuntime) -> Result<(), Fail> {
+fn lines_are_answered_and_the_next_run_goes_on(rt: HostRuntime) -> Result<(), Fail> {
     let alloc = rt.alloc();
+    let mut disk = created(alloc, &[])?;
+    let empty = run(alloc, &mut disk, "admin", b"", &NO_FAULTS)?;
+    check(&rt, &empty, Status::Done, b"");
+    let three = run(alloc, &mut disk, "admin", THREE_LINES, &NO_FAULTS)?;
+    check(&rt, &three, Status::Refused, THREE_REPLIES);
+    // The last line may lack its line feed.
+    let next = b"addprinc -nokey alice\naddprinc -nokey bob";
+    let on = run(alloc, &mut disk, "admin", next, &NO_FAULTS)?;
+    let replies = b"err 3 Duplicate\nok 3 1700000000.000000\n";
+    check(&rt, &on, Status::Refused, replies);
+    Ok(())
+}
+
+/// Words, and the reply to them on an empty disk.
+const WORDS: [(&str, &[u8]); 16] = [
+    ("frob", b"err 1 BadLine\n"),
+    ("", b"err 1 BadLine\n"),
+    ("admin x", b"err 1 BadLine\n"),
+    ("admin -- --", b"err 1 BadLine\n"),
+    ("create", b"err 1 BadLine\n"),
+    ("create EXAMPLE.ORG x", b"err 1 BadLine\n"),
+    ("create -P x", b"err 1 BadLine\n"),
+    ("create EXAMPLE_ORG", b"err 13 BadValue realm\n"),
+    ("create ", b"err 13 BadValue realm\n"),
+    ("destroy x", b"err 1 BadLine\n"),
+    ("destroy -f -f", b"err 1 BadLine\n"),
+    ("destroy -- -f", b"err 1 BadLine\n"),
+    ("admin --", b"err 20 NotADatabase\n"),
+    ("destroy -f", b"err 20 NotADatabase\n"),
+    ("destroy -f --", b"err 20 NotADatabase\n"),
+    ("create -P --", b"ok 1 1700000000.000000\n"),
+];
+
+#[test]
+fn words_are_judged_first(rt: HostRuntime) -> Result<(), Fail> {
+    let alloc = rt.alloc();
+    for (words, reply) in WORDS {
+        let mut disk = MemoryDisk::new(alloc, Fails::none(alloc))?;
+        let outcome = run(alloc, &mut disk, words, THREE_LINES, &NO_FAULTS)?;
+        assert_eq!(rt; outcome.replies.as_slice(), reply);
+    }
+    Ok(())
+}
+
+#[test]
+fn a_damaged_file_is_refused(rt: HostRuntime) -> Result<(), Fail> {
+    let alloc = rt.alloc();
+    let mut disk = created(alloc, &[])?;
+    replace_file(&mut disk, 1, b"KDBI")?;
+    let outcome = run(alloc, &mut disk, "admin", THREE_LINES, &NO_FAULTS)?;
+    check(&rt, &outcome, Status::Refused, b"err 22 Damaged 1 0\n");
+    // Two open slots with equal turns.
+    let mut control = disk.bytes(0)[..64].to_vec(alloc)?;
+    let slot = control.as_slice().to_vec(alloc)?;
+    control.extend_from_slice(&slot)?;
+    replace_file(&mut disk, 0, &control)?;
+    let outcome = run(alloc, &mut disk, "destroy", b"", &NO_FAULTS)?;
+    check(&rt, &outcome, Status::Refused, b"err 22 Damaged 0 64\n");
+    let outcome = run(alloc, &mut disk, "create EXAMPLE.ORG", b"", &NO_FAULTS)?;
+    check(&rt, &outcome, Status::Refused, b"err 21 AlreadyThere\n");
+    Ok(())
+}
+
+/// 100000 names of seven bytes.
+fn many_names(alloc: Global) -> Result<Vec<Blob>, Fail> {
+    let mut names = Vec::new(alloc);
+    for number in 0..100_000u32 {
+        let name = format!(in alloc; "n{number:06}")?;
+        names.push(Blob::from_bytes(alloc, name.as_bytes())?)?;
+    }
+    Ok(names)
+}
+
+/// A disk with a database of these rows, whose last change has this serial.
+fn holding(alloc: Global, names: Vec<Blob>, sno: u32) -> Result<MemoryDisk, Fail> {
+    let mut disk = MemoryDisk::new(alloc, Fails::none(alloc))?;
+    let rows = Rows::from_names(names).map_err(|_| Fail::new("the names are not in order"))?;
+    let base = Point {
+        sno,
+        time: Time::new(1_700_000_000, 0),
+    };
+    create_files(alloc, &mut disk, b"EXAMPLE.ORG", rows, base, 1000, 2048).map_err(|_| Fail::new(
+        "no database was made",
+    ))?;
+    Ok(disk)
+}
+
+#[test]
+fn a_full_database_and_the_last_serial_take_no_more(rt: HostRuntime) -> Result<(), Fail> {
+    let alloc = rt.alloc();
+    let mut disk = holding(alloc, many_names(alloc)?, 100_001)?;
+    let input = b"addprinc -nokey n000000\naddprinc -nokey x\n";
+    let full = run(alloc, &mut disk, "admin", input, &NO_FAULTS)?;
+    let replies = b"err 3 Duplicate\nerr 29 RowsFull 100000\n";
+    check(&rt, &full, Status::Refused, replies);
+    let mut disk = holding(alloc, Vec::new(alloc), u32::MAX)?;
+    let end = run(alloc, &mut disk, "admin", ONE_LINE, &NO_FAULTS)?;
+    check(&rt, &end, Status::Refused, b"err 23 TimeEnd\n");
+    Ok(())
+}
+
+#[test]
+fn a_fault_of_the_source_or_the_sink_ends_the_run(rt: HostRuntime) -> Result<(), Fail> {
+    let alloc = rt.alloc();
+    let mut disk = created(alloc, &[])?;
     let first = Faults {
         source: &[0],
         ..NO_FAULTS
     };
-    check(
-        &rt,
-        &run(alloc, "admin", THREE_LINES, &first)?,
-        Status::ReadFault,
-        b"",
-        b"",
-    );
-    let later = Faults {
-        source: &[1],
-        ..NO_FAULTS
-    };
-    check(
-        &rt,
-        &run(alloc, "admin", THREE_LINES, &later)?,
-        Status::ReadFault,
-        THREE_REPLIES,
-        ALICE,
-    );
+    let outcome = run(alloc, &mut disk, "admin", THREE_LINES, &first)?;
+    check(&rt, &outcome, Status::ReadFault, b"");
     let second = Faults {
         sink: &[1],
         ..NO_FAULTS
     };
-    let outcome = run(alloc, "admin", THREE_LINES, &second)?;
+    let outcome = run(alloc, &mut disk, "admin", THREE_LINES, &second)?;
     check(
         &rt,
         &outcome,
         Status::WriteFault,
         b"ok 2 1700000000.000000\n",
-        ALICE,
     );
-    let opening = Faults {
-        disk: &[0],
+    let later = Faults {
+        source: &[1],
         ..NO_FAULTS
     };
-    check(
-        &rt,
-        &run(alloc, "admin", THREE_LINES, &opening)?,
-        Status::DiskFault,
-        b"",
-        b"",
-    );
-    let storing = Faults {
-        disk: &[1],
-        ..NO_FAULTS
-    };
-    check(
-        &rt,
-        &run(alloc, "admin", THREE_LINES, &storing)?,
-        Status::DiskFault,
-        b"",
-        b"",
-    );
+    let outcome = run(alloc, &mut disk, "admin", b"frob\n", &later)?;
+    check(&rt, &outcome, Status::ReadFault, b"err 1 BadLine\n");
+    Ok(())
+}
+
+/// How many calls of the disk these runs take.
+fn count_calls(alloc: Global) -> Result<(u64, u64), Fail> {
+    let mut disk = created(alloc, &[])?;
+    let before = disk.calls();
+    run(alloc, &mut disk, "admin", ONE_LINE, &NO_FAULTS)?;
+    Ok((before, disk.calls()))
+}
+
+#[test]
+fn a_fault_of_the_disk_leaves_the_change_whole_or_none_of_it(rt: HostRuntime) -> Result<(), Fail> {
+    let alloc = rt.alloc();
+    let (before, after) = count_calls(alloc)?;
+    for call in before..after {
+        let mut disk = created(alloc, &[call])?;
+        let failed = run(alloc, &mut disk, "admin", ONE_LINE, &NO_FAULTS)?;
+        assert_eq!(rt; failed.status, Status::DiskFault);
+        assert_eq!(rt; failed.replies.as_slice(), b"".as_slice());
+        let next = run(alloc, &mut disk, "admin", ONE_LINE, &NO_FAULTS)?;
+        let added = next.replies.as_slice() == b"ok 2 1700000000.000000\n".as_slice();
+        let there = next.replies.as_slice() == b"err 3 Duplicate\n".as_slice();
+        assert_eq!(rt; added || there, true);
+    }
     Ok(())
 }

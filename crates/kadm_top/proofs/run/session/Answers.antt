@@ -1,18 +1,25 @@
-use Rattle.std.proofs.Common.{◌∙◌, ap, List, Option, false, subst}
+use Rattle.std.proofs.Common.{◌∙◌, ap, subst, List, Option, false}
+use Rattle.kdb_disk.specs.Moments.{LeavesOnly}
+use Rattle.kdb_store.specs.Places.{place_of}
+use Rattle.kadm_top.specs.Run.{among_places, input_commands}
 use Rattle.kadm_top.specs.Steps.{Command, ending}
-use Rattle.kadm_top.specs.Stops.{Stops, OnSessionStopped}
+use Rattle.kadm_top.specs.Stops.{Stops, IsStopped}
+use Rattle.kadm_top.proofs.OneCommand.{among_still, holds_stands}
 use Rattle.kadm_top.proofs.Turning.{stops_here}
-use Rattle.kadm_top.proofs.Running.{fresh_coming, fresh_taken, short_input, run_ended}
+use Rattle.kadm_top.proofs.Running.{run_ended, fresh_coming, fresh_taken, short_input, were_taken}
 use Rattle.kadm_top.proofs.run.session.Goals as goal
 
 pub returns-in-Err-clause-stopped : goal.returns-in-Err-clause-stopped
-returns-in-Err-clause-stopped g c = λ told start shows. stops_here start _ _ _ _ c.args.database shows
+returns-in-Err-clause-stopped g c = λ told. stops_here _ _ _ _ _ (holds_stands (c.requires.holds told))
+
+pub returns-in-Err-clause-moments : goal.returns-in-Err-clause-moments
+returns-in-Err-clause-moments g c = λ told. among_still _ (input_commands (g.S.Source.left c.args.source.now)) _ (c.requires.holds told)
 
 pub returns-in-Ok-serve-clause-ended : goal.returns-in-Ok-serve-clause-ended
-returns-in-Ok-serve-clause-ended g c = λ told start shows end e.
-    run_ended start _ _ c.in-Ok-serve.refused _ _ end e
-    (λ x is. c.in-Ok-serve.ensures.ended x (ap (λ (commands : Option (List Command)). ending (g.K.Sink.taken c.args.sink.now) false commands (g.C.Clock.moments c.args.clock.now) c.args.database) (fresh_coming _ (g.S.Source.left c.args.source.now) c.in-Ok.ensures) ∙ is))
-    (c.in-Ok-serve.ensures.shows told start shows)
+returns-in-Ok-serve-clause-ended g c = λ told end e.
+    run_ended _ c.in-Ok-serve.refused _ end
+    (c.in-Ok-serve.ensures.ended end (ap (λ (commands : Option (List Command)). ending (g.K.Sink.taken c.args.sink.now) false commands (g.C.Clock.moments c.args.clock.now) (place_of c.args.opened)) (fresh_coming _ (g.S.Source.left c.args.source.now) c.in-Ok.ensures) ∙ e))
+    (c.in-Ok-serve.ensures.holds told)
 
 pub returns-in-Ok-serve-clause-spent : goal.returns-in-Ok-serve-clause-spent
 returns-in-Ok-serve-clause-spent g c =
@@ -23,7 +30,22 @@ returns-in-Ok-serve-clause-short g c =
     short_input (g.S.Source.left c.args.source.now) _ _
     (c.in-Ok-serve.ensures.takes (g.S.Source.left c.args.source.now) (fresh_taken _ (g.S.Source.left c.args.source.now) c.in-Ok.ensures)) c.in-Ok-serve.ensures.over
 
+pub returns-in-Ok-serve-clause-moments : goal.returns-in-Ok-serve-clause-moments
+returns-in-Ok-serve-clause-moments g c = λ told.
+    subst (λ (commands : Option (List Command)). LeavesOnly (g.D.Disk.view c.args.disk.now) (g.D.Disk.view c.serve.new.disk) (among_places commands (g.C.Clock.moments c.args.clock.now) (place_of c.args.opened)))
+    (fresh_coming _ (g.S.Source.left c.args.source.now) c.in-Ok.ensures) (c.serve.ensures.moments told)
+
+pub returns-clause-moments : goal.returns-clause-moments
+returns-clause-moments g c = λ told.
+    subst (λ (commands : Option (List Command)). LeavesOnly (g.D.Disk.view c.args.disk.now) (g.D.Disk.view c.serve.new.disk) (among_places commands (g.C.Clock.moments c.args.clock.now) (place_of c.args.opened)))
+    (fresh_coming _ (g.S.Source.left c.args.source.now) c.in-Ok.ensures) (c.serve.ensures.moments told)
+
 pub returns-clause-stopped : goal.returns-clause-stopped
-returns-clause-stopped g c = λ told start shows.
-    subst (λ (commands : Option (List Command)). OnSessionStopped c.in-Err-serve.halt (Stops start (g.K.Sink.taken c.args.sink.now) commands (g.C.Clock.moments c.args.clock.now) c.args.database) (g.K.Sink.taken c.serve.new.sink) (g.D.Disk.view c.serve.new.disk).seen)
-    (fresh_coming _ (g.S.Source.left c.args.source.now) c.in-Ok.ensures) (c.in-Err-serve.ensures.stopped told start shows)
+returns-clause-stopped g c = λ told.
+    subst (λ (commands : Option (List Command)). IsStopped (Stops (g.K.Sink.taken c.args.sink.now) commands (g.C.Clock.moments c.args.clock.now) (place_of c.args.opened)) (g.K.Sink.taken c.serve.new.sink) (g.D.Disk.view c.serve.new.disk))
+    (fresh_coming _ (g.S.Source.left c.args.source.now) c.in-Ok.ensures) (c.in-Err-serve.ensures.stopped told)
+
+pub returns-clause-too_long : goal.returns-clause-too_long
+returns-clause-too_long g c = λ is.
+    were_taken 4294967296 (g.S.Source.left c.args.source.now) _ _
+    (c.serve.ensures.takes (g.S.Source.left c.args.source.now) (fresh_taken _ (g.S.Source.left c.args.source.now) c.in-Ok.ensures)) (c.serve.ensures.too_long (c.in-Err-serve.is ∙ is))

@@ -1,10 +1,13 @@
-use Rattle.std.proofs.Common.{◌∙◌, ap}
-use Rattle.kdb_disk.specs.Files.{Files, with_file}
-use Rattle.kdb_disk.proofs.Puts.{with_file-with_file}
-use Rattle.kadm_top.specs.Image.{image_of}
+use Rattle.std.proofs.Common.{◌∙◌, sym, arith}
+use Rattle.kadm_top.proofs.Texts.{room_left, serial_left, with_row_length}
+use Rattle.kdb_store.specs.Places.{place_of}
 use Rattle.kadm_top.proofs.session.perform.Goals as goal
 
-pub returns-in-Ok-store-clause-shows : goal.returns-in-Ok-store-clause-shows
-returns-in-Ok-store-clause-shows g c = λ told start shows.
-    c.in-Ok-store.ensures.ok told ∙ ap (λ (files : Files). with_file 1 (image_of c.add.new.self) files) shows
-    ∙ with_file-with_file 1 (image_of c.add.new.self) (image_of c.args.database.now) start
+pub commit-requires-clause-room : goal.commit-requires-clause-room
+commit-requires-clause-room g c =
+    let place = place_of c.args.database.now in
+    let few = room_left place c.args.name (sym c.judge.ensures ∙ c.in-None.is) in
+    omega (arith, few, with_row_length c.args.name place.rows)
+
+pub commit-requires-clause-serial : goal.commit-requires-clause-serial
+commit-requires-clause-serial g c = serial_left (place_of c.args.database.now) c.args.name (sym c.judge.ensures ∙ c.in-None.is)

@@ -1,8 +1,15 @@
-use Rattle.kadm_top.proofs.Turning.{ending_on, within_on, stopped_on, stopped_reading, comes_first}
+use Rattle.kadm_top.proofs.OneCommand.{among_still, holds_stands}
+use Rattle.kadm_top.proofs.Turning.{ending_on, within_on, among_on, among_run_on, stopped_on, stops_here, comes_first}
 use Rattle.kadm_top.proofs.session.turn.Goals as goal
 
 pub returns-in-Err-clause-stopped : goal.returns-in-Err-clause-stopped
-returns-in-Err-clause-stopped g c = λ told start shows. stopped_reading start _ _ _ _ _ c.in-Err.halt c.from.result c.from.ensures shows
+returns-in-Err-clause-stopped g c = λ told. stops_here _ _ _ _ _ (holds_stands (c.requires.holds told))
+
+pub returns-in-Err-clause-moments : goal.returns-in-Err-clause-moments
+returns-in-Err-clause-moments g c = λ told. among_still _ _ _ (c.requires.holds told)
+
+pub returns-in-Ok-End-clause-moments : goal.returns-in-Ok-End-clause-moments
+returns-in-Ok-End-clause-moments g c = λ told. among_still _ _ _ (c.requires.holds told)
 
 pub returns-in-Ok-clause-next : goal.returns-in-Ok-clause-next
 returns-in-Ok-clause-next g c = λ refused.
@@ -10,12 +17,27 @@ returns-in-Ok-clause-next g c = λ refused.
     (comes_first _ _ _ _ c.in-Ok-Command.field-0-is c.in-Ok-Command.ensures.next) (c.in-Ok.ensures.next refused)
 
 pub returns-in-Ok-clause-within : goal.returns-in-Ok-clause-within
-returns-in-Ok-clause-within g c = λ told start shows.
-    within_on start c.in-Ok-Command.command _ _ _ _ _ _ _ _
-    (comes_first _ _ _ _ c.in-Ok-Command.field-0-is c.in-Ok-Command.ensures.next) (λ more. c.in-Ok.ensures.within told start more shows)
+returns-in-Ok-clause-within g c =
+    within_on c.in-Ok-Command.command _ _ _ _ _ _ _ _
+    (comes_first _ _ _ _ c.in-Ok-Command.field-0-is c.in-Ok-Command.ensures.next) (λ more. c.in-Ok.ensures.within more)
+
+pub returns-in-Ok-clause-others : goal.returns-in-Ok-clause-others
+returns-in-Ok-clause-others g c =
+    among_on c.in-Ok-Command.command _ _ _ _ _ _
+    (comes_first _ _ _ _ c.in-Ok-Command.field-0-is c.in-Ok-Command.ensures.next) (λ more. c.in-Ok.ensures.others more)
+
+pub returns-in-Ok-clause-moments : goal.returns-in-Ok-clause-moments
+returns-in-Ok-clause-moments g c = λ told.
+    among_run_on c.in-Ok-Command.command _ _ _ _
+    (comes_first _ _ _ _ c.in-Ok-Command.field-0-is c.in-Ok-Command.ensures.next) (c.answer.ensures.moments told)
+
+pub returns-in-Err-answer-clause-moments : goal.returns-in-Err-answer-clause-moments
+returns-in-Err-answer-clause-moments g c = λ told.
+    among_run_on c.in-Ok-Command.command _ _ _ _
+    (comes_first _ _ _ _ c.in-Ok-Command.field-0-is c.in-Ok-Command.ensures.next) (c.answer.ensures.moments told)
 
 pub returns-in-Err-answer-clause-stopped : goal.returns-in-Err-answer-clause-stopped
-returns-in-Err-answer-clause-stopped g c = λ told start shows.
-    stopped_on start c.in-Ok-Command.command _ _ _ _ _ c.in-Err-answer.halt c.from-in-Err-answer.result _ _
-    (comes_first _ _ _ _ c.in-Ok-Command.field-0-is c.in-Ok-Command.ensures.next) c.from-in-Err-answer.ensures
-    (λ more. c.in-Err-answer.ensures.stopped told start more shows)
+returns-in-Err-answer-clause-stopped g c = λ told.
+    stopped_on c.in-Ok-Command.command _ _ _ _ _ _ _
+    (comes_first _ _ _ _ c.in-Ok-Command.field-0-is c.in-Ok-Command.ensures.next)
+    (λ more. c.in-Err-answer.ensures.stopped told more)
