@@ -1,5 +1,5 @@
 -- From a session to a whole run.
-use Rattle.std.proofs.Common.{◌≡◌, ℕ, ◌+◌, List, [], length, refl, ap, sym, ◌∙◌, subst, Bool, true, false, IsTrue, arith, add-zero}
+use Rattle.std.proofs.Common.{◌≡◌, ℕ, ◌+◌, List, [], length, refl, ap, sym, ◌∙◌, subst, inl, inr, Bool, true, false, IsTrue, arith, add-zero}
 use Rattle.std.specs.Prelude.{Option, Some, None, Result, Ok, Err, IfOk, OnErr, option_map}
 use Rattle.std.proofs.lemmas.Option.{same_Some}
 use Rattle.kdb_base.specs.Moment.{Moment}
@@ -11,9 +11,9 @@ use Rattle.kdb_ports.proofs.Told.{after_told-nil}
 use Rattle.kdb_disk.specs.Files.{Files}
 use Rattle.kdb_disk.specs.View.{View}
 use Rattle.kdb_disk.specs.Moments.{Keeps, LeavesOnly}
-use Rattle.kdb_disk.proofs.Runs.{at_end, weaken, kept_first}
+use Rattle.kdb_disk.proofs.Runs.{weaken, kept_first}
 use Rattle.kdb_store.specs.Places.{Place, Holds, found_in, place_in, place_of, recovers}
-use Rattle.kdb_store.specs.Moments.{HasNone, IsLike, RecoversToNone}
+use Rattle.kdb_store.specs.Moments.{IsLike, RecoversToNone}
 use Rattle.kdb_store.specs.declared.opened.Opened.{Opened}
 use Rattle.kadm_lines.specs.Lines.{lines_from}
 use Rattle.kadm_lines.specs.Reader.{ReaderState, to_come}
@@ -26,8 +26,6 @@ use Rattle.kadm_top.specs.Steps.{Command, Ending, EndsAs, ending}
 use Rattle.kadm_top.specs.Stops.{Stops, IsStopped}
 use Rattle.kadm_top.specs.Intake.{coming, HasTaken}
 use Rattle.kadm_top.specs.Run.{Opening, Opens, Refuses, RunEnd, RunEndsAs, RunStops, RunLeaves, IsShortInput, WereTaken, OnEnd, OnStop, admin_of, among_places, behind_opening, end_of, input_commands, refusal_line, run_end}
-use Rattle.kadm_top.proofs.OneCommand.{among_here}
-use Rattle.kadm_top.proofs.Turning.{stops_here}
 
 -- a reader at the front of an input
 abbrev pub fresh : ReaderState
@@ -62,28 +60,26 @@ pub were_taken : (n : ℕ) (told left : Option (List ℕ)) (reader : ReaderState
 were_taken n told left reader takes is = takes.count ∙ ap (λ (k : ℕ). option_map (λ (ys : List ℕ). length ys + k) left) is
 
 -- a run over a database ended
-pub run_ended : {opened : Opened} (taken : Option (List ℕ)) (refused : Bool) (now : View) (end : Ending)
-    → EndsAs taken refused (place_of opened) end → Holds opened now → RunEndsAs taken refused now (end_of end)
-run_ended {opened} taken refused now end ends holds = record {
+pub run_ended : {opened : Opened} (taken : Option (List ℕ)) (refused : Bool) (old now : View) (end : Ending)
+    → EndsAs taken refused (place_of opened) end → Holds opened now → RunEndsAs taken refused old now (end_of end)
+run_ended {opened} taken refused old now end ends holds = record {
   out_is = ends.out;
   refused_is = ends.refused_is;
   stands = record { each = λ c image. ap place_in (holds.each c image) ∙ ap Ok ends.place_is };
 }
 
--- ---- what a crash leaves, from what it left at first
+-- an image of before is like itself
+pub like_itself : {old : View} (c : Files) → old.images c → IsLike old c
+like_itself c image = record { before = c; was = image; same = refl }
 
-pub keeps_stands : {found : Result Place Refusal} {old now : View} → Stands found old → Keeps old now → Stands found now
-keeps_stands stands keeps = record { each = λ c image. stands.each c (at_end keeps.leaves c image) }
-
--- what is like an image of before recovers to the same
-pub like_stands : {found : Result Place Refusal} {old : View} (c : Files) → Stands found old → IsLike old c → recovers c ≡ found
-like_stands c stands like = ap place_in like.same ∙ stands.each like.before like.was
-
-pub none_recovers : (c : Files) → HasNone c → recovers c ≡ Err NotADatabase
-none_recovers c none = ap place_in none
+pub keeps_like : {old now : View} → Keeps old now → LeavesOnly old now (IsLike old)
+keeps_like keeps = weaken keeps.leaves (λ c image. like_itself c image)
 
 pub none_stands : {now : View} → RecoversToNone now → Stands (Err NotADatabase) now
-none_stands none = record { each = λ c image. none_recovers c (none.each c image) }
+none_stands none = record { each = λ c image. ap place_in (none.each c image) }
+
+pub opened_stands : {opened : Opened} {place : Place} {now : View} → Holds opened now → place_of opened ≡ place → Stands (Ok place) now
+opened_stands holds is = record { each = λ c image. ap place_in (holds.each c image) ∙ ap Ok is }
 
 -- ---- the status
 
@@ -109,27 +105,27 @@ on_stop s (Err session.InputTooLong) P is p = subst (λ (x : Status). OnStop x P
 
 -- ---- a refusal of the opening
 
-pub refused_ended : (opening : Opening) (refusal : Refusal) (found : Result Place Refusal) (taken out : Option (List ℕ)) (commands : Option (List Command)) (moments : Option (ℕ → Moment)) (now : View) (end : RunEnd)
-    → opening ≡ Refuses refusal → run_end opening found taken commands moments ≡ Some end → out ≡ after_told taken (refusal_line refusal) → Stands found now → RunEndsAs out true now end
-refused_ended opening refusal found taken out commands moments now end is e said_it stands =
-    subst (λ (x : RunEnd). RunEndsAs out true now x) (same_Some _ _ (sym (ap (λ (o : Opening). run_end o found taken commands moments) is) ∙ e))
-    (record { out_is = said_it; refused_is = refl; stands = stands })
+pub refused_ended : (opening : Opening) (refusal : Refusal) (taken out : Option (List ℕ)) (commands : Option (List Command)) (moments : Option (ℕ → Moment)) (old now : View) (end : RunEnd)
+    → opening ≡ Refuses refusal → run_end opening taken commands moments ≡ Some end → out ≡ after_told taken (refusal_line refusal) → Keeps old now → RunEndsAs out true old now end
+refused_ended opening refusal taken out commands moments old now end is e said_it keeps =
+    subst (λ (x : RunEnd). RunEndsAs out true old now x) (same_Some _ _ (sym (ap (λ (o : Opening). run_end o taken commands moments) is) ∙ e))
+    (record { out_is = said_it; refused_is = refl; stands = keeps })
 
-pub refused_stops : (opening : Opening) (refusal : Refusal) (found : Result Place Refusal) (taken out : Option (List ℕ)) (commands : Option (List Command)) (moments : Option (ℕ → Moment)) (now : View)
-    → opening ≡ Refuses refusal → SaidPart (refusal_line refusal) taken out → Stands found now → RunStops opening found taken commands moments out now
-refused_stops opening refusal found taken out commands moments now is part stands =
-    subst (λ (o : Opening). RunStops o found taken commands moments out now) (sym is) (part, stands)
+pub refused_stops : (opening : Opening) (refusal : Refusal) (old : View) (taken out : Option (List ℕ)) (commands : Option (List Command)) (moments : Option (ℕ → Moment)) (now : View)
+    → opening ≡ Refuses refusal → SaidPart (refusal_line refusal) taken out → Keeps old now → RunStops opening old taken commands moments out now
+refused_stops opening refusal old taken out commands moments now is part keeps =
+    subst (λ (o : Opening). RunStops o old taken commands moments out now) (sym is) (part, keeps)
 
-pub refused_leaves : {old now : View} (opening : Opening) (refusal : Refusal) (found : Result Place Refusal) (commands : Option (List Command)) (moments : Option (ℕ → Moment))
-    → opening ≡ Refuses refusal → Stands found old → Keeps old now → LeavesOnly old now (RunLeaves opening found commands moments)
-refused_leaves opening refusal found commands moments is stands keeps =
-    weaken keeps.leaves (λ c image. subst (λ (o : Opening). RunLeaves o found commands moments c) (sym is) (stands.each c image))
+pub refused_leaves : {old now : View} (opening : Opening) (refusal : Refusal) (commands : Option (List Command)) (moments : Option (ℕ → Moment))
+    → opening ≡ Refuses refusal → Keeps old now → LeavesOnly old now (RunLeaves opening old commands moments)
+refused_leaves {old} opening refusal commands moments is keeps =
+    weaken (keeps_like keeps) (λ c like. subst (λ (o : Opening). RunLeaves o old commands moments c) (sym is) like)
 
 -- nothing was written yet
-pub refused_at_once : (opening : Opening) (refusal : Refusal) (found : Result Place Refusal) (taken : Option (List ℕ)) (commands : Option (List Command)) (moments : Option (ℕ → Moment)) (now : View)
-    → opening ≡ Refuses refusal → Stands found now → RunStops opening found taken commands moments taken now
-refused_at_once opening refusal found taken commands moments now is stands =
-    refused_stops opening refusal found taken taken commands moments now is (record { count = 0; part = sym (after_told-nil taken) }) stands
+pub refused_at_once : (opening : Opening) (refusal : Refusal) (old : View) (taken : Option (List ℕ)) (commands : Option (List Command)) (moments : Option (ℕ → Moment)) (now : View)
+    → opening ≡ Refuses refusal → Keeps old now → RunStops opening old taken commands moments taken now
+refused_at_once opening refusal old taken commands moments now is keeps =
+    refused_stops opening refusal old taken taken commands moments now is (record { count = 0; part = sym (after_told-nil taken) }) keeps
 
 -- ---- an opening for the input
 
@@ -139,48 +135,44 @@ opens_as seen opened is = ap (λ (r : Result Opened Refusal). admin_of (place_in
 pub opens_not : (seen : Files) (refusal : Refusal) → found_in seen ≡ Err refusal → admin_of (recovers seen) ≡ Refuses refusal
 opens_not seen refusal is = ap (λ (r : Result Opened Refusal). admin_of (place_in r)) is
 
-pub opened_ended : (opening : Opening) (place : Place) (found : Result Place Refusal) (taken out : Option (List ℕ)) (refused : Bool) (commands : Option (List Command)) (moments later : Option (ℕ → Moment)) (now : View) (end : RunEnd)
-    → opening ≡ Opens place → later ≡ behind_opening moments → run_end opening found taken commands moments ≡ Some end
-    → ((e : Ending) → ending taken false commands later place ≡ Some e → RunEndsAs out refused now (end_of e)) → RunEndsAs out refused now end
-opened_ended opening place found taken out refused commands moments later now end is next e ends =
+-- an end at a place does not speak of the disk of before
+end_over : {out : Option (List ℕ)} {refused : Bool} {now : View} (mid old : View) (e : Ending) → RunEndsAs out refused mid now (end_of e) → RunEndsAs out refused old now (end_of e)
+end_over mid old e ends = record { out_is = ends.out_is; refused_is = ends.refused_is; stands = ends.stands }
+
+pub opened_ended : (opening : Opening) (place : Place) (taken out : Option (List ℕ)) (refused : Bool) (commands : Option (List Command)) (moments later : Option (ℕ → Moment)) (old mid now : View) (end : RunEnd)
+    → opening ≡ Opens place → later ≡ behind_opening moments → run_end opening taken commands moments ≡ Some end
+    → ((e : Ending) → ending taken false commands later place ≡ Some e → RunEndsAs out refused mid now (end_of e)) → RunEndsAs out refused old now end
+opened_ended opening place taken out refused commands moments later old mid now end is next e ends =
     by (ending taken false commands later place) ends
-    (ap (λ (m : Option (ℕ → Moment)). option_map end_of (ending taken false commands m place)) next ∙ sym (ap (λ (o : Opening). run_end o found taken commands moments) is) ∙ e)
+    (ap (λ (m : Option (ℕ → Moment)). option_map end_of (ending taken false commands m place)) next ∙ sym (ap (λ (o : Opening). run_end o taken commands moments) is) ∙ e)
   where
-    by : (o : Option Ending) → ((x : Ending) → o ≡ Some x → RunEndsAs out refused now (end_of x)) → option_map end_of o ≡ Some end → RunEndsAs out refused now end
+    by : (o : Option Ending) → ((x : Ending) → o ≡ Some x → RunEndsAs out refused mid now (end_of x)) → option_map end_of o ≡ Some end → RunEndsAs out refused old now end
     by None f e = absurd cc
-    by (Some x) f e = subst (λ (y : RunEnd). RunEndsAs out refused now y) (same_Some _ _ e) (f x refl)
+    by (Some x) f e = subst (λ (y : RunEnd). RunEndsAs out refused old now y) (same_Some _ _ e) (end_over mid old x (f x refl))
 
-pub opened_stops : (opening : Opening) (place : Place) (found : Result Place Refusal) (taken out : Option (List ℕ)) (commands : Option (List Command)) (moments later : Option (ℕ → Moment)) (now : View)
-    → opening ≡ Opens place → later ≡ behind_opening moments → IsStopped (Stops taken commands later place) out now → RunStops opening found taken commands moments out now
-opened_stops opening place found taken out commands moments later now is next stopped =
-    subst (λ (o : Opening). RunStops o found taken commands moments out now) (sym is)
-    (subst (λ (m : Option (ℕ → Moment)). IsStopped (Stops taken commands m place) out now) next stopped)
+pub opened_stops : (opening : Opening) (place : Place) (old : View) (taken out : Option (List ℕ)) (commands : Option (List Command)) (moments later : Option (ℕ → Moment)) (now : View)
+    → opening ≡ Opens place → later ≡ behind_opening moments → IsStopped (Stops taken commands later place) out now → RunStops opening old taken commands moments out now
+opened_stops opening place old taken out commands moments later now is next stopped =
+    subst (λ (o : Opening). RunStops o old taken commands moments out now) (sym is)
+    (inl (subst (λ (m : Option (ℕ → Moment)). IsStopped (Stops taken commands m place) out now) next stopped))
 
--- what a crash leaves before the database is opened
-pub found_leaves : (seen c : Files) (found : Result Place Refusal) (commands : Option (List Command)) (moments : Option (ℕ → Moment))
-    → recovers seen ≡ found → recovers c ≡ found → RunLeaves (admin_of (recovers seen)) found commands moments c
-found_leaves seen c found commands moments is here = subst (λ (r : Result Place Refusal). RunLeaves (admin_of r) found commands moments c) (sym is) (by found here)
-  where
-    by : (r : Result Place Refusal) → recovers c ≡ r → RunLeaves (admin_of r) r commands moments c
-    by (Ok place) h = among_here commands (behind_opening moments) place c h
-    by (Err refusal) h = h
-
-pub opened_leaves : {old mid now : View} (opening : Opening) (place : Place) (found : Result Place Refusal) (commands : Option (List Command)) (moments later : Option (ℕ → Moment))
-    → opening ≡ Opens place → later ≡ behind_opening moments → Keeps old mid → ((c : Files) → old.images c → RunLeaves opening found commands moments c)
-    → LeavesOnly mid now (among_places commands later place) → LeavesOnly old now (RunLeaves opening found commands moments)
-opened_leaves opening place found commands moments later is next keeps here run =
+pub opened_leaves : {old mid now : View} (opening : Opening) (place : Place) (commands : Option (List Command)) (moments later : Option (ℕ → Moment))
+    → opening ≡ Opens place → later ≡ behind_opening moments → Keeps old mid
+    → LeavesOnly mid now (among_places commands later place) → LeavesOnly old now (RunLeaves opening old commands moments)
+opened_leaves {old} opening place commands moments later is next keeps run =
     kept_first keeps
-    (weaken run (λ c h. subst (λ (o : Opening). RunLeaves o found commands moments c) (sym is) (subst (λ (m : Option (ℕ → Moment)). among_places commands m place c) next h)))
-    here
+    (weaken run (λ c h. turn c (inr (subst (λ (m : Option (ℕ → Moment)). among_places commands m place c) next h))))
+    (λ c image. turn c (inl (like_itself c image)))
+  where
+    turn : (c : Files) → RunLeaves (Opens place) old commands moments c → RunLeaves opening old commands moments c
+    turn c h = subst (λ (o : Opening). RunLeaves o old commands moments c) (sym is) h
 
 -- a run whose database was not opened
-pub unopened_stops : (seen : Files) (found : Result Place Refusal) (taken : Option (List ℕ)) (commands : Option (List Command)) (moments : Option (ℕ → Moment)) (now : View)
-    → recovers seen ≡ found → Stands found now → RunStops (admin_of (recovers seen)) found taken commands moments taken now
-unopened_stops seen found taken commands moments now is stands = subst (λ (r : Result Place Refusal). RunStops (admin_of r) found taken commands moments taken now) (sym is) (by found stands)
-  where
-    by : (r : Result Place Refusal) → Stands r now → RunStops (admin_of r) r taken commands moments taken now
-    by (Ok place) s = stops_here taken commands (behind_opening moments) place now s
-    by (Err refusal) s = (record { count = 0; part = sym (after_told-nil taken) }, s)
+pub unopened_stops : (found : Result Place Refusal) (old : View) (taken : Option (List ℕ)) (commands : Option (List Command)) (moments : Option (ℕ → Moment)) (now : View)
+    → Keeps old now → RunStops (admin_of found) old taken commands moments taken now
+unopened_stops (Ok place) old taken commands moments now keeps = inr (refl, keeps)
+unopened_stops (Err refusal) old taken commands moments now keeps = (record { count = 0; part = sym (after_told-nil taken) }, keeps)
 
-pub opened_stands : {opened : Opened} {place : Place} {now : View} → Holds opened now → place_of opened ≡ place → Stands (Ok place) now
-opened_stands holds is = record { each = λ c image. ap place_in (holds.each c image) ∙ ap Ok is }
+pub unopened_leaves : {old now : View} (found : Result Place Refusal) (commands : Option (List Command)) (moments : Option (ℕ → Moment)) → Keeps old now → LeavesOnly old now (RunLeaves (admin_of found) old commands moments)
+unopened_leaves (Ok place) commands moments keeps = weaken (keeps_like keeps) (λ c like. inl like)
+unopened_leaves (Err refusal) commands moments keeps = keeps_like keeps

@@ -9,11 +9,13 @@ use Rattle.kdb_base.specs.declared.outcomes.Status.TheVariants as status
 use Rattle.kdb_ports.specs.Told.{after_told, later_moments}
 use Rattle.kdb_disk.specs.Files.{Files}
 use Rattle.kdb_disk.specs.View.{View}
+use Rattle.kdb_disk.specs.Moments.{Keeps}
 use Rattle.kdb_control.specs.Force.{in_force}
 use Rattle.kdb_control.specs.declared.force.Force.{Force}
 use Rattle.kdb_control.specs.declared.force.Force.TheVariants.{Nothing, Is, Broken}
 use Rattle.kdb_store.specs.Images.{is_realm}
 use Rattle.kdb_store.specs.Places.{Place, recovers}
+use Rattle.kdb_store.specs.Moments.{IsLike, Creates, Destroys}
 use Rattle.kdb_store.specs.Steps.{created}
 use Rattle.kadm_lines.specs.Lines.{seen_lines}
 use Rattle.kadm_top.specs.Parts.{SaidPart}
@@ -22,7 +24,7 @@ use Rattle.kadm_top.specs.declared.replies.Reply.TheVariants.{Accepted, Ended}
 use Rattle.kadm_top.specs.declared.words.Words.{Words}
 use Rattle.kadm_top.specs.declared.words.Words.TheVariants.{Admin, Create, Destroy}
 use Rattle.kadm_top.specs.Input.{commands_in}
-use Rattle.kadm_top.specs.Standing.{Stands, StandsEither, RecoversToOne}
+use Rattle.kadm_top.specs.Standing.{Stands, LeavesAll, RecoversToOne}
 use Rattle.kadm_top.specs.Steps.{Command, Ending, ending, places_after}
 use Rattle.kadm_top.specs.Stops.{Stops, IsStopped}
 
@@ -58,11 +60,11 @@ opening_of (Some Destroy) files = destroy_of (in_force (files 0))
 
 -- ---- how it ends where nothing fails
 
--- what is in the sink, whether a refusal was written, and what the disk recovers to
+-- what is in the sink, whether a refusal was written, and what the disk recovers to, or nothing where no file has changed
 pub record RunEnd : Type 0 where
   pub out : Option (List ℕ)
   pub refused : Bool
-  pub found : Result Place Refusal
+  pub found : Option (Result Place Refusal)
 
 abbrev pub refusal_line : Refusal → List ℕ
 refusal_line refusal = refusal_text refusal ++ line_feed
@@ -72,7 +74,7 @@ abbrev pub made : List ℕ → Moment → Place
 made realm moment = created realm [] (record { sno = 1; time = moment }) 1000 2048
 
 abbrev pub end_of : Ending → RunEnd
-end_of end = record { out = end.out; refused = end.refused; found = Ok end.place }
+end_of end = record { out = end.out; refused = end.refused; found = Some (Ok end.place) }
 
 -- the commands that the lines of an input are
 abbrev pub input_commands : Option (List ℕ) → Option (List Command)
@@ -83,43 +85,48 @@ abbrev pub behind_opening : Option (ℕ → Moment) → Option (ℕ → Moment)
 behind_opening moments = option_map later_moments moments
 
 abbrev pub end_made : List ℕ → Option (List ℕ) → (ℕ → Moment) → RunEnd
-end_made realm taken moments = record { out = after_told taken (reply_text (Accepted (made realm (moments 0)).point)); refused = false; found = Ok (made realm (moments 0)) }
+end_made realm taken moments = record { out = after_told taken (reply_text (Accepted (made realm (moments 0)).point)); refused = false; found = Some (Ok (made realm (moments 0))) }
 
--- as far as it is told; `found` is what the disk recovered to at first
-abbrev pub run_end : Opening → Result Place Refusal → Option (List ℕ) → Option (List Command) → Option (ℕ → Moment) → Option RunEnd
-run_end (Refuses refusal) found taken commands moments = Some (record { out = after_told taken (refusal_line refusal); refused = true; found = found })
-run_end (Opens place) found taken commands moments = option_map end_of (ending taken false commands (behind_opening moments) place)
-run_end (Makes realm) found taken commands moments = option_map (end_made realm taken) moments
-run_end Ends found taken commands moments = Some (record { out = after_told taken (reply_text Ended); refused = false; found = Err NotADatabase })
+-- as far as it is told
+abbrev pub run_end : Opening → Option (List ℕ) → Option (List Command) → Option (ℕ → Moment) → Option RunEnd
+run_end (Refuses refusal) taken commands moments = Some (record { out = after_told taken (refusal_line refusal); refused = true; found = None })
+run_end (Opens place) taken commands moments = option_map end_of (ending taken false commands (behind_opening moments) place)
+run_end (Makes realm) taken commands moments = option_map (end_made realm taken) moments
+run_end Ends taken commands moments = Some (record { out = after_told taken (reply_text Ended); refused = false; found = Some (Err NotADatabase) })
 
-pub record RunEndsAs (out : Option (List ℕ)) (refused : Bool) (now : View) (end : RunEnd) : Type 0 where
+-- whatever a crash leaves recovers to this, or no file has changed
+abbrev pub EndsAt : Option (Result Place Refusal) → View → View → Type 0
+EndsAt None old now = Keeps old now
+EndsAt (Some found) old now = Stands found now
+
+pub record RunEndsAs (out : Option (List ℕ)) (refused : Bool) (old now : View) (end : RunEnd) : Type 0 where
   pub out_is : out ≡ end.out
   pub refused_is : refused ≡ end.refused
-  pub stands : Stands end.found now
+  pub stands : EndsAt end.found old now
 
 -- ---- where it may stop early
 
--- while a database is made
-abbrev pub MakesStop : List ℕ → Option (List ℕ) → (ℕ → Moment) → Option (List ℕ) → View → Type 0
-MakesStop realm taken moments out now =
-    ((out ≡ taken) × StandsEither (Err NotADatabase) (Ok (made realm (moments 0))) now)
+-- while a database is made: the disk stands for what it stood for, for none, or for the one that is made
+abbrev pub MakesStop : List ℕ → View → Option (List ℕ) → (ℕ → Moment) → Option (List ℕ) → View → Type 0
+MakesStop realm old taken moments out now =
+    ((out ≡ taken) × LeavesAll (Creates old (made realm (moments 0))) now)
     ⊎ (SaidPart (reply_text (Accepted (made realm (moments 0)).point)) taken out × Stands (Ok (made realm (moments 0))) now)
 
 abbrev pub IfTold : {A : Type 0} → Option A → (A → Type 0) → Type 0
 IfTold None P = ⊤
 IfTold (Some x) P = P x
 
--- while one is ended
-abbrev pub EndsStop : Result Place Refusal → Option (List ℕ) → Option (List ℕ) → View → Type 0
-EndsStop found taken out now =
-    ((out ≡ taken) × StandsEither found (Err NotADatabase) now)
+-- while one is ended: the disk stands for what it stood for, or for none
+abbrev pub EndsStop : View → Option (List ℕ) → Option (List ℕ) → View → Type 0
+EndsStop old taken out now =
+    ((out ≡ taken) × LeavesAll (Destroys old) now)
     ⊎ (SaidPart (reply_text Ended) taken out × Stands (Err NotADatabase) now)
 
-abbrev pub RunStops : Opening → Result Place Refusal → Option (List ℕ) → Option (List Command) → Option (ℕ → Moment) → Option (List ℕ) → View → Type 0
-RunStops (Refuses refusal) found taken commands moments out now = SaidPart (refusal_line refusal) taken out × Stands found now
-RunStops (Opens place) found taken commands moments out now = IsStopped (Stops taken commands (behind_opening moments) place) out now
-RunStops (Makes realm) found taken commands moments out now = IfTold moments (λ told. MakesStop realm taken told out now)
-RunStops Ends found taken commands moments out now = EndsStop found taken out now
+abbrev pub RunStops : Opening → View → Option (List ℕ) → Option (List Command) → Option (ℕ → Moment) → Option (List ℕ) → View → Type 0
+RunStops (Refuses refusal) old taken commands moments out now = SaidPart (refusal_line refusal) taken out × Keeps old now
+RunStops (Opens place) old taken commands moments out now = IsStopped (Stops taken commands (behind_opening moments) place) out now ⊎ ((out ≡ taken) × Keeps old now)
+RunStops (Makes realm) old taken commands moments out now = IfTold moments (λ told. MakesStop realm old taken told out now)
+RunStops Ends old taken commands moments out now = EndsStop old taken out now
 
 -- ---- what a crash may leave at any moment of it
 
@@ -132,12 +139,12 @@ among_places (Some commands) (Some moments) place c = RecoversToOne (place ∷ p
 abbrev pub AmongWithin : (Files → Type 0) → (Files → Type 0) → Type 0
 AmongWithin here there = (c : Files) → here c → there c
 
--- what was there, a place of the run, or nothing while a database is made or once its end has begun
-abbrev pub RunLeaves : Opening → Result Place Refusal → Option (List Command) → Option (ℕ → Moment) → Files → Type 0
-RunLeaves (Refuses refusal) found commands moments c = recovers c ≡ found
-RunLeaves (Opens place) found commands moments c = among_places commands (behind_opening moments) place c
-RunLeaves (Makes realm) found commands moments c = IfTold moments (λ told. (recovers c ≡ Err NotADatabase) ⊎ (recovers c ≡ Ok (made realm (told 0))))
-RunLeaves Ends found commands moments c = (recovers c ≡ found) ⊎ (recovers c ≡ Err NotADatabase)
+-- what an image of before stood for, a place of the run, or nothing while a database is made or once its end has begun
+abbrev pub RunLeaves : Opening → View → Option (List Command) → Option (ℕ → Moment) → Files → Type 0
+RunLeaves (Refuses refusal) old commands moments c = IsLike old c
+RunLeaves (Opens place) old commands moments c = IsLike old c ⊎ among_places commands (behind_opening moments) place c
+RunLeaves (Makes realm) old commands moments c = IfTold moments (λ told. Creates old (made realm (told 0)) c)
+RunLeaves Ends old commands moments c = Destroys old c
 
 -- ---- by the status
 

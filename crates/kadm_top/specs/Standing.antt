@@ -10,6 +10,10 @@ use Rattle.kdb_store.specs.Places.{Place, recovers}
 pub record Stands (found : Result Place Refusal) (now : View) : Type 0 where
   pub each : (c : Files) → now.images c → recovers c ≡ found
 
+-- whatever a crash leaves has P
+pub record LeavesAll (P : Files → Type 0) (now : View) : Type 0 where
+  pub each : (c : Files) → now.images c → P c
+
 -- to the one or to the other
 pub record StandsEither (one other : Result Place Refusal) (now : View) : Type 0 where
   pub each : (c : Files) → now.images c → (recovers c ≡ one) ⊎ (recovers c ≡ other)

@@ -1,4 +1,4 @@
-ghost use Rattle.std.specs.Prelude.{◌≡◌, ◌≢◌, ◌≤◌, ◌⊎◌, ◌↔◌, ⊤, if◌then◌else◌, IsTrue, Bool, true, false, List, ℕ, Option, Some, None, Result, Ok, Err, map, codes, IfOk, IfErr, OnOk, OnErr, IsErr};
+ghost use Rattle.std.specs.Prelude.{◌≡◌, ◌≢◌, ◌≤◌, ◌⊎◌, true, false, List, ℕ, Option, Some, None, Result, Ok, Err, map, IfOk, OnOk, OnErr};
 ghost use Rattle.kdb_base.specs.Causes.{Rose};
 ghost use Rattle.kdb_base.specs.Moment.{Moment};
 ghost use Rattle.kdb_base.specs.declared.outcomes.Halt.TheVariants.{DiskFault};
@@ -7,14 +7,13 @@ ghost use Rattle.kdb_base.specs.declared.outcomes.Refusal.{Refusal as WhyNot};
 ghost use Rattle.kdb_base.specs.declared.outcomes.Refusal.TheVariants.{BadValue};
 ghost use Rattle.kdb_base.specs.declared.outcomes.Field.TheVariants.{Realm};
 ghost use Rattle.kdb_ports.specs.Told.{after_told, IsSpent};
-ghost use Rattle.kdb_disk.specs.View.{View};
 ghost use Rattle.kdb_disk.specs.Moments.{Keeps, LeavesOnly};
 ghost use Rattle.kdb_control.specs.Force.{in_force};
 ghost use Rattle.kdb_control.specs.declared.force.Force.TheVariants.{Nothing};
 ghost use Rattle.kdb_store.specs.Images.{is_realm};
 ghost use Rattle.kdb_store.specs.Moments.{Creates};
 ghost use Rattle.kdb_store.specs.Stores.{AnswersMade};
-ghost use Rattle.kdb_store.specs.Places.{Place, Holds, place_of, recovers};
+ghost use Rattle.kdb_store.specs.Places.{Holds, place_of, recovers};
 ghost use Rattle.kadm_top.specs.Parts.{SaidPart};
 ghost use Rattle.kadm_top.specs.Halts.{status_after};
 ghost use Rattle.kadm_top.specs.Words.{words_in};
@@ -22,7 +21,7 @@ ghost use Rattle.kadm_top.specs.declared.words.Words.TheVariants.{Admin, Create}
 ghost use Rattle.kadm_top.specs.Standing.{Stands};
 ghost use Rattle.kadm_top.specs.Steps.{Command, Ending, EndsAs, ending};
 ghost use Rattle.kadm_top.specs.Stops.{IsStopped, Stops};
-ghost use Rattle.kadm_top.specs.Run.{Opening, Opens, Refuses, RunEnd, RunEndsAs, RunStops, RunLeaves, ReadsInput, IsShortInput, WereTaken, OnEnd, OnStop, admin_of, create_of, destroy_of, end_of, opening_of, among_places, input_commands, made, refusal_line, run_end};
+ghost use Rattle.kadm_top.specs.Run.{Opens, RunEnd, RunEndsAs, RunStops, RunLeaves, ReadsInput, IsShortInput, WereTaken, OnEnd, OnStop, admin_of, create_of, destroy_of, end_of, opening_of, among_places, input_commands, made, refusal_line, run_end};
 
 use crate::halts::{SayHalt, SessionHalt, status_of};
 use crate::replies::Reply;
@@ -66,7 +65,7 @@ fn session<S: Source, K: Sink, D: Disk, C: Clock>(
 ) -> Result<bool, SessionHalt>
     requires holds { D.tells → Holds opened (D.view disk.old) }
     ensures ended { D.tells → (end : Ending) → ending (K.taken sink.old) false (input_commands (S.left source.old)) (C.moments clock.old) (place_of opened) ≡ Some end
-        → IfOk result (λ refused. RunEndsAs (K.taken sink.new) refused (D.view disk.new) (end_of end)) }
+        → IfOk result (λ refused. RunEndsAs (K.taken sink.new) refused (D.view disk.old) (D.view disk.new) (end_of end)) }
     ensures stopped { D.tells → OnErr result
         (IsStopped (Stops (K.taken sink.old) (input_commands (S.left source.old)) (C.moments clock.old) (place_of opened)) (K.taken sink.new) (D.view disk.new)) }
     ensures moments { D.tells → LeavesOnly (D.view disk.old) (D.view disk.new) (among_places (input_commands (S.left source.old)) (C.moments clock.old) (place_of opened)) }
@@ -99,13 +98,12 @@ fn admin<S: Source, K: Sink, D: Disk, C: Clock>(
     disk: &mut D,
     clock: &mut C,
 ) -> Result<bool, SessionHalt>
-    ensures ended { D.tells → (found : Result Place WhyNot) → Stands found (D.view disk.old) → (end : RunEnd)
-        → run_end (admin_of (recovers (D.view disk.old).seen)) found (K.taken sink.old) (input_commands (S.left source.old)) (C.moments clock.old) ≡ Some end
-        → IfOk result (λ refused. RunEndsAs (K.taken sink.new) refused (D.view disk.new) end) }
-    ensures stopped { D.tells → (found : Result Place WhyNot) → Stands found (D.view disk.old)
-        → OnErr result (RunStops (admin_of (recovers (D.view disk.old).seen)) found (K.taken sink.old) (input_commands (S.left source.old)) (C.moments clock.old) (K.taken sink.new) (D.view disk.new)) }
-    ensures moments { D.tells → (found : Result Place WhyNot) → Stands found (D.view disk.old)
-        → LeavesOnly (D.view disk.old) (D.view disk.new) (RunLeaves (admin_of (recovers (D.view disk.old).seen)) found (input_commands (S.left source.old)) (C.moments clock.old)) }
+    ensures ended { D.tells → (end : RunEnd)
+        → run_end (admin_of (recovers (D.view disk.old).seen)) (K.taken sink.old) (input_commands (S.left source.old)) (C.moments clock.old) ≡ Some end
+        → IfOk result (λ refused. RunEndsAs (K.taken sink.new) refused (D.view disk.old) (D.view disk.new) end) }
+    ensures stopped { D.tells →
+        OnErr result (RunStops (admin_of (recovers (D.view disk.old).seen)) (D.view disk.old) (K.taken sink.old) (input_commands (S.left source.old)) (C.moments clock.old) (K.taken sink.new) (D.view disk.new)) }
+    ensures moments { D.tells → LeavesOnly (D.view disk.old) (D.view disk.new) (RunLeaves (admin_of (recovers (D.view disk.old).seen)) (D.view disk.old) (input_commands (S.left source.old)) (C.moments clock.old)) }
     ensures done { result ≡ Ok false → IsSpent (S.left source.new) × IsShortInput (S.left source.old) }
     ensures refused { result ≡ Ok true → (IsSpent (S.left source.new) × IsShortInput (S.left source.old)) ⊎ (source.new ≡ source.old) }
     ensures read_to_end { D.tells → ReadsInput (admin_of (recovers (D.view disk.old).seen)) → OnOk result (IsSpent (S.left source.new)) }
@@ -171,13 +169,12 @@ fn make<K: Sink, D: Disk, C: Clock>(
     clock: &mut C,
 ) -> Result<bool, SessionHalt>
     requires { is_realm realm.now ≡ true }
-    ensures ended { D.tells → (commands : Option (List Command)) (found : Result Place WhyNot) → Stands found (D.view disk.old) → (end : RunEnd)
-        → run_end (create_of realm.now (in_force ((D.view disk.old).seen 0))) found (K.taken sink.old) commands (C.moments clock.old) ≡ Some end
-        → IfOk result (λ refused. RunEndsAs (K.taken sink.new) refused (D.view disk.new) end) }
-    ensures stopped { D.tells → (commands : Option (List Command)) (found : Result Place WhyNot) → Stands found (D.view disk.old)
-        → OnErr result (RunStops (create_of realm.now (in_force ((D.view disk.old).seen 0))) found (K.taken sink.old) commands (C.moments clock.old) (K.taken sink.new) (D.view disk.new)) }
-    ensures moments { D.tells → (commands : Option (List Command)) (found : Result Place WhyNot) → Stands found (D.view disk.old)
-        → LeavesOnly (D.view disk.old) (D.view disk.new) (RunLeaves (create_of realm.now (in_force ((D.view disk.old).seen 0))) found commands (C.moments clock.old)) }
+    ensures ended { D.tells → (commands : Option (List Command)) (end : RunEnd)
+        → run_end (create_of realm.now (in_force ((D.view disk.old).seen 0))) (K.taken sink.old) commands (C.moments clock.old) ≡ Some end
+        → IfOk result (λ refused. RunEndsAs (K.taken sink.new) refused (D.view disk.old) (D.view disk.new) end) }
+    ensures stopped { D.tells → (commands : Option (List Command))
+        → OnErr result (RunStops (create_of realm.now (in_force ((D.view disk.old).seen 0))) (D.view disk.old) (K.taken sink.old) commands (C.moments clock.old) (K.taken sink.new) (D.view disk.new)) }
+    ensures moments { D.tells → (commands : Option (List Command)) → LeavesOnly (D.view disk.old) (D.view disk.new) (RunLeaves (create_of realm.now (in_force ((D.view disk.old).seen 0))) (D.view disk.old) commands (C.moments clock.old)) }
     ensures sink_later { K.faults sink.old ≤ K.faults sink.new }
     ensures disk_later { D.faults disk.old ≤ D.faults disk.new }
     ensures read { result ≡ Err SessionHalt.ReadFault → ⊥ }
@@ -208,13 +205,12 @@ fn create<K: Sink, D: Disk, C: Clock>(
     disk: &mut D,
     clock: &mut C,
 ) -> Result<bool, SessionHalt>
-    ensures ended { D.tells → (commands : Option (List Command)) (found : Result Place WhyNot) → Stands found (D.view disk.old) → (end : RunEnd)
-        → run_end (opening_of (Some (Create realm.now)) (D.view disk.old).seen) found (K.taken sink.old) commands (C.moments clock.old) ≡ Some end
-        → IfOk result (λ refused. RunEndsAs (K.taken sink.new) refused (D.view disk.new) end) }
-    ensures stopped { D.tells → (commands : Option (List Command)) (found : Result Place WhyNot) → Stands found (D.view disk.old)
-        → OnErr result (RunStops (opening_of (Some (Create realm.now)) (D.view disk.old).seen) found (K.taken sink.old) commands (C.moments clock.old) (K.taken sink.new) (D.view disk.new)) }
-    ensures moments { D.tells → (commands : Option (List Command)) (found : Result Place WhyNot) → Stands found (D.view disk.old)
-        → LeavesOnly (D.view disk.old) (D.view disk.new) (RunLeaves (opening_of (Some (Create realm.now)) (D.view disk.old).seen) found commands (C.moments clock.old)) }
+    ensures ended { D.tells → (commands : Option (List Command)) (end : RunEnd)
+        → run_end (opening_of (Some (Create realm.now)) (D.view disk.old).seen) (K.taken sink.old) commands (C.moments clock.old) ≡ Some end
+        → IfOk result (λ refused. RunEndsAs (K.taken sink.new) refused (D.view disk.old) (D.view disk.new) end) }
+    ensures stopped { D.tells → (commands : Option (List Command))
+        → OnErr result (RunStops (opening_of (Some (Create realm.now)) (D.view disk.old).seen) (D.view disk.old) (K.taken sink.old) commands (C.moments clock.old) (K.taken sink.new) (D.view disk.new)) }
+    ensures moments { D.tells → (commands : Option (List Command)) → LeavesOnly (D.view disk.old) (D.view disk.new) (RunLeaves (opening_of (Some (Create realm.now)) (D.view disk.old).seen) (D.view disk.old) commands (C.moments clock.old)) }
     ensures bad_realm { is_realm realm.now ≡ false → disk.new ≡ disk.old }
     ensures sink_later { K.faults sink.old ≤ K.faults sink.new }
     ensures disk_later { D.faults disk.old ≤ D.faults disk.new }
@@ -238,13 +234,12 @@ fn create<K: Sink, D: Disk, C: Clock>(
 
 /// Ends the database.
 fn end<K: Sink, D: Disk>(alloc: Global, sink: &mut K, disk: &mut D) -> Result<bool, SessionHalt>
-    ensures ended { D.tells → (commands : Option (List Command)) (moments : Option (ℕ → Moment)) (found : Result Place WhyNot) → Stands found (D.view disk.old) → (end : RunEnd)
-        → run_end (destroy_of (in_force ((D.view disk.old).seen 0))) found (K.taken sink.old) commands moments ≡ Some end
-        → IfOk result (λ refused. RunEndsAs (K.taken sink.new) refused (D.view disk.new) end) }
-    ensures stopped { D.tells → (commands : Option (List Command)) (moments : Option (ℕ → Moment)) (found : Result Place WhyNot) → Stands found (D.view disk.old)
-        → OnErr result (RunStops (destroy_of (in_force ((D.view disk.old).seen 0))) found (K.taken sink.old) commands moments (K.taken sink.new) (D.view disk.new)) }
-    ensures moments { D.tells → (commands : Option (List Command)) (moments : Option (ℕ → Moment)) (found : Result Place WhyNot) → Stands found (D.view disk.old)
-        → LeavesOnly (D.view disk.old) (D.view disk.new) (RunLeaves (destroy_of (in_force ((D.view disk.old).seen 0))) found commands moments) }
+    ensures ended { D.tells → (commands : Option (List Command)) (moments : Option (ℕ → Moment)) (end : RunEnd)
+        → run_end (destroy_of (in_force ((D.view disk.old).seen 0))) (K.taken sink.old) commands moments ≡ Some end
+        → IfOk result (λ refused. RunEndsAs (K.taken sink.new) refused (D.view disk.old) (D.view disk.new) end) }
+    ensures stopped { D.tells → (commands : Option (List Command)) (moments : Option (ℕ → Moment))
+        → OnErr result (RunStops (destroy_of (in_force ((D.view disk.old).seen 0))) (D.view disk.old) (K.taken sink.old) commands moments (K.taken sink.new) (D.view disk.new)) }
+    ensures moments { D.tells → (commands : Option (List Command)) (moments : Option (ℕ → Moment)) → LeavesOnly (D.view disk.old) (D.view disk.new) (RunLeaves (destroy_of (in_force ((D.view disk.old).seen 0))) (D.view disk.old) commands moments) }
     ensures sink_later { K.faults sink.old ≤ K.faults sink.new }
     ensures disk_later { D.faults disk.old ≤ D.faults disk.new }
     ensures read { result ≡ Err SessionHalt.ReadFault → ⊥ }
@@ -274,13 +269,12 @@ fn run_words<S: Source, K: Sink, D: Disk, C: Clock>(
     disk: &mut D,
     clock: &mut C,
 ) -> Result<bool, SessionHalt>
-    ensures ended { D.tells → (found : Result Place WhyNot) → Stands found (D.view disk.old) → (end : RunEnd)
-        → run_end (opening_of words (D.view disk.old).seen) found (K.taken sink.old) (input_commands (S.left source.old)) (C.moments clock.old) ≡ Some end
-        → IfOk result (λ refused. RunEndsAs (K.taken sink.new) refused (D.view disk.new) end) }
-    ensures stopped { D.tells → (found : Result Place WhyNot) → Stands found (D.view disk.old)
-        → OnErr result (RunStops (opening_of words (D.view disk.old).seen) found (K.taken sink.old) (input_commands (S.left source.old)) (C.moments clock.old) (K.taken sink.new) (D.view disk.new)) }
-    ensures moments { D.tells → (found : Result Place WhyNot) → Stands found (D.view disk.old)
-        → LeavesOnly (D.view disk.old) (D.view disk.new) (RunLeaves (opening_of words (D.view disk.old).seen) found (input_commands (S.left source.old)) (C.moments clock.old)) }
+    ensures ended { D.tells → (end : RunEnd)
+        → run_end (opening_of words (D.view disk.old).seen) (K.taken sink.old) (input_commands (S.left source.old)) (C.moments clock.old) ≡ Some end
+        → IfOk result (λ refused. RunEndsAs (K.taken sink.new) refused (D.view disk.old) (D.view disk.new) end) }
+    ensures stopped { D.tells →
+        OnErr result (RunStops (opening_of words (D.view disk.old).seen) (D.view disk.old) (K.taken sink.old) (input_commands (S.left source.old)) (C.moments clock.old) (K.taken sink.new) (D.view disk.new)) }
+    ensures moments { D.tells → LeavesOnly (D.view disk.old) (D.view disk.new) (RunLeaves (opening_of words (D.view disk.old).seen) (D.view disk.old) (input_commands (S.left source.old)) (C.moments clock.old)) }
     ensures done { result ≡ Ok false → words ≡ Some Admin → IsSpent (S.left source.new) × IsShortInput (S.left source.old) }
     ensures refused { result ≡ Ok true → (IsSpent (S.left source.new) × IsShortInput (S.left source.old)) ⊎ (source.new ≡ source.old) }
     ensures read_to_end { D.tells → ReadsInput (opening_of words (D.view disk.old).seen) → OnOk result (IsSpent (S.left source.new)) }
@@ -323,8 +317,9 @@ fn status_at_end(ended: Result<bool, SessionHalt>) -> Status
 ///
 /// The words are `admin`, `create REALM` or `destroy`; other words are answered by `err 1 BadLine`, and
 /// a bad realm by `err 13 BadValue realm`, and no file is touched. Each reply is written whole before
-/// the next line is judged, and after its change is on the disk: a crash at any moment leaves the
-/// database after some of the commands, among them each of which a byte was answered.
+/// the next line is judged, and after its change is on the disk. A crash at any moment leaves the
+/// database as it was or after some of the commands; where it returns early, a crash afterwards leaves
+/// it after commands among which is each of which a byte was answered.
 pub fn run_local<S: Source, K: Sink, D: Disk, C: Clock, E: Entropy>(
     alloc: Global,
     words: &[Vec<u8>],
@@ -334,21 +329,19 @@ pub fn run_local<S: Source, K: Sink, D: Disk, C: Clock, E: Entropy>(
     clock: &mut C,
     _entropy: &mut E,
 ) -> Status
-    // Where all is told: the bytes are the replies, a crash afterwards leaves the last place, and the
-    // status says whether a refusal is among the replies.
-    ensures ended { D.tells → (found : Result Place WhyNot) → Stands found (D.view disk.old) → (end : RunEnd)
-        → run_end (opening_of (words_in (map (λ word. word.items) words.now)) (D.view disk.old).seen) found (K.taken sink.old) (input_commands (S.left source.old)) (C.moments clock.old) ≡ Some end
-        → OnEnd result (λ refused. RunEndsAs (K.taken sink.new) refused (D.view disk.new) end) }
+    // Where all is told: the bytes are the replies, a crash afterwards leaves the last place, or all as
+    // it was where the opening was refused, and the status says whether a refusal is among the replies.
+    ensures ended { D.tells → (end : RunEnd)
+        → run_end (opening_of (words_in (map (λ word. word.items) words.now)) (D.view disk.old).seen) (K.taken sink.old) (input_commands (S.left source.old)) (C.moments clock.old) ≡ Some end
+        → OnEnd result (λ refused. RunEndsAs (K.taken sink.new) refused (D.view disk.old) (D.view disk.new) end) }
 
     // Where it stops early: the bytes are a front of the replies, and a crash leaves the place after
     // some of the commands, among them each of which a byte was answered.
-    ensures stopped { D.tells → (found : Result Place WhyNot) → Stands found (D.view disk.old)
-        → OnStop result (RunStops (opening_of (words_in (map (λ word. word.items) words.now)) (D.view disk.old).seen) found (K.taken sink.old) (input_commands (S.left source.old)) (C.moments clock.old) (K.taken sink.new) (D.view disk.new)) }
+    ensures stopped { D.tells → OnStop result (RunStops (opening_of (words_in (map (λ word. word.items) words.now)) (D.view disk.old).seen) (D.view disk.old) (K.taken sink.old) (input_commands (S.left source.old)) (C.moments clock.old) (K.taken sink.new) (D.view disk.new)) }
 
-    // A crash at any moment of it leaves what was there or a place of the run, or nothing while a
-    // database is made or once its end has begun.
-    ensures moments { D.tells → (found : Result Place WhyNot) → Stands found (D.view disk.old)
-        → LeavesOnly (D.view disk.old) (D.view disk.new) (RunLeaves (opening_of (words_in (map (λ word. word.items) words.now)) (D.view disk.old).seen) found (input_commands (S.left source.old)) (C.moments clock.old)) }
+    // A crash at any moment of it leaves files like those that one would have left before it, or a place
+    // of the run, or no database while one is made or once its end has begun.
+    ensures moments { D.tells → LeavesOnly (D.view disk.old) (D.view disk.new) (RunLeaves (opening_of (words_in (map (λ word. word.items) words.now)) (D.view disk.old).seen) (D.view disk.old) (input_commands (S.left source.old)) (C.moments clock.old)) }
 
     // What was read of the input.
     ensures done { result ≡ Status.Done → words_in (map (λ word. word.items) words.now) ≡ Some Admin → IsSpent (S.left source.new) × IsShortInput (S.left source.old) }

@@ -12,7 +12,7 @@ use Rattle.kdb_control.specs.declared.force.Force.TheVariants.{Nothing, Is, Brok
 use Rattle.kdb_control.specs.Choice.{Choice}
 use Rattle.kdb_control.specs.Bodies.{body_at, body, IsBody, body_field}
 use Rattle.kdb_control.specs.Force.{slot, slot_bytes, of_body, newer, newer_of, in_force, turn_after}
-use Rattle.kdb_control.specs.Moments.{IsPlace, without, force_of, next_turn, spare_at, HasTurn}
+use Rattle.kdb_control.specs.Moments.{IsPlace, without, force_of, next_turn, spare_at, HasTurn, StillHolds}
 
 slot_short : (bytes : List ℕ) → length bytes < 64 → slot bytes ≡ Closed
 unfolding slot
@@ -104,6 +104,11 @@ turn_of : Force → ℕ
 turn_of (Is choice) = choice.turn
 turn_of Nothing = 0
 turn_of (Broken place) = 0
+
+choice_of : Choice → Force → Choice
+choice_of other (Is choice) = choice
+choice_of other Nothing = other
+choice_of other (Broken place) = other
 
 closed_not : (c : Choice) → ◌≡◌ {A = Slot} Closed (Holds c) → ⊥
 closed_not c is = absurd cc
@@ -302,6 +307,25 @@ gate_within at file is = ⊎_elim
     (λ lt. lt)
     (λ ge. let zero : 0 ≡ 165 = sym (get_or_past file at 0 ge) ∙ is in absurd cc)
     (cases_lt at (length file))
+
+-- what counts alone stands in a slot
+alone_holds : (s : Slot) (now : Choice) → (newer Closed s ≡ Is now) ⊎ (newer s Closed ≡ Is now) → s ≡ Holds now
+unfolding newer choice_of
+alone_holds Closed now (inl is) = absurd cc
+alone_holds Closed now (inr is) = absurd cc
+alone_holds Torn now (inl is) = absurd cc
+alone_holds Torn now (inr is) = absurd cc
+alone_holds (Holds c) now (inl is) = ap (λ (force : Force). Holds (choice_of now force)) is
+alone_holds (Holds c) now (inr is) = ap (λ (force : Force). Holds (choice_of now force)) is
+
+pub still_holds : (at : ℕ) (file : List ℕ) (now : Choice) → IsPlace at → without at file ≡ Is now → StillHolds now file
+unfolding without
+still_holds at file now (inl place) is =
+    let there : newer Closed (slot (slot_bytes 64 file)) ≡ Is now = subst (λ (i : ℕ). without i file ≡ Is now) place is in
+    inr (alone_holds (slot (slot_bytes 64 file)) now (inl there))
+still_holds at file now (inr place) is =
+    let there : newer (slot (slot_bytes 0 file)) Closed ≡ Is now = subst (λ (i : ℕ). without i file ≡ Is now) place is in
+    inl (alone_holds (slot (slot_bytes 0 file)) now (inr there))
 
 -- where one gate is closed, the other alone counts
 pub both_shut : (at other : ℕ) (file : List ℕ) → IsPlace at → other ≡ 64 - at → get_or file at 0 ≢ 165 → without other file ≡ Nothing

@@ -49,6 +49,10 @@ IsPlace at = (at ≡ 0) ⊎ (at ≡ 64)
 unfoldable pub without : ℕ → List ℕ → Force
 without at file = if nat_eq at 0 then newer Closed (slot (slot_bytes 64 file)) else newer (slot (slot_bytes 0 file)) Closed
 
+-- one of the slots says this still
+abbrev pub StillHolds : Choice → List ℕ → Type 0
+StillHolds now file = (slot (slot_bytes 0 file) ≡ Holds now) ⊎ (slot (slot_bytes 64 file) ≡ Holds now)
+
 -- what a crash leaves of the control file is what a read gives
 pub record IsDurable (now : View) : Type 0 where
   pub durable : (c : Files) → now.images c → c 0 ≡ now.seen 0

@@ -79,6 +79,7 @@ pub(crate) fn open_slot<D: Disk>(disk: &mut D, at: u64) -> Result<(), DiskFailed
     requires within { D.tells → at < length ((D.view disk.old).seen 0) }
     ensures moments { D.tells → (now : Option Choice) (next : Choice) → IsReady at next (D.view disk.old) → HasTurn now → without at ((D.view disk.old).seen 0) ≡ force_of now → next.turn ≡ next_turn now → LeavesOnly (D.view disk.old) (D.view disk.new) (LeavesEither (force_of now) (Is next) (D.view disk.old)) }
     ensures ok { D.tells → (now : Option Choice) (next : Choice) → IsReady at next (D.view disk.old) → HasTurn now → without at ((D.view disk.old).seen 0) ≡ force_of now → next.turn ≡ next_turn now → OnOk result (IsInForce (Is next) (D.view disk.old) (D.view disk.new)) }
+    ensures other { D.tells → OnOk result (without at ((D.view disk.new).seen 0) ≡ without at ((D.view disk.old).seen 0)) }
     ensures rest { D.tells → (i : ℕ) → at < i → OnOk result (slice_index ((D.view disk.new).seen 0) i ≡ slice_index ((D.view disk.old).seen 0) i) }
     ensures length { D.tells → OnOk result (length ((D.view disk.new).seen 0) ≡ length ((D.view disk.old).seen 0)) }
     ensures same { D.loans disk.new ≡ D.loans disk.old }

@@ -1,10 +1,10 @@
-ghost use Rattle.std.specs.Prelude.{◌≡◌, OnOk, Some, None, option_map};
+ghost use Rattle.std.specs.Prelude.{◌≡◌, OnOk, IfSome, Some, None, option_map};
 ghost use Rattle.kdb_base.specs.Causes.{HasCause};
 ghost use Rattle.kdb_disk.specs.View.{View};
 ghost use Rattle.kdb_disk.specs.Moments.{LeavesOnly};
 ghost use Rattle.kdb_control.specs.declared.force.Force.TheVariants.{Nothing, Is};
 ghost use Rattle.kdb_control.specs.Force.{in_force, turn_after};
-ghost use Rattle.kdb_control.specs.Moments.{IsDurable, HasInForce, LeavesEither, IsFirst, IsInForce, force_of, next_turn};
+ghost use Rattle.kdb_control.specs.Moments.{IsDurable, HasInForce, LeavesEither, IsFirst, IsInForce, StillHolds, force_of, next_turn};
 
 use crate::choice::Control;
 use crate::force::{FIRST, SECOND};
@@ -36,6 +36,7 @@ fn switch_next<D: Disk>(disk: &mut D, now: &Control, next: &Control) -> Result<(
     requires turn { next.now.turn ≡ turn_after now.now.turn }
     ensures moments { D.tells → LeavesOnly (D.view disk.old) (D.view disk.new) (LeavesEither (Is now.now) (Is next.now) (D.view disk.old)) }
     ensures ok { D.tells → OnOk result (IsInForce (Is next.now) (D.view disk.old) (D.view disk.new)) }
+    ensures kept { D.tells → OnOk result (StillHolds now.now ((D.view disk.new).seen 0)) }
     ensures same { D.loans disk.new ≡ D.loans disk.old }
     ensures cause { HasCause (D.faults disk.old) (D.faults disk.new) result }
 {
@@ -47,8 +48,9 @@ fn switch_next<D: Disk>(disk: &mut D, now: &Control, next: &Control) -> Result<(
 /// Puts `next` into force in place of `now`, or of nothing. It takes no memory.
 ///
 /// At each moment a crash leaves the one or the other in force, and all other files as before. The
-/// slot that is not the newer one is written. A gate that reads closed is not closed again. The first
-/// choice goes into the first slot, and the closed gate of the second is written before it opens.
+/// slot that is not the newer one is written, and the other one says `now` still. A gate that reads
+/// closed is not closed again. The first choice goes into the first slot, and the closed gate of the
+/// second is written before it opens.
 pub fn switch<D: Disk>(
     disk: &mut D,
     now: Option<&Control>,
@@ -58,6 +60,7 @@ pub fn switch<D: Disk>(
     requires turn { next.now.turn ≡ next_turn (option_map (λ c. c.now) now) }
     ensures moments { D.tells → LeavesOnly (D.view disk.old) (D.view disk.new) (LeavesEither (force_of (option_map (λ c. c.now) now.entry)) (Is next.now) (D.view disk.old)) }
     ensures ok { D.tells → OnOk result (IsInForce (Is next.now) (D.view disk.old) (D.view disk.new)) }
+    ensures kept { D.tells → IfSome now.entry (λ before. OnOk result (StillHolds before.now ((D.view disk.new).seen 0))) }
     ensures first { D.tells → option_map (λ c. c.now) now.entry ≡ None → OnOk result (IsFirst next.now ((D.view disk.new).seen 0)) }
     ensures same { D.loans disk.new ≡ D.loans disk.old }
     ensures cause { HasCause (D.faults disk.old) (D.faults disk.new) result }

@@ -39,7 +39,12 @@ committed op time place = record {
 abbrev pub created : List ℕ → List (List ℕ) → Point → ℕ → ℕ → Place
 created realm rows base size block = record { realm = realm; point = base; rows = rows; base = base; size = size; block = block }
 
--- the choice of files that comes next: the next turn, and the image in the other file
+-- the choice of files of a database that was made anew: its image in the first of the image files, its log in the first of
+-- the log files, and no stash
+abbrev pub first_choice : Point → ℕ → ℕ → Choice
+first_choice base size block = record { turn = 0; image = 1; log = 3; stash = 0; size = size; block = block; base = base }
+
+-- the choice of files that comes next: the next turn, the image in the other image file, and all else the same
 abbrev pub next_choice : Choice → Choice
 next_choice c = record { turn = turn_after c.turn; image = 3 - c.image; log = c.log; stash = c.stash; size = c.size; block = c.block; base = c.base }
 

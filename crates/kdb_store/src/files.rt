@@ -14,7 +14,7 @@ ghost use Rattle.kdb_control.specs.Force.{in_force};
 ghost use Rattle.kdb_control.specs.Moments.{HasInForce, IsDurable};
 ghost use Rattle.kdb_store.specs.Images.{IsRealm, image_in};
 ghost use Rattle.kdb_store.specs.Places.{place_of, found_in, Holds};
-ghost use Rattle.kdb_store.specs.Steps.{created};
+ghost use Rattle.kdb_store.specs.Steps.{created, first_choice};
 ghost use Rattle.kdb_store.specs.Stores.{Answers, AnswersMade, AnswersEnded, FindsImage, Chooses, IsChosen};
 ghost use Rattle.kdb_store.specs.Moments.{Creates, Destroys, RecoversToNone, FindsEither};
 ghost use Rattle.kdb_store.specs.declared.opened.Opened.{Opened as OpenedFiles};
@@ -216,7 +216,7 @@ fn make_files<D: Disk>(disk: &mut D, control: &Control, text: &[u8]) -> Result<(
 fn first_control(base: &Point, size: u32, block: u32) -> Control
     requires size { nat_le 2 size && nat_le size 10000 ≡ true }
     requires block { nat_le 2048 block && nat_le block 10240 ≡ true }
-    ensures { result ≡ record { turn = 0; image = 1; log = 3; stash = 0; size = size; block = block; base = base.now } }
+    ensures { result ≡ first_choice base.now size block }
 {
     Control {
         turn: 0,
@@ -268,6 +268,7 @@ pub fn create_files<D: Disk>(
     requires block { nat_le 2048 block && nat_le block 10240 ≡ true }
     ensures answer { D.tells → AnswersMade result (in_force ((D.view disk.old).seen 0)) }
     ensures place { (opened : OpenedFiles) → result ≡ Ok opened → place_of opened ≡ created realm.now rows base size block }
+    ensures control { (opened : OpenedFiles) → result ≡ Ok opened → opened.control ≡ first_choice base size block }
     ensures holds { D.tells → (opened : OpenedFiles) → result ≡ Ok opened → Holds opened (D.view disk.new) }
     ensures moments { D.tells → LeavesOnly (D.view disk.old) (D.view disk.new) (Creates (D.view disk.old) (created realm.now rows base size block)) }
     ensures refused { D.tells → (refusal : Refusal) → result ≡ Err (Refused refusal) → Keeps (D.view disk.old) (D.view disk.new) }

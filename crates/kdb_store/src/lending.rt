@@ -5,7 +5,7 @@ ghost use Rattle.kdb_base.specs.Moments.{micros};
 ghost use Rattle.kdb_disk.specs.View.{View};
 ghost use Rattle.kdb_disk.specs.Moments.{LeavesOnly};
 ghost use Rattle.kdb_store.specs.Places.{place_of, Holds};
-ghost use Rattle.kdb_store.specs.Steps.{committed, effect, entry_length, IsOp};
+ghost use Rattle.kdb_store.specs.Steps.{committed, effect, entry_length, next_choice, IsOp};
 ghost use Rattle.kdb_store.specs.Moments.{RecoversEither};
 
 use crate::changing::change;
@@ -45,6 +45,7 @@ impl Opened {
         requires time { micros self.old.image.point.time ≤ micros time }
         ensures point { IfOk result (λ point. point ≡ (committed op time (place_of self.old)).point) }
         ensures place { OnOk result (place_of self.new ≡ committed op time (place_of self.old)) }
+        ensures control { OnOk result (self.new.control ≡ next_choice self.old.control) }
         ensures holds { D.tells → OnOk result (Holds self.new (D.view disk.new)) }
         ensures moments { D.tells → LeavesOnly (D.view disk.old) (D.view disk.new) (RecoversEither (place_of self.old) (committed op time (place_of self.old))) }
         ensures err { OnErr result (self.new ≡ self.old) }

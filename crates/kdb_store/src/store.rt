@@ -1,5 +1,5 @@
 //! A database over a disk that it holds.
-ghost use Rattle.std.specs.Prelude.{◌≡◌, ◌≤◌, ◌<◌, ◌-◌, ◌↔◌, ◌&&◌, ℕ, [], false, true, nat_le, length, IfOk, IfSome, IfNone, OnOk, OnErr, IsTrue, Ok, Err};
+ghost use Rattle.std.specs.Prelude.{◌≡◌, ◌≢◌, ◌≤◌, ◌<◌, ◌-◌, ◌↔◌, ◌&&◌, ℕ, [], false, true, nat_le, length, IfOk, IfSome, IfNone, OnOk, OnErr, IsTrue, Ok, Err};
 ghost use Rattle.std.specs.List.{Contains};
 ghost use Rattle.kdb_base.specs.Causes.{Rose, HasCause};
 ghost use Rattle.kdb_base.specs.Moments.{micros};
@@ -7,10 +7,11 @@ ghost use Rattle.kdb_base.specs.declared.outcomes.Stop.TheVariants.{Halt as Halt
 ghost use Rattle.kdb_base.specs.declared.outcomes.Refusal.{Refusal};
 ghost use Rattle.kdb_disk.specs.View.{View};
 ghost use Rattle.kdb_disk.specs.Moments.{Keeps, LeavesOnly};
+ghost use Rattle.kdb_control.specs.declared.force.Force.TheVariants.{Nothing};
 ghost use Rattle.kdb_control.specs.Force.{in_force};
 ghost use Rattle.kdb_store.specs.Images.{IsRealm};
 ghost use Rattle.kdb_store.specs.Places.{place_of, Holds};
-ghost use Rattle.kdb_store.specs.Steps.{committed, created, effect, entry_length, IsOp};
+ghost use Rattle.kdb_store.specs.Steps.{committed, created, effect, entry_length, first_choice, next_choice, IsOp};
 ghost use Rattle.kdb_store.specs.Stores.{Answers, AnswersMade, disk_after, answer_of, returned};
 ghost use Rattle.kdb_store.specs.Moments.{RecoversEither, RecoversToNone, Creates, Destroys};
 
@@ -85,10 +86,12 @@ impl<D: Disk + Drop> Store<D> {
         requires block { nat_le 2048 block && nat_le block 10240 ≡ true }
         ensures answer { D.tells → AnswersMade (answer_of result) (in_force ((D.view disk).seen 0)) }
         ensures place { IfOk result (λ store. place_of store.opened ≡ created realm.now rows base size block) }
+        ensures control { IfOk result (λ store. store.opened.control ≡ first_choice base size block) }
         ensures holds { D.tells → IfOk result (λ store. Holds store.opened (D.view store.disk)) }
         ensures whole { IfOk result (λ store. store.broken ≡ false) }
         ensures moments { D.tells → LeavesOnly (D.view disk) (D.view (disk_after result)) (Creates (D.view disk) (created realm.now rows base size block)) }
         ensures refused { D.tells → (refusal : Refusal) → answer_of result ≡ Err (Refused refusal) → Keeps (D.view disk) (D.view (disk_after result)) }
+        ensures there { D.tells → in_force ((D.view disk).seen 0) ≢ Nothing → Keeps (D.view disk) (D.view (disk_after result)) }
         ensures memory { answer_of result ≡ Err (Halts Halt.MemoryOut) → disk_after result ≡ disk }
         ensures same { D.loans (disk_after result) ≡ D.loans disk }
         ensures later { D.faults disk ≤ D.faults (disk_after result) }
@@ -138,6 +141,7 @@ impl<D: Disk + Drop> Store<D> {
         requires time { micros self.old.opened.image.point.time ≤ micros time }
         ensures point { IfOk result (λ point. point ≡ (committed op time (place_of self.old.opened)).point) }
         ensures place { OnOk result (place_of self.new.opened ≡ committed op time (place_of self.old.opened)) }
+        ensures control { OnOk result (self.new.opened.control ≡ next_choice self.old.opened.control) }
         ensures holds { D.tells → OnOk result (Holds self.new.opened (D.view self.new.disk)) }
         ensures moments { D.tells → LeavesOnly (D.view self.old.disk) (D.view self.new.disk) (RecoversEither (place_of self.old.opened) (committed op time (place_of self.old.opened))) }
         ensures err { OnErr result (self.new.opened ≡ self.old.opened) }

@@ -11,20 +11,20 @@ use Rattle.kadm_top.proofs.run.run_words.Goals as goal
 
 pub returns-in-Some-Admin-clause-ended : goal.returns-in-Some-Admin-clause-ended
 unfolding opening_of
-returns-in-Some-Admin-clause-ended g c = λ told found stands end e.
-    c.admin.ensures.ended told found stands end (ap (λ (o : Opening). run_end o found (g.K.Sink.taken c.args.sink.now) (input_commands (g.S.Source.left c.args.source.now)) (g.C.Clock.moments c.args.clock.now)) (sym (ap (λ (w : Option Words). opening_of w (g.D.Disk.view c.args.disk.now).seen) (c.in-Some-Admin.is ∙ ap Some c.in-Some-Admin.field-0-is))) ∙ e)
+returns-in-Some-Admin-clause-ended g c = λ told end e.
+    c.admin.ensures.ended told end (ap (λ (o : Opening). run_end o (g.K.Sink.taken c.args.sink.now) (input_commands (g.S.Source.left c.args.source.now)) (g.C.Clock.moments c.args.clock.now)) (sym (ap (λ (w : Option Words). opening_of w (g.D.Disk.view c.args.disk.now).seen) (c.in-Some-Admin.is ∙ ap Some c.in-Some-Admin.field-0-is))) ∙ e)
 
 pub returns-in-Some-Admin-clause-stopped : goal.returns-in-Some-Admin-clause-stopped
 unfolding opening_of
-returns-in-Some-Admin-clause-stopped g c = λ told found stands.
-    subst (λ (o : Opening). OnErr c.admin.result (RunStops o found (g.K.Sink.taken c.args.sink.now) (input_commands (g.S.Source.left c.args.source.now)) (g.C.Clock.moments c.args.clock.now) (g.K.Sink.taken c.admin.new.sink) (g.D.Disk.view c.admin.new.disk)))
-    (sym (ap (λ (w : Option Words). opening_of w (g.D.Disk.view c.args.disk.now).seen) (c.in-Some-Admin.is ∙ ap Some c.in-Some-Admin.field-0-is))) (c.admin.ensures.stopped told found stands)
+returns-in-Some-Admin-clause-stopped g c = λ told.
+    subst (λ (o : Opening). OnErr c.admin.result (RunStops o (g.D.Disk.view c.args.disk.now) (g.K.Sink.taken c.args.sink.now) (input_commands (g.S.Source.left c.args.source.now)) (g.C.Clock.moments c.args.clock.now) (g.K.Sink.taken c.admin.new.sink) (g.D.Disk.view c.admin.new.disk)))
+    (sym (ap (λ (w : Option Words). opening_of w (g.D.Disk.view c.args.disk.now).seen) (c.in-Some-Admin.is ∙ ap Some c.in-Some-Admin.field-0-is))) (c.admin.ensures.stopped told)
 
 pub returns-in-Some-Admin-clause-moments : goal.returns-in-Some-Admin-clause-moments
 unfolding opening_of
-returns-in-Some-Admin-clause-moments g c = λ told found stands.
-    subst (λ (o : Opening). LeavesOnly (g.D.Disk.view c.args.disk.now) (g.D.Disk.view c.admin.new.disk) (RunLeaves o found (input_commands (g.S.Source.left c.args.source.now)) (g.C.Clock.moments c.args.clock.now)))
-    (sym (ap (λ (w : Option Words). opening_of w (g.D.Disk.view c.args.disk.now).seen) (c.in-Some-Admin.is ∙ ap Some c.in-Some-Admin.field-0-is))) (c.admin.ensures.moments told found stands)
+returns-in-Some-Admin-clause-moments g c = λ told.
+    subst (λ (o : Opening). LeavesOnly (g.D.Disk.view c.args.disk.now) (g.D.Disk.view c.admin.new.disk) (RunLeaves o (g.D.Disk.view c.args.disk.now) (input_commands (g.S.Source.left c.args.source.now)) (g.C.Clock.moments c.args.clock.now)))
+    (sym (ap (λ (w : Option Words). opening_of w (g.D.Disk.view c.args.disk.now).seen) (c.in-Some-Admin.is ∙ ap Some c.in-Some-Admin.field-0-is))) (c.admin.ensures.moments told)
 
 pub returns-in-Some-Admin-clause-read_to_end : goal.returns-in-Some-Admin-clause-read_to_end
 unfolding opening_of
@@ -35,38 +35,38 @@ unfolding opening_of
 returns-in-Some-Admin-clause-unread g c = λ told not. c.admin.ensures.unread told (λ reads. not (subst ReadsInput (sym (ap (λ (w : Option Words). opening_of w (g.D.Disk.view c.args.disk.now).seen) (c.in-Some-Admin.is ∙ ap Some c.in-Some-Admin.field-0-is))) reads))
 
 pub returns-in-Some-Create-clause-ended : goal.returns-in-Some-Create-clause-ended
-returns-in-Some-Create-clause-ended g c = λ told found stands end e.
-    c.create.ensures.ended told (input_commands (g.S.Source.left c.args.source.now)) found stands end (ap (λ (o : Opening). run_end o found (g.K.Sink.taken c.args.sink.now) (input_commands (g.S.Source.left c.args.source.now)) (g.C.Clock.moments c.args.clock.now)) (sym (ap (λ (w : Option Words). opening_of w (g.D.Disk.view c.args.disk.now).seen) (c.in-Some-Create.is ∙ ap Some c.in-Some-Create.field-0-is))) ∙ e)
+returns-in-Some-Create-clause-ended g c = λ told end e.
+    c.create.ensures.ended told (input_commands (g.S.Source.left c.args.source.now)) end (ap (λ (o : Opening). run_end o (g.K.Sink.taken c.args.sink.now) (input_commands (g.S.Source.left c.args.source.now)) (g.C.Clock.moments c.args.clock.now)) (sym (ap (λ (w : Option Words). opening_of w (g.D.Disk.view c.args.disk.now).seen) (c.in-Some-Create.is ∙ ap Some c.in-Some-Create.field-0-is))) ∙ e)
 
 pub returns-in-Some-Create-clause-stopped : goal.returns-in-Some-Create-clause-stopped
-returns-in-Some-Create-clause-stopped g c = λ told found stands.
-    subst (λ (o : Opening). OnErr c.create.result (RunStops o found (g.K.Sink.taken c.args.sink.now) (input_commands (g.S.Source.left c.args.source.now)) (g.C.Clock.moments c.args.clock.now) (g.K.Sink.taken c.create.new.sink) (g.D.Disk.view c.create.new.disk)))
-    (sym (ap (λ (w : Option Words). opening_of w (g.D.Disk.view c.args.disk.now).seen) (c.in-Some-Create.is ∙ ap Some c.in-Some-Create.field-0-is))) (c.create.ensures.stopped told (input_commands (g.S.Source.left c.args.source.now)) found stands)
+returns-in-Some-Create-clause-stopped g c = λ told.
+    subst (λ (o : Opening). OnErr c.create.result (RunStops o (g.D.Disk.view c.args.disk.now) (g.K.Sink.taken c.args.sink.now) (input_commands (g.S.Source.left c.args.source.now)) (g.C.Clock.moments c.args.clock.now) (g.K.Sink.taken c.create.new.sink) (g.D.Disk.view c.create.new.disk)))
+    (sym (ap (λ (w : Option Words). opening_of w (g.D.Disk.view c.args.disk.now).seen) (c.in-Some-Create.is ∙ ap Some c.in-Some-Create.field-0-is))) (c.create.ensures.stopped told (input_commands (g.S.Source.left c.args.source.now)))
 
 pub returns-in-Some-Create-clause-moments : goal.returns-in-Some-Create-clause-moments
-returns-in-Some-Create-clause-moments g c = λ told found stands.
-    subst (λ (o : Opening). LeavesOnly (g.D.Disk.view c.args.disk.now) (g.D.Disk.view c.create.new.disk) (RunLeaves o found (input_commands (g.S.Source.left c.args.source.now)) (g.C.Clock.moments c.args.clock.now)))
-    (sym (ap (λ (w : Option Words). opening_of w (g.D.Disk.view c.args.disk.now).seen) (c.in-Some-Create.is ∙ ap Some c.in-Some-Create.field-0-is))) (c.create.ensures.moments told (input_commands (g.S.Source.left c.args.source.now)) found stands)
+returns-in-Some-Create-clause-moments g c = λ told.
+    subst (λ (o : Opening). LeavesOnly (g.D.Disk.view c.args.disk.now) (g.D.Disk.view c.create.new.disk) (RunLeaves o (g.D.Disk.view c.args.disk.now) (input_commands (g.S.Source.left c.args.source.now)) (g.C.Clock.moments c.args.clock.now)))
+    (sym (ap (λ (w : Option Words). opening_of w (g.D.Disk.view c.args.disk.now).seen) (c.in-Some-Create.is ∙ ap Some c.in-Some-Create.field-0-is))) (c.create.ensures.moments told (input_commands (g.S.Source.left c.args.source.now)))
 
 pub returns-in-Some-Create-clause-read_to_end : goal.returns-in-Some-Create-clause-read_to_end
 returns-in-Some-Create-clause-read_to_end g c = λ told reads. absurd (create_unread _ (g.D.Disk.view c.args.disk.now).seen (subst ReadsInput (ap (λ (w : Option Words). opening_of w (g.D.Disk.view c.args.disk.now).seen) (c.in-Some-Create.is ∙ ap Some c.in-Some-Create.field-0-is)) reads))
 
 pub returns-in-Some-Destroy-clause-ended : goal.returns-in-Some-Destroy-clause-ended
 unfolding opening_of
-returns-in-Some-Destroy-clause-ended g c = λ told found stands end e.
-    c.end.ensures.ended told (input_commands (g.S.Source.left c.args.source.now)) (g.C.Clock.moments c.args.clock.now) found stands end (ap (λ (o : Opening). run_end o found (g.K.Sink.taken c.args.sink.now) (input_commands (g.S.Source.left c.args.source.now)) (g.C.Clock.moments c.args.clock.now)) (sym (ap (λ (w : Option Words). opening_of w (g.D.Disk.view c.args.disk.now).seen) (c.in-Some-Destroy.is ∙ ap Some c.in-Some-Destroy.field-0-is))) ∙ e)
+returns-in-Some-Destroy-clause-ended g c = λ told end e.
+    c.end.ensures.ended told (input_commands (g.S.Source.left c.args.source.now)) (g.C.Clock.moments c.args.clock.now) end (ap (λ (o : Opening). run_end o (g.K.Sink.taken c.args.sink.now) (input_commands (g.S.Source.left c.args.source.now)) (g.C.Clock.moments c.args.clock.now)) (sym (ap (λ (w : Option Words). opening_of w (g.D.Disk.view c.args.disk.now).seen) (c.in-Some-Destroy.is ∙ ap Some c.in-Some-Destroy.field-0-is))) ∙ e)
 
 pub returns-in-Some-Destroy-clause-stopped : goal.returns-in-Some-Destroy-clause-stopped
 unfolding opening_of
-returns-in-Some-Destroy-clause-stopped g c = λ told found stands.
-    subst (λ (o : Opening). OnErr c.end.result (RunStops o found (g.K.Sink.taken c.args.sink.now) (input_commands (g.S.Source.left c.args.source.now)) (g.C.Clock.moments c.args.clock.now) (g.K.Sink.taken c.end.new.sink) (g.D.Disk.view c.end.new.disk)))
-    (sym (ap (λ (w : Option Words). opening_of w (g.D.Disk.view c.args.disk.now).seen) (c.in-Some-Destroy.is ∙ ap Some c.in-Some-Destroy.field-0-is))) (c.end.ensures.stopped told (input_commands (g.S.Source.left c.args.source.now)) (g.C.Clock.moments c.args.clock.now) found stands)
+returns-in-Some-Destroy-clause-stopped g c = λ told.
+    subst (λ (o : Opening). OnErr c.end.result (RunStops o (g.D.Disk.view c.args.disk.now) (g.K.Sink.taken c.args.sink.now) (input_commands (g.S.Source.left c.args.source.now)) (g.C.Clock.moments c.args.clock.now) (g.K.Sink.taken c.end.new.sink) (g.D.Disk.view c.end.new.disk)))
+    (sym (ap (λ (w : Option Words). opening_of w (g.D.Disk.view c.args.disk.now).seen) (c.in-Some-Destroy.is ∙ ap Some c.in-Some-Destroy.field-0-is))) (c.end.ensures.stopped told (input_commands (g.S.Source.left c.args.source.now)) (g.C.Clock.moments c.args.clock.now))
 
 pub returns-in-Some-Destroy-clause-moments : goal.returns-in-Some-Destroy-clause-moments
 unfolding opening_of
-returns-in-Some-Destroy-clause-moments g c = λ told found stands.
-    subst (λ (o : Opening). LeavesOnly (g.D.Disk.view c.args.disk.now) (g.D.Disk.view c.end.new.disk) (RunLeaves o found (input_commands (g.S.Source.left c.args.source.now)) (g.C.Clock.moments c.args.clock.now)))
-    (sym (ap (λ (w : Option Words). opening_of w (g.D.Disk.view c.args.disk.now).seen) (c.in-Some-Destroy.is ∙ ap Some c.in-Some-Destroy.field-0-is))) (c.end.ensures.moments told (input_commands (g.S.Source.left c.args.source.now)) (g.C.Clock.moments c.args.clock.now) found stands)
+returns-in-Some-Destroy-clause-moments g c = λ told.
+    subst (λ (o : Opening). LeavesOnly (g.D.Disk.view c.args.disk.now) (g.D.Disk.view c.end.new.disk) (RunLeaves o (g.D.Disk.view c.args.disk.now) (input_commands (g.S.Source.left c.args.source.now)) (g.C.Clock.moments c.args.clock.now)))
+    (sym (ap (λ (w : Option Words). opening_of w (g.D.Disk.view c.args.disk.now).seen) (c.in-Some-Destroy.is ∙ ap Some c.in-Some-Destroy.field-0-is))) (c.end.ensures.moments told (input_commands (g.S.Source.left c.args.source.now)) (g.C.Clock.moments c.args.clock.now))
 
 pub returns-in-Some-Destroy-clause-read_to_end : goal.returns-in-Some-Destroy-clause-read_to_end
 unfolding opening_of
@@ -74,12 +74,12 @@ returns-in-Some-Destroy-clause-read_to_end g c = λ told reads. absurd (destroy_
 
 pub returns-in-Ok-clause-ended : goal.returns-in-Ok-clause-ended
 unfolding opening_of
-returns-in-Ok-clause-ended g c = λ told found stands end e.
-    refused_ended _ BadLine found _ _ _ _ _ end (ap (λ (w : Option Words). opening_of w (g.D.Disk.view c.args.disk.now).seen) c.in-None.is) e c.in-Ok.ensures.ok stands
+returns-in-Ok-clause-ended g c = λ told end e.
+    refused_ended _ BadLine _ _ _ _ _ _ end (ap (λ (w : Option Words). opening_of w (g.D.Disk.view c.args.disk.now).seen) c.in-None.is) e c.in-Ok.ensures.ok (kept _)
 
 pub returns-in-Ok-clause-moments : goal.returns-in-Ok-clause-moments
 unfolding opening_of
-returns-in-Ok-clause-moments g c = λ told found stands. refused_leaves _ BadLine found _ _ (ap (λ (w : Option Words). opening_of w (g.D.Disk.view c.args.disk.now).seen) c.in-None.is) stands (kept _)
+returns-in-Ok-clause-moments g c = λ told. refused_leaves _ BadLine _ _ (ap (λ (w : Option Words). opening_of w (g.D.Disk.view c.args.disk.now).seen) c.in-None.is) (kept _)
 
 pub returns-in-Ok-clause-read_to_end : goal.returns-in-Ok-clause-read_to_end
 unfolding opening_of
@@ -87,9 +87,9 @@ returns-in-Ok-clause-read_to_end g c = λ told reads. absurd (subst ReadsInput (
 
 pub returns-in-Err-clause-stopped : goal.returns-in-Err-clause-stopped
 unfolding opening_of
-returns-in-Err-clause-stopped g c = λ told found stands.
-    refused_stops _ BadLine found _ _ _ _ _ (ap (λ (w : Option Words). opening_of w (g.D.Disk.view c.args.disk.now).seen) c.in-None.is) c.in-Err.ensures.err stands
+returns-in-Err-clause-stopped g c = λ told.
+    refused_stops _ BadLine _ _ _ _ _ _ (ap (λ (w : Option Words). opening_of w (g.D.Disk.view c.args.disk.now).seen) c.in-None.is) c.in-Err.ensures.err (kept _)
 
 pub returns-in-Err-clause-moments : goal.returns-in-Err-clause-moments
 unfolding opening_of
-returns-in-Err-clause-moments g c = λ told found stands. refused_leaves _ BadLine found _ _ (ap (λ (w : Option Words). opening_of w (g.D.Disk.view c.args.disk.now).seen) c.in-None.is) stands (kept _)
+returns-in-Err-clause-moments g c = λ told. refused_leaves _ BadLine _ _ (ap (λ (w : Option Words). opening_of w (g.D.Disk.view c.args.disk.now).seen) c.in-None.is) (kept _)

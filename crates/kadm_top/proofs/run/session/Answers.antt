@@ -17,7 +17,7 @@ returns-in-Err-clause-moments g c = λ told. among_still _ (input_commands (g.S.
 
 pub returns-in-Ok-serve-clause-ended : goal.returns-in-Ok-serve-clause-ended
 returns-in-Ok-serve-clause-ended g c = λ told end e.
-    run_ended _ c.in-Ok-serve.refused _ end
+    run_ended _ c.in-Ok-serve.refused _ _ end
     (c.in-Ok-serve.ensures.ended end (ap (λ (commands : Option (List Command)). ending (g.K.Sink.taken c.args.sink.now) false commands (g.C.Clock.moments c.args.clock.now) (place_of c.args.opened)) (fresh_coming _ (g.S.Source.left c.args.source.now) c.in-Ok.ensures) ∙ e))
     (c.in-Ok-serve.ensures.holds told)
 

@@ -3,7 +3,8 @@ use Rattle.std.proofs.lemmas.Result.{on_ok_weaker}
 use Rattle.kdb_disk.proofs.Puts.{get_or-put_behind}
 use Rattle.kdb_disk.proofs.Runs.{stands_here, stands_other}
 use Rattle.kdb_control.specs.Force.{in_force}
-use Rattle.kdb_control.proofs.Effects.{open_torn, opened}
+use Rattle.kdb_control.specs.Moments.{without}
+use Rattle.kdb_control.proofs.Effects.{open_torn, opened, without-put}
 use Rattle.kdb_control.proofs.Steps.{torn_either}
 use Rattle.kdb_control.proofs.slots.open_slot.Goals as goal
 
@@ -19,6 +20,13 @@ returns-clause-ok g c tells now next ready lt force turn =
       durable = stands.durable;
       others = λ h ne. stands_other h stands ne;
     }) (c.open_gate.ensures.ok tells)
+
+pub returns-clause-other : goal.returns-clause-other
+returns-clause-other g c tells =
+    on_ok_weaker c.open_gate.result (λ stands.
+    ap (without c.args.at) (stands_here stands)
+    ∙ without-put c.args.at c.args.at (165 ∷ []) ((g.D.Disk.view c.args.disk.now).seen 0) c.requires.place (omega arith) (omega arith) (omega (arith, c.requires.within tells)))
+    (c.open_gate.ensures.ok tells)
 
 pub returns-clause-rest : goal.returns-clause-rest
 returns-clause-rest g c tells i lt =

@@ -5,6 +5,7 @@ use Rattle.kdb_disk.specs.Files.{Files}
 use Rattle.kdb_control.specs.declared.force.Force.TheVariants.{Is}
 use Rattle.kdb_control.specs.Force.{in_force}
 use Rattle.kdb_control.specs.Moments.{without}
+use Rattle.kdb_control.proofs.Effects.{still_holds}
 use Rattle.kdb_control.proofs.Steps.{run_on, or_other, behind_keeps}
 use Rattle.kdb_control.proofs.switching.switch_next.Goals as goal
 
@@ -37,3 +38,13 @@ returns-clause-ok g c tells =
     let filled = c.in_ok-fill_slot.ensures.ok tells in
     on_ok_weaker c.open_slot.result (λ set. record { here = set.here; durable = set.durable; others = λ h ne. set.others h ne ∙ filled.others h ne ∙ ap (λ (files : Files). files h) keeps.seen })
     (c.open_slot.ensures.ok tells (Some c.args.now.now) c.args.next.now filled.ready c.in_ok-at.ensures.turn (filled.rest ∙ ap (without at) same ∙ c.in_ok-at.ensures.spare tells) c.requires.turn)
+
+pub returns-clause-kept : goal.returns-clause-kept
+returns-clause-kept g c tells =
+    let at = c.in_ok-at.at in
+    let keeps = c.spare_place.ensures.keeps tells in
+    let same : (g.D.Disk.view c.spare_place.new.disk).seen 0 ≡ (g.D.Disk.view c.args.disk.now).seen 0 = ap (λ (files : Files). files 0) keeps.seen in
+    let filled = c.in_ok-fill_slot.ensures.ok tells in
+    let end = (g.D.Disk.view c.open_slot.new.disk).seen 0 in
+    on_ok_weaker c.open_slot.result (λ other. still_holds at end c.args.now.now c.in_ok-at.ensures.place (other ∙ filled.rest ∙ ap (without at) same ∙ c.in_ok-at.ensures.spare tells))
+    (c.open_slot.ensures.other tells)
