@@ -1,0 +1,5 @@
+pub mod DurationLemmas
+pub mod FlagLemmas
+pub mod GlobLemmas
+pub mod NumberLemmas
+pub mod TimeLemmas

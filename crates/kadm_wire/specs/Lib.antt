@@ -1,0 +1,5 @@
+pub mod Durations
+pub mod Flags
+pub mod Globs
+pub mod Numbers
+pub mod Times

@@ -1,0 +1,6 @@
+pub mod ShortNames
+pub mod Heads
+pub mod Searches
+pub mod Edits
+pub mod Orders
+pub mod Changes

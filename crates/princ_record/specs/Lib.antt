@@ -1,0 +1,13 @@
+pub mod Answers
+pub mod Policies
+pub mod Printed
+pub mod PrintedNames
+pub mod Etypes
+pub mod Keys
+pub mod Remembered
+pub mod Facts
+pub mod Princs
+pub mod Sizes
+pub mod Entries
+pub mod Rows
+pub mod Effects

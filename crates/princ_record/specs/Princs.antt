@@ -1,0 +1,207 @@
+-- A principal as bytes.
+use Rattle.std.proofs.Common.{◌≡◌, ℕ, ◌^◌, ◌<◌, Bool, true, suc, eqb, List, [], ◌∷◌, ◌++◌, length, Option, Some, None, refl, sym, subst, ◌∙◌, arith, inl, inr}
+use Rattle.std.specs.Prelude.{IsTrue, ◌||◌, nat_eq, bit_and}
+use Rattle.std.proofs.lemmas.Bool.{or_cases, false≢true}
+use Rattle.std.proofs.Math.Dec.{eqb-suc-zero}
+use Rattle.kdb_format.specs.Readings.{Reading, ◌>>=◌, done, checked, big_at, counted_at}
+use Rattle.kdb_format.specs.Spellings.{big, counted}
+use Rattle.kdb_format.specs.Fields.{IsField}
+use Rattle.kdb_format.specs.Laws.{same_field, first_field, then_field, last_field, made_field, big_field, checked_field, counted_field}
+use Rattle.policy_rules.specs.Names.{is_policy_name}
+use Rattle.princ_record.specs.Policies.{short_name}
+use Rattle.princ_record.specs.Printed.{is_printed, is_master}
+use Rattle.princ_record.specs.PrintedNames.{IsPrinted, printed_test, test_printed, printed_short}
+use Rattle.princ_record.specs.Keys.{keys_at, keys_text, AreKeys, keys_field}
+use Rattle.princ_record.specs.Remembered.{old_sets_at, old_sets, AreOldSets, old_sets_field}
+use Rattle.princ_record.specs.Facts.{facts_at, facts, facts_field, IsFacts}
+use Rattle.princ_record.specs.declared.keys.KeyItem.{KeyItem}
+use Rattle.princ_record.specs.declared.remembered.OldSet.{OldSet}
+use Rattle.princ_record.specs.declared.facts.Facts.{Facts}
+use Rattle.princ_record.specs.declared.princs.Lives.{Lives}
+use Rattle.princ_record.specs.declared.princs.Princ.{Princ}
+
+-- ---- attributes
+
+-- the bits that a kadmin flag sets or clears, 1 to 200, 1000, 2000 and 100000 to 800000 in hexadecimal
+abbrev pub known_bits : ℕ
+known_bits = 15741951
+
+-- no other bit stands
+unfoldable pub are_attributes : ℕ → Bool
+are_attributes n = nat_eq (bit_and n known_bits) n
+
+-- ---- the policy's name, which is empty for none
+
+unfoldable pub policy_of : List ℕ → Option (List ℕ)
+policy_of [] = None
+policy_of (b ∷ name) = Some (b ∷ name)
+
+unfoldable pub name_of : Option (List ℕ) → List ℕ
+name_of None = []
+name_of (Some name) = name
+
+abbrev pub is_policy_or_none : List ℕ → Bool
+is_policy_or_none name = nat_eq (length name) 0 || is_policy_name name
+
+unfoldable pub policy_name_at : Reading (Option (List ℕ))
+policy_name_at = do
+  name ← checked is_policy_or_none counted_at
+  done (policy_of name)
+
+abbrev pub IsPolicyOr : Option (List ℕ) → Type 0
+IsPolicyOr None = Unit {0}
+IsPolicyOr (Some name) = IsTrue (is_policy_name name)
+
+no_empty_name : is_policy_name [] ≡ true → ⊥
+unfolding is_policy_name
+no_empty_name e = absurd cc
+
+named : (name : List ℕ) → is_policy_or_none name ≡ true → (counted name ≡ counted (name_of (policy_of name))) × IsPolicyOr (policy_of name)
+unfolding policy_of name_of
+named [] e = (refl, tt)
+named (b ∷ name) e =
+    elim (or_cases (eqb (suc (length name)) 0) (is_policy_name (b ∷ name)) e) [
+      | inl none ↦ absurd (false≢true (sym (eqb-suc-zero (length name)) ∙ none))
+      | inr name ↦ (refl, name)
+    ]
+
+named_again : (p : Option (List ℕ)) → IsPolicyOr p → (name : List ℕ) × (((length name < 2 ^ 16) × (is_policy_or_none name ≡ true)) × (policy_of name ≡ p))
+unfolding policy_of
+named_again None f = let none : List ℕ = [] in (none, ((omega arith, refl), refl))
+named_again (Some []) f = absurd (no_empty_name f)
+named_again (Some (b ∷ name)) f =
+    let all : List ℕ = b ∷ name in
+    let short = short_name all f in (all, ((omega arith, rw (eqb-suc-zero (length name)) f), refl))
+
+policy_name_field : IsField policy_name_at (λ p. counted (name_of p)) IsPolicyOr
+unfolding policy_name_at
+policy_name_field = made_field (checked_field is_policy_or_none counted_field) policy_of
+    (λ name f. named name f.1)
+    (λ p f. named_again p f)
+
+-- ---- lives and expirations, in seconds
+
+unfoldable pub lives_at : Reading Lives
+lives_at = do
+  max_life ← big_at 4
+  max_renew ← big_at 4
+  expire ← big_at 4
+  pw_expire ← big_at 4
+  done (record { max_life = max_life; max_renew = max_renew; expire = expire; pw_expire = pw_expire })
+
+unfoldable pub lives : Lives → List ℕ
+lives v = big 4 v.max_life ++ (big 4 v.max_renew ++ (big 4 v.expire ++ big 4 v.pw_expire))
+
+pub record AreLives (v : Lives) : Type 0 where
+  pub max_life : v.max_life < 2 ^ 32
+  pub max_renew : v.max_renew < 2 ^ 32
+  pub expire : v.expire < 2 ^ 32
+  pub pw_expire : v.pw_expire < 2 ^ 32
+
+same_lives : (v : Lives) (a b c : ℕ) → v.max_life ≡ a → v.max_renew ≡ b → v.expire ≡ c → ◌≡◌ {A = Lives} (record { max_life = a; max_renew = b; expire = c; pw_expire = v.pw_expire }) v
+same_lives v a b c x y z = rw (← x, ← y, ← z) refl
+
+lives_field : IsField lives_at lives AreLives
+unfolding lives_at lives
+lives_field = same_field
+    (first_field (big_field 4) (λ (v : Lives). v.max_life) (λ max_life _.
+    then_field (big_field 4) (λ (v : Lives). v.max_renew) (λ max_renew _.
+    then_field (big_field 4) (λ (v : Lives). v.expire) (λ expire _.
+    last_field (big_field 4) (λ (v : Lives). v.pw_expire) (λ pw_expire. record { max_life = max_life; max_renew = max_renew; expire = expire; pw_expire = pw_expire })
+    (λ _ _. (refl, (refl, (refl, refl))))
+    (λ v k. same_lives v max_life max_renew expire k.1.1 k.1.0 k.0)))))
+    (λ v f. (refl, record { max_life = f.0; max_renew = f.1.0; expire = f.1.1.0; pw_expire = f.1.1.1 }))
+    (λ v f. (f.max_life, (f.max_renew, (f.expire, f.pw_expire))))
+
+-- ---- the principal
+
+abbrev pub lives_of : Princ → Lives
+lives_of p = record { max_life = p.max_life; max_renew = p.max_renew; expire = p.expire; pw_expire = p.pw_expire }
+
+abbrev pub facts_of : Princ → Facts
+facts_of p = record { pw_changed = p.pw_changed; modified = p.modified; modifier = p.modifier; mkvno = p.mkvno; chain = p.chain }
+
+abbrev pub princ_of : List ℕ → ℕ → Lives → Facts → List KeyItem → Option (List ℕ) → List OldSet → Princ
+princ_of name attributes lives facts keys policy old = record {
+  name = name;
+  attributes = attributes;
+  max_life = lives.max_life;
+  max_renew = lives.max_renew;
+  expire = lives.expire;
+  pw_expire = lives.pw_expire;
+  pw_changed = facts.pw_changed;
+  modified = facts.modified;
+  modifier = facts.modifier;
+  mkvno = facts.mkvno;
+  keys = keys;
+  policy = policy;
+  old = old;
+  chain = facts.chain;
+}
+
+-- a name of K and M has the chain, and no other name
+unfoldable pub princ_at : Reading Princ
+princ_at = do
+  name ← checked is_printed counted_at
+  attributes ← checked are_attributes (big_at 4)
+  lives ← lives_at
+  facts ← facts_at (is_master name)
+  keys ← keys_at
+  policy ← policy_name_at
+  old ← old_sets_at
+  done (princ_of name attributes lives facts keys policy old)
+
+unfoldable pub princ : Princ → List ℕ
+princ p = counted p.name ++ (big 4 p.attributes ++ (lives (lives_of p) ++ (facts (facts_of p) ++ (keys_text p.keys ++ (counted (name_of p.policy) ++ old_sets p.old)))))
+
+-- the principals that have a spelling
+pub record IsPrinc (p : Princ) : Type 0 where
+  pub name : IsPrinted p.name
+  pub attributes : IsTrue (are_attributes p.attributes)
+  pub attributes_short : p.attributes < 2 ^ 32
+  pub lives : AreLives (lives_of p)
+  pub facts : IsFacts (is_master p.name) (facts_of p)
+  pub keys : AreKeys p.keys
+  pub policy : IsPolicyOr p.policy
+  pub old : AreOldSets p.old
+
+same_princ : (p : Princ) (name : List ℕ) (attributes : ℕ) (v : Lives) (f : Facts) (keys : List KeyItem) (policy : Option (List ℕ))
+    → p.name ≡ name → p.attributes ≡ attributes → lives_of p ≡ v → facts_of p ≡ f → p.keys ≡ keys → p.policy ≡ policy → princ_of name attributes v f keys policy p.old ≡ p
+same_princ p name attributes v f keys policy a b c d e g = rw (← a, ← b, ← c, ← d, ← e, ← g) refl
+
+-- what is known of the fields behind the name
+abbrev Behind : Princ → Type 0
+Behind p =
+    ((p.attributes < 2 ^ 32) × (are_attributes p.attributes ≡ true))
+    × (AreLives (lives_of p) × (IsFacts (is_master p.name) (facts_of p) × (AreKeys p.keys × (IsPolicyOr p.policy × AreOldSets p.old))))
+
+facts_named : (p : Princ) (name : List ℕ) → p.name ≡ name → IsFacts (is_master name) (facts_of p) → IsFacts (is_master p.name) (facts_of p)
+facts_named p name e f = subst (λ (n : List ℕ). IsFacts (is_master n) (facts_of p)) (sym e) f
+
+named_facts : (p : Princ) (name : List ℕ) → p.name ≡ name → IsFacts (is_master p.name) (facts_of p) → IsFacts (is_master name) (facts_of p)
+named_facts p name e f = subst (λ (n : List ℕ). IsFacts (is_master n) (facts_of p)) e f
+
+behind_name_field : (name : List ℕ) → IsField
+    (checked are_attributes (big_at 4) >>= λ attributes. lives_at >>= λ lives. facts_at (is_master name) >>= λ facts. keys_at >>= λ keys. policy_name_at >>= λ policy. old_sets_at >>= λ old. done (princ_of name attributes lives facts keys policy old))
+    (λ p. big 4 p.attributes ++ (lives (lives_of p) ++ (facts (facts_of p) ++ (keys_text p.keys ++ (counted (name_of p.policy) ++ old_sets p.old)))))
+    (λ p. (p.name ≡ name) × Behind p)
+behind_name_field name = same_field
+    (then_field {K = λ (p : Princ). p.name ≡ name} (checked_field are_attributes (big_field 4)) (λ (p : Princ). p.attributes) (λ attributes _.
+    then_field lives_field lives_of (λ lives _.
+    then_field (facts_field (is_master name)) facts_of (λ facts _.
+    then_field keys_field (λ (p : Princ). p.keys) (λ keys _.
+    then_field policy_name_field (λ (p : Princ). p.policy) (λ policy _.
+    last_field old_sets_field (λ (p : Princ). p.old) (λ old. princ_of name attributes lives facts keys policy old)
+    (λ _ _. (refl, (refl, (refl, (refl, (refl, (refl, refl)))))))
+    (λ p k. same_princ p name attributes lives facts keys policy k.1.1.1.1.1 k.1.1.1.1.0 k.1.1.1.0 k.1.1.0 k.1.0 k.0)))))))
+    (λ p f. (refl, (f.0, (f.1.0, (f.1.1.0, (facts_named p name f.0 f.1.1.1.0, f.1.1.1.1))))))
+    (λ p f. (f.0, (f.1.0, (f.1.1.0, (named_facts p name f.0 f.1.1.1.0, f.1.1.1.1)))))
+
+pub princ_field : IsField princ_at princ IsPrinc
+unfolding princ_at princ
+princ_field = same_field
+    (first_field (checked_field is_printed counted_field) (λ (p : Princ). p.name) (λ name _. behind_name_field name))
+    (λ p f. (refl, record { name = test_printed p.name f.0.1; attributes = f.1.0.1; attributes_short = f.1.0.0; lives = f.1.1.0; facts = f.1.1.1.0; keys = f.1.1.1.1.0; policy = f.1.1.1.1.1.0; old = f.1.1.1.1.1.1 }))
+    (λ p f.
+    let short = printed_short p.name f.name in
+    ((omega arith, printed_test p.name f.name), ((f.attributes_short, f.attributes), (f.lives, (f.facts, (f.keys, (f.policy, f.old)))))))

@@ -1,0 +1,204 @@
+ghost use Rattle.std.specs.Prelude.{◌≡◌, ◌++◌, ◌<◌, ◌^◌, length, OnOk};
+ghost use Rattle.std.specs.List.{list_all};
+ghost use Rattle.kdb_format.specs.Answers.{Gives, GivesAs};
+ghost use Rattle.princ_record.specs.Keys.{salt_at, salt as salt_text, IsSalt, key_at, key as key_text, IsKey, key_field};
+ghost use Rattle.princ_record.specs.Keys.{may_follow, are_ordered, are_keys, keys_at, keys_text, AreKeys, salt_bytes};
+
+use crate::etypes::{push_etype, read_etype};
+use kdb_base::{Blob, Etype, MemoryOut, Salt};
+use kdb_format::lists::{read_list_u16, write_list_u16};
+use kdb_format::writing::{push_counted, push_u16};
+use kdb_format::{Format, FormatFault, Reader};
+use std::alloc::Global;
+use std::marker::Model;
+
+/// The most keys of a principal.
+pub const MAX_KEYS: usize = 32;
+
+/// A key of a principal, wrapped under a master key.
+#[derive(Debug, Drop)]
+pub struct KeyItem {
+    /// The version, from 1.
+    pub kvno: u16,
+    pub etype: Etype,
+    pub salt: Salt,
+    /// The key, sealed under the master key that the record names. It may be no such thing: whether it
+    /// unwraps is not judged here.
+    pub wrapped: Blob,
+}
+
+/// Keys in their order.
+#[derive(Debug, Drop)]
+pub struct Keys {
+    items: Vec<KeyItem>,
+}
+
+impl Model for Keys {
+    ghost use Rattle.std.specs.Prelude.{List};
+    ghost use Rattle.princ_record.specs.declared.keys.KeyItem.{KeyItem};
+
+    ghost Value = { List KeyItem };
+
+    ghost view = { λ k. k.items.items };
+}
+
+impl Keys {
+    /// The keys of this vector, without a copy.
+    pub fn from_vec(items: Vec<KeyItem>) -> Keys
+        ensures { result ≡ items.items }
+    {
+        Keys { items }
+    }
+
+    /// The keys as a vector, without a copy.
+    pub fn into_vec(self) -> Vec<KeyItem>
+        ensures { result.items ≡ self }
+    {
+        self.items
+    }
+
+    pub fn as_slice(&self) -> &[KeyItem]
+        ensures { result.now ≡ self.now }
+    {
+        &self.items
+    }
+}
+
+// The type numbers of salts, as the record has them.
+const NORMAL_SALT: u16 = 0;
+
+const SPECIAL_SALT: u16 = 4;
+
+#[tactic(auto, unfolding(crate::specs::Keys::salt_at, crate::specs::Keys::salt_of, kdb_format::specs::Readings::checked))]
+fn read_salt(alloc: Global, reader: &mut Reader) -> Result<Salt, FormatFault>
+    ensures { Gives result reader.new (salt_at reader.old) }
+{
+    match reader.u16()? {
+        0 => {
+            let bytes = reader.counted()?;
+            if bytes.len() != 0 {
+                return Err(FormatFault::Malformed);
+            }
+            Ok(Salt::Normal)
+        }
+        4 => {
+            let bytes = Blob::from_bytes(alloc, reader.counted()?)?;
+            Ok(Salt::Special(bytes))
+        }
+        _ => Err(FormatFault::Malformed),
+    }
+}
+
+#[tactic(auto, unfolding(crate::specs::Keys::salt))]
+fn push_salt(out: &mut Vec<u8>, salt: &Salt) -> Result<(), MemoryOut>
+    requires { IsSalt salt.now }
+    ensures { OnOk result (out.new.items ≡ out.old.items ++ salt_text salt.now) }
+{
+    match salt {
+        Salt::Normal => {
+            push_u16(out, NORMAL_SALT)?;
+            push_counted(out, &[])?;
+            Ok(())
+        }
+        Salt::Special(bytes) => {
+            push_u16(out, SPECIAL_SALT)?;
+            push_counted(out, bytes.as_slice())?;
+            Ok(())
+        }
+    }
+}
+
+/// The format of a key: its version, its type, its salt and the wrapped key.
+pub enum KeyFormat {}
+
+impl Format for KeyFormat {
+    type Value = KeyItem;
+
+    ghost reading = { key_at };
+
+    ghost spelling = { key_text };
+
+    ghost fits = { IsKey };
+
+    ghost is_field = { key_field };
+
+    #[tactic(auto, unfolding(crate::specs::Keys::key_at, kdb_format::specs::Readings::checked))]
+    fn read(alloc: Global, reader: &mut Reader) -> Result<KeyItem, FormatFault> {
+        let kvno = reader.u16()?;
+        if kvno == 0 {
+            return Err(FormatFault::Malformed);
+        }
+        let etype = read_etype(reader)?;
+        let salt = read_salt(alloc, reader)?;
+        let wrapped = Blob::from_bytes(alloc, reader.counted()?)?;
+        Ok(KeyItem {
+            kvno,
+            etype,
+            salt,
+            wrapped,
+        })
+    }
+
+    #[tactic(auto, unfolding(crate::specs::Keys::key))]
+    fn write(out: &mut Vec<u8>, value: &KeyItem) -> Result<(), MemoryOut> {
+        push_u16(out, value.kvno)?;
+        push_etype(out, value.etype)?;
+        push_salt(out, &value.salt)?;
+        push_counted(out, value.wrapped.as_slice())?;
+        Ok(())
+    }
+}
+
+fn may_follow(key: &KeyItem, later: &KeyItem) -> bool
+    ensures { result ≡ may_follow key.now later.now }
+{
+    later.kvno < key.kvno || (later.kvno == key.kvno && later.etype.number() != key.etype.number())
+}
+
+fn all_follow(key: &KeyItem, later: &[KeyItem]) -> bool
+    ensures { result ≡ list_all (may_follow key.now) later.now }
+{
+    later.iter().all(|other| may_follow(key, other))
+}
+
+#[tactic(auto, unfolding(crate::specs::Keys::are_ordered))]
+fn are_ordered(keys: &[KeyItem]) -> bool
+    ensures { result ≡ are_ordered keys.now }
+{
+    let mut rest = keys;
+    while let Some((key, later)) = rest.split_first() {
+        if !all_follow(key, later) {
+            return false;
+        }
+        rest = later;
+    }
+    true
+}
+
+/// Whether a principal may have these keys: at most 32, of versions that never rise, and of one version
+/// at most one of each type.
+#[tactic(auto, unfolding(crate::specs::Keys::are_keys))]
+pub fn are_keys(keys: &[KeyItem]) -> bool
+    ensures { result ≡ are_keys keys.now }
+{
+    keys.len() <= MAX_KEYS && are_ordered(keys)
+}
+
+#[tactic(auto, unfolding(crate::specs::Keys::keys_at, kdb_format::specs::Readings::checked))]
+pub(crate) fn read_keys(alloc: Global, reader: &mut Reader) -> Result<Keys, FormatFault>
+    ensures { Gives result reader.new (keys_at reader.old) }
+{
+    let keys = read_list_u16::<KeyFormat>(alloc, reader)?;
+    if !are_keys(&keys) {
+        return Err(FormatFault::Malformed);
+    }
+    Ok(Keys::from_vec(keys))
+}
+
+#[tactic(auto, unfolding(crate::specs::Keys::keys_text))]
+pub(crate) fn push_keys(out: &mut Vec<u8>, keys: &Keys) -> Result<(), MemoryOut>
+    requires { AreKeys keys.now }
+    ensures { OnOk result (out.new.items ≡ out.old.items ++ keys_text keys.now) }
+{
+    write_list_u16::<KeyFormat>(out, keys.as_slice())
+}
