@@ -316,10 +316,10 @@ fn status_at_end(ended: Result<bool, SessionHalt>) -> Status
 /// answers each line of the source to the sink, and keeps the disk the way the replies say.
 ///
 /// The words are `admin`, `create REALM` or `destroy`; other words are answered by `err 1 BadLine`, and
-/// a bad realm by `err 13 BadValue realm`, and no file is touched. Each reply is written whole before
-/// the next line is judged, and after its change is on the disk. A crash at any moment leaves the
-/// database as it was or after some of the commands; where it returns early, a crash afterwards leaves
-/// it after commands among which is each of which a byte was answered.
+/// a bad realm by `err 13 BadValue realm`, and no file is touched. A reply is written once its change is
+/// on the disk. A crash at any moment leaves the database as it was or after some of the commands; where
+/// it returns early, a crash afterwards leaves it after commands among which is each of which a byte was
+/// answered. When the input is read, no clause says.
 pub fn run_local<S: Source, K: Sink, D: Disk, C: Clock, E: Entropy>(
     alloc: Global,
     words: &[Vec<u8>],
@@ -336,7 +336,7 @@ pub fn run_local<S: Source, K: Sink, D: Disk, C: Clock, E: Entropy>(
         → OnEnd result (λ refused. RunEndsAs (K.taken sink.new) refused (D.view disk.old) (D.view disk.new) end) }
 
     // Where it stops early: the bytes are a front of the replies, and a crash leaves the place after
-    // some of the commands, among them each of which a byte was answered.
+    // some of the commands, among them each of which a byte was answered, or nothing has changed.
     ensures stopped { D.tells → OnStop result (RunStops (opening_of (words_in (map (λ word. word.items) words.now)) (D.view disk.old).seen) (D.view disk.old) (K.taken sink.old) (input_commands (S.left source.old)) (C.moments clock.old) (K.taken sink.new) (D.view disk.new)) }
 
     // A crash at any moment of it leaves files like those that one would have left before it, or a place
