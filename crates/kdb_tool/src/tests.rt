@@ -1,8 +1,7 @@
 use kadm_top::run_local;
-use kdb_base::{Blob, Fails, Point, Status, Time};
+use kdb_base::{Blob, Fails, Status, Time};
 use kdb_disk::{MemoryDisk, replace_file};
 use kdb_ports::{MemoryClock, MemorySink, MemorySource, ZeroEntropy};
-use kdb_store::{Rows, create_files};
 use std::alloc::Global;
 use std::process::Abort;
 use std::test::Fail;
@@ -93,7 +92,7 @@ fn a_database_is_made_changed_and_ended(rt: HostRuntime) -> Result<(), Fail> {
     let made = run(alloc, &mut disk, "create EXAMPLE.ORG", b"", &NO_FAULTS)?;
     check(&rt, &made, Status::Done, b"ok 1 1700000000.000000\n");
     assert_eq!(rt; disk.bytes(0).starts_with(&FIRST_SLOT), true);
-    assert_eq!(rt; disk.bytes(0)[31..64].iter().all(|byte| *byte == 0), true);
+    assert_eq!(rt; disk.bytes(0).iter().skip(31).all(|byte| *byte == 0), true);
     let added = run(alloc, &mut disk, "admin", ONE_LINE, &NO_FAULTS)?;
     check(&rt, &added, Status::Done, b"ok 2 1700000000.000000\n");
     let again = run(alloc, &mut disk, "create EXAMPLE.ORG", b"", &NO_FAULTS)?;
@@ -162,9 +161,11 @@ fn a_damaged_file_is_refused(rt: HostRuntime) -> Result<(), Fail> {
     let outcome = run(alloc, &mut disk, "admin", THREE_LINES, &NO_FAULTS)?;
     check(&rt, &outcome, Status::Refused, b"err 22 Damaged 1 0\n");
     // Two open slots with equal turns.
-    let mut control = disk.bytes(0)[..64].to_vec(alloc)?;
-    let slot = control.as_slice().to_vec(alloc)?;
-    control.extend_from_slice(&slot)?;
+    let mut control = Vec::new(alloc);
+    for _ in 0..2 {
+        control.extend_from_slice(&FIRST_SLOT)?;
+        control.extend_from_slice(&[0; 33])?;
+    }
     replace_file(&mut disk, 0, &control)?;
     let outcome = run(alloc, &mut disk, "destroy", b"", &NO_FAULTS)?;
     check(&rt, &outcome, Status::Refused, b"err 22 Damaged 0 64\n");
@@ -173,39 +174,39 @@ fn a_damaged_file_is_refused(rt: HostRuntime) -> Result<(), Fail> {
     Ok(())
 }
 
-/// 100000 names of seven bytes.
-fn many_names(alloc: Global) -> Result<Vec<Blob>, Fail> {
-    let mut names = Vec::new(alloc);
-    for number in 0..100_000u32 {
+/// An image of EXAMPLE.ORG with this serial and so many names, n000000 and on.
+fn image_of(alloc: Global, count: u32, sno: u32) -> Result<Vec<u8>, Fail> {
+    let mut text = Vec::new(alloc);
+    text.extend_from_slice(b"KDBI\0\x01\0\x0bEXAMPLE.ORG")?;
+    text.extend_from_slice(&sno.to_be_bytes())?;
+    text.extend_from_slice(b"\x65\x53\xf1\0\0\0\0\0")?;
+    text.extend_from_slice(&count.to_be_bytes())?;
+    for number in 0..count {
         let name = format!(in alloc; "n{number:06}")?;
-        names.push(Blob::from_bytes(alloc, name.as_bytes())?)?;
+        text.extend_from_slice(b"\x01\0\0\0\x07")?;
+        text.extend_from_slice(name.as_bytes())?;
     }
-    Ok(names)
+    text.extend_from_slice(b"END.")?;
+    Ok(text)
 }
 
-/// A disk with a database of these rows, whose last change has this serial.
-fn holding(alloc: Global, names: Vec<Blob>, sno: u32) -> Result<MemoryDisk, Fail> {
-    let mut disk = MemoryDisk::new(alloc, Fails::none(alloc))?;
-    let rows = Rows::from_names(names).map_err(|_| Fail::new("the names are not in order"))?;
-    let base = Point {
-        sno,
-        time: Time::new(1_700_000_000, 0),
-    };
-    create_files(alloc, &mut disk, b"EXAMPLE.ORG", rows, base, 1000, 2048).map_err(|_| Fail::new(
-        "no database was made",
-    ))?;
+/// A disk with a database of so many names, whose last change has this serial.
+fn holding(alloc: Global, count: u32, sno: u32) -> Result<MemoryDisk, Fail> {
+    let mut disk = created(alloc, &[])?;
+    let image = image_of(alloc, count, sno)?;
+    replace_file(&mut disk, 1, &image)?;
     Ok(disk)
 }
 
 #[test]
 fn a_full_database_and_the_last_serial_take_no_more(rt: HostRuntime) -> Result<(), Fail> {
     let alloc = rt.alloc();
-    let mut disk = holding(alloc, many_names(alloc)?, 100_001)?;
+    let mut disk = holding(alloc, 100_000, 100_001)?;
     let input = b"addprinc -nokey n000000\naddprinc -nokey x\n";
     let full = run(alloc, &mut disk, "admin", input, &NO_FAULTS)?;
     let replies = b"err 3 Duplicate\nerr 29 RowsFull 100000\n";
     check(&rt, &full, Status::Refused, replies);
-    let mut disk = holding(alloc, Vec::new(alloc), u32::MAX)?;
+    let mut disk = holding(alloc, 0, u32::MAX)?;
     let end = run(alloc, &mut disk, "admin", ONE_LINE, &NO_FAULTS)?;
     check(&rt, &end, Status::Refused, b"err 23 TimeEnd\n");
     Ok(())
