@@ -12,3 +12,4 @@ pub mod Returning
 pub mod Inversion
 pub mod Field
 pub mod Mixing
+pub mod Packed

@@ -1,7 +1,8 @@
 -- The bytes of words under `^`, and a round on words as a round on bytes.
-use Rattle.std.proofs.Common.{◌≡◌, ℕ, zero, suc, ◌/◌, ◌%◌, ◌<◌, ◌^◌, ◌∷◌, ◌++◌, [], List, slice_index, get_or, bit_xor, lit<, refl, ap₂, ap, ◌∙◌, arith}
+use Rattle.std.proofs.Common.{◌≡◌, ℕ, zero, suc, ◌/◌, ◌%◌, ◌<◌, ◌^◌, ◌∷◌, ◌++◌, [], List, slice_index, get_or, bit_xor, lit<, refl, ap₂, ap, sym, ◌∙◌, arith}
 use Rattle.std.specs.Int.{w32, to_be_bytes, from_be_bytes}
-use Rattle.std.proofs.lemmas.Nat.{xor_shr, xor_mod, be_bytes_4}
+use Rattle.std.specs.Int.Bits.{xor_assoc}
+use Rattle.std.proofs.lemmas.Nat.{xor_comm, xor_shr, xor_mod, be_bytes_4}
 use Rattle.aes_cts.specs.Field.{product, sub_byte}
 use Rattle.aes_cts.specs.Cipher.{add_bytes, sub_bytes, below, shift_rows, mixed, mixed_at, mix_columns}
 use Rattle.aes_cts.specs.Inverse.{unsub_byte, unsub_bytes, unshift_rows, unmixed, unmixed_at, unmix_columns}
@@ -23,16 +24,25 @@ word_of_xor a b =
     let e3 : bit_xor a b / 16777216 % 256 ≡ bit_xor (a / 16777216 % 256) (b / 16777216 % 256) = byte_of_xor a b 24 in
     cc
 
+-- a sum in reverse
+xor_turned : (a b c d e : ℕ) → bit_xor (bit_xor (bit_xor (bit_xor a b) c) d) e ≡ bit_xor (bit_xor (bit_xor (bit_xor e d) c) b) a
+xor_turned a b c d e =
+    xor_comm (bit_xor (bit_xor (bit_xor a b) c) d) e
+    ∙ ap (λ (x : ℕ). bit_xor e x) (xor_comm (bit_xor (bit_xor a b) c) d) ∙ sym (xor_assoc e d (bit_xor (bit_xor a b) c))
+    ∙ ap (λ (x : ℕ). bit_xor (bit_xor e d) x) (xor_comm (bit_xor a b) c) ∙ sym (xor_assoc (bit_xor e d) c (bit_xor a b))
+    ∙ ap (λ (x : ℕ). bit_xor (bit_xor (bit_xor e d) c) x) (xor_comm a b) ∙ sym (xor_assoc (bit_xor (bit_xor e d) c) b a)
+
 -- a column of a round is the sum of what its four bytes add, and the key
 pub column_of_parts : (p1 p2 p3 p4 key a b c d : ℕ)
     → word_bytes p1 ≡ spread 0 (product 2 a) (product 3 a) a a
     → word_bytes p2 ≡ spread 1 (product 2 b) (product 3 b) b b
     → word_bytes p3 ≡ spread 2 (product 2 c) (product 3 c) c c
     → word_bytes p4 ≡ spread 3 (product 2 d) (product 3 d) d d
-    → word_bytes (bit_xor (bit_xor (bit_xor (bit_xor p1 p2) p3) p4) key) ≡ add_bytes (mixed a b c d) (word_bytes key)
+    → word_bytes (bit_xor (bit_xor (bit_xor (bit_xor key p4) p3) p2) p1) ≡ add_bytes (mixed a b c d) (word_bytes key)
 unfolding spread add_bytes mixed
 column_of_parts p1 p2 p3 p4 key a b c d e1 e2 e3 e4 =
-    rw (word_of_xor (bit_xor (bit_xor (bit_xor p1 p2) p3) p4) key, word_of_xor (bit_xor (bit_xor p1 p2) p3) p4, word_of_xor (bit_xor p1 p2) p3, word_of_xor p1 p2, e1, e2, e3, e4) refl
+    let m : bit_xor (bit_xor (bit_xor (bit_xor key p4) p3) p2) p1 ≡ bit_xor (bit_xor (bit_xor (bit_xor p1 p2) p3) p4) key = xor_turned key p4 p3 p2 p1 in
+    rw (m, word_of_xor (bit_xor (bit_xor (bit_xor p1 p2) p3) p4) key, word_of_xor (bit_xor (bit_xor p1 p2) p3) p4, word_of_xor (bit_xor p1 p2) p3, word_of_xor p1 p2, e1, e2, e3, e4) refl
 
 pub uncolumn_of_parts : (p1 p2 p3 p4 key a b c d : ℕ)
     → word_bytes p1 ≡ spread 0 (product 14 a) (product 11 a) (product 13 a) (product 9 a)
@@ -55,7 +65,7 @@ pub encrypt_column_of : (p1 p2 p3 p4 key a b c d : ℕ) (w x y z : List ℕ)
     → word_bytes p2 ≡ spread 1 (product 2 (sub_byte (slice_index x 1))) (product 3 (sub_byte (slice_index x 1))) (sub_byte (slice_index x 1)) (sub_byte (slice_index x 1))
     → word_bytes p3 ≡ spread 2 (product 2 (sub_byte (slice_index y 2))) (product 3 (sub_byte (slice_index y 2))) (sub_byte (slice_index y 2)) (sub_byte (slice_index y 2))
     → word_bytes p4 ≡ spread 3 (product 2 (sub_byte (slice_index z 3))) (product 3 (sub_byte (slice_index z 3))) (sub_byte (slice_index z 3)) (sub_byte (slice_index z 3))
-    → word_bytes (bit_xor (bit_xor (bit_xor (bit_xor p1 p2) p3) p4) key)
+    → word_bytes (bit_xor (bit_xor (bit_xor (bit_xor key p4) p3) p2) p1)
     ≡ add_bytes (mixed (sub_byte (byte_of a 0)) (sub_byte (byte_of b 1)) (sub_byte (byte_of c 2)) (sub_byte (byte_of d 3))) (word_bytes key)
 encrypt_column_of p1 p2 p3 p4 key a b c d w x y z ea eb ec ed e1 e2 e3 e4 =
     rw (← byte_read w a 0 ea, ← byte_read x b 1 eb, ← byte_read y c 2 ec, ← byte_read z d 3 ed)

@@ -3,11 +3,13 @@
 // shape by the equivalent inverse cipher (FIPS 197, 5.3.5).
 
 ghost use Rattle.std.specs.Prelude.{◌≡◌, ℕ, ◌+◌, ◌-◌, ◌<◌, ◌≤◌, ◌∷◌, [], length};
+ghost use Rattle.std.specs.Int.{w128, to_be_bytes};
 ghost use Rattle.aes_cts.specs.Field.{product, sub_byte};
 ghost use Rattle.aes_cts.specs.Cipher.{add_bytes, mixed, mix_columns, shift_rows, sub_bytes, cipher_by};
 ghost use Rattle.aes_cts.specs.Inverse.{unsub_byte, unmixed, unmix_columns, unshift_rows, unsub_bytes, uncipher_by};
 ghost use Rattle.aes_cts.specs.Words.{word_bytes, byte_of, block_of, schedule_bytes, spread};
 
+use crate::blocks::{pack, unpack};
 use crate::tables::{DECRYPT, ENCRYPT, INVERSE_SBOX, SBOX};
 
 #[inline(always)]
@@ -40,7 +42,8 @@ pub fn decrypt_part(row: usize, byte: u8) -> u32
     DECRYPT[256 * row + byte as usize]
 }
 
-// The column of a whole round whose rows come from the words a, b, c and d.
+// The column of a whole round whose rows come from the words a, b, c and d. Summed from the key and the lowest byte
+// on, the values of a round fit in the processor's registers, so that none waits for memory.
 #[inline(always)]
 fn encrypt_column(a: u32, b: u32, c: u32, d: u32, key: u32) -> u32
     ensures { word_bytes result ≡ add_bytes (mixed (sub_byte (byte_of a 0)) (sub_byte (byte_of b 1)) (sub_byte (byte_of c 2)) (sub_byte (byte_of d 3))) (word_bytes key) }
@@ -49,11 +52,10 @@ fn encrypt_column(a: u32, b: u32, c: u32, d: u32, key: u32) -> u32
     let [_, second, _, _] = b.to_be_bytes();
     let [_, _, third, _] = c.to_be_bytes();
     let [_, _, _, fourth] = d.to_be_bytes();
-    encrypt_part(0, first)
-        ^ encrypt_part(1, second)
+    key ^ encrypt_part(3, fourth)
         ^ encrypt_part(2, third)
-        ^ encrypt_part(3, fourth)
-        ^ key
+        ^ encrypt_part(1, second)
+        ^ encrypt_part(0, first)
 }
 
 #[inline(always)]
@@ -171,17 +173,27 @@ fn decrypt_last_round(s: [u32; 4], key: [u32; 4]) -> [u32; 4]
 }
 
 /// Encrypts a state by N round keys, so in N - 1 rounds.
-#[inline(never)]
+#[inline(always)]
 pub fn encrypt<const N: usize>(keys: &[[u32; 4]; N], s: [u32; 4]) -> [u32; 4]
     requires { 2 ≤ N }
     ensures { block_of result ≡ cipher_by (schedule_bytes keys.now) (N - 1) (block_of s) }
 {
-    let mut state = add_key(s, keys[0]);
+    unpack(encrypt_packed(keys, pack(s)))
+}
+
+// `encrypt` on states that are numbers: a number is passed in registers, where an array goes through memory from
+// each block of a chain to the next.
+#[inline(never)]
+fn encrypt_packed<const N: usize>(keys: &[[u32; 4]; N], block: u128) -> u128
+    requires { 2 ≤ N }
+    ensures { to_be_bytes w128 result ≡ cipher_by (schedule_bytes keys.now) (N - 1) (to_be_bytes w128 block) }
+{
+    let mut state = add_key(unpack(block), keys[0]);
     for r in 1..N - 1 {
         let next = encrypt_round(state, keys[r]);
         state = next;
     }
-    encrypt_last_round(state, keys[N - 1])
+    pack(encrypt_last_round(state, keys[N - 1]))
 }
 
 /// Decrypts a state by the N round keys of the equivalent inverse cipher.
