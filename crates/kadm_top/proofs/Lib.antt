@@ -1,4 +1,5 @@
-pub mod Texts
+pub mod LocalNames
+pub mod Performing
 pub mod OneCommand
 pub mod Coming
 pub mod Turning

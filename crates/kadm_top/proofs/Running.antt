@@ -22,19 +22,19 @@ use Rattle.kadm_top.specs.declared.halts.SessionHalt.TheVariants as session
 use Rattle.kadm_top.specs.Halts.{status_after}
 use Rattle.kadm_top.specs.Parts.{SaidPart}
 use Rattle.kadm_top.specs.Standing.{Stands}
-use Rattle.kadm_top.specs.Steps.{Command, Ending, EndsAs, ending}
+use Rattle.kadm_top.specs.Steps.{Ending, EndsAs, ending}
 use Rattle.kadm_top.specs.Stops.{Stops, IsStopped}
 use Rattle.kadm_top.specs.Intake.{coming, HasTaken}
-use Rattle.kadm_top.specs.Run.{Opening, Opens, Refuses, RunEnd, RunEndsAs, RunStops, RunLeaves, IsShortInput, WereTaken, OnEnd, OnStop, admin_of, among_places, behind_opening, end_of, input_commands, refusal_line, run_end}
+use Rattle.kadm_top.specs.Run.{Opening, Opens, Refuses, RunEnd, RunEndsAs, RunStops, RunLeaves, IsShortInput, WereTaken, OnEnd, OnStop, admin_of, among_places, behind_opening, behind_refusal, end_of, input_commands, refusal_line, run_end}
 
 -- a reader at the front of an input
 abbrev pub fresh : ReaderState
 fresh = record { text = []; skipping = false; pending = []; over = false; taken = 0 }
 
 -- all of the input's commands are to come
-pub fresh_coming : (reader : ReaderState) (told : Option (List ℕ)) → reader ≡ fresh → coming reader told ≡ input_commands told
+pub fresh_coming : (realm : List ℕ) (reader : ReaderState) (told : Option (List ℕ)) → reader ≡ fresh → coming realm reader told ≡ input_commands realm told
 unfolding to_come lines_from
-fresh_coming reader told is = ap (λ (r : ReaderState). coming r told) is
+fresh_coming realm reader told is = ap (λ (r : ReaderState). coming realm r told) is
 
 nothing_taken : (told : Option (List ℕ)) → option_map length told ≡ option_map (λ left. length left + 0) told
 nothing_taken None = refl
@@ -60,12 +60,13 @@ pub were_taken : (n : ℕ) (told left : Option (List ℕ)) (reader : ReaderState
 were_taken n told left reader takes is = takes.count ∙ ap (λ (k : ℕ). option_map (λ (ys : List ℕ). length ys + k) left) is
 
 -- a run over a database ended
-pub run_ended : {opened : Opened} (taken : Option (List ℕ)) (refused : Bool) (old now : View) (end : Ending)
-    → EndsAs taken refused (place_of opened) end → Holds opened now → RunEndsAs taken refused old now (end_of end)
-run_ended {opened} taken refused old now end ends holds = record {
+pub run_ended : {opened : Opened} (taken : Option (List ℕ)) (refused : Bool) (moments : Option (ℕ → Moment)) (old now : View) (end : Ending)
+    → EndsAs taken refused (place_of opened) moments end → Holds opened now → RunEndsAs taken refused moments old now (end_of end)
+run_ended {opened} taken refused moments old now end ends holds = record {
   out_is = ends.out;
   refused_is = ends.refused_is;
   stands = record { each = λ c image. ap place_in (holds.each c image) ∙ ap Ok ends.place_is };
+  moments_is = ends.moments_is;
 }
 
 -- an image of before is like itself
@@ -105,74 +106,75 @@ on_stop s (Err session.InputTooLong) P is p = subst (λ (x : Status). OnStop x P
 
 -- ---- a refusal of the opening
 
-pub refused_ended : (opening : Opening) (refusal : Refusal) (taken out : Option (List ℕ)) (commands : Option (List Command)) (moments : Option (ℕ → Moment)) (old now : View) (end : RunEnd)
-    → opening ≡ Refuses refusal → run_end opening taken commands moments ≡ Some end → out ≡ after_told taken (refusal_line refusal) → Keeps old now → RunEndsAs out true old now end
-refused_ended opening refusal taken out commands moments old now end is e said_it keeps =
-    subst (λ (x : RunEnd). RunEndsAs out true old now x) (same_Some _ _ (sym (ap (λ (o : Opening). run_end o taken commands moments) is) ∙ e))
-    (record { out_is = said_it; refused_is = refl; stands = keeps })
+pub refused_ended : (opening : Opening) (refusal : Refusal) (read : Bool) (taken out : Option (List ℕ)) (left : Option (List ℕ)) (moments later : Option (ℕ → Moment)) (old now : View) (end : RunEnd)
+    → opening ≡ Refuses refusal read → run_end opening taken left moments ≡ Some end → out ≡ after_told taken (refusal_line refusal) → Keeps old now → later ≡ behind_refusal read moments
+    → RunEndsAs out true later old now end
+refused_ended opening refusal read taken out left moments later old now end is e said_it keeps clock =
+    subst (λ (x : RunEnd). RunEndsAs out true later old now x) (same_Some _ _ (sym (ap (λ (o : Opening). run_end o taken left moments) is) ∙ e))
+    (record { out_is = said_it; refused_is = refl; stands = keeps; moments_is = clock })
 
-pub refused_stops : (opening : Opening) (refusal : Refusal) (old : View) (taken out : Option (List ℕ)) (commands : Option (List Command)) (moments : Option (ℕ → Moment)) (now : View)
-    → opening ≡ Refuses refusal → SaidPart (refusal_line refusal) taken out → Keeps old now → RunStops opening old taken commands moments out now
-refused_stops opening refusal old taken out commands moments now is part keeps =
-    subst (λ (o : Opening). RunStops o old taken commands moments out now) (sym is) (part, keeps)
+pub refused_stops : {read : Bool} (opening : Opening) (refusal : Refusal) (old : View) (taken out : Option (List ℕ)) (left : Option (List ℕ)) (moments : Option (ℕ → Moment)) (now : View)
+    → opening ≡ Refuses refusal read → SaidPart (refusal_line refusal) taken out → Keeps old now → RunStops opening old taken left moments out now
+refused_stops opening refusal old taken out left moments now is part keeps =
+    subst (λ (o : Opening). RunStops o old taken left moments out now) (sym is) (part, keeps)
 
-pub refused_leaves : {old now : View} (opening : Opening) (refusal : Refusal) (commands : Option (List Command)) (moments : Option (ℕ → Moment))
-    → opening ≡ Refuses refusal → Keeps old now → LeavesOnly old now (RunLeaves opening old commands moments)
-refused_leaves {old} opening refusal commands moments is keeps =
-    weaken (keeps_like keeps) (λ c like. subst (λ (o : Opening). RunLeaves o old commands moments c) (sym is) like)
+pub refused_leaves : {old now : View} {read : Bool} (opening : Opening) (refusal : Refusal) (left : Option (List ℕ)) (moments : Option (ℕ → Moment))
+    → opening ≡ Refuses refusal read → Keeps old now → LeavesOnly old now (RunLeaves opening old left moments)
+refused_leaves {old} opening refusal left moments is keeps =
+    weaken (keeps_like keeps) (λ c like. subst (λ (o : Opening). RunLeaves o old left moments c) (sym is) like)
 
 -- nothing was written yet
-pub refused_at_once : (opening : Opening) (refusal : Refusal) (old : View) (taken : Option (List ℕ)) (commands : Option (List Command)) (moments : Option (ℕ → Moment)) (now : View)
-    → opening ≡ Refuses refusal → Keeps old now → RunStops opening old taken commands moments taken now
-refused_at_once opening refusal old taken commands moments now is keeps =
-    refused_stops opening refusal old taken taken commands moments now is (record { count = 0; part = sym (after_told-nil taken) }) keeps
+pub refused_at_once : {read : Bool} (opening : Opening) (refusal : Refusal) (old : View) (taken : Option (List ℕ)) (left : Option (List ℕ)) (moments : Option (ℕ → Moment)) (now : View)
+    → opening ≡ Refuses refusal read → Keeps old now → RunStops opening old taken left moments taken now
+refused_at_once opening refusal old taken left moments now is keeps =
+    refused_stops opening refusal old taken taken left moments now is (record { count = 0; part = sym (after_told-nil taken) }) keeps
 
 -- ---- an opening for the input
 
 pub opens_as : (seen : Files) (opened : Opened) → found_in seen ≡ Ok opened → admin_of (recovers seen) ≡ Opens (place_of opened)
 opens_as seen opened is = ap (λ (r : Result Opened Refusal). admin_of (place_in r)) is
 
-pub opens_not : (seen : Files) (refusal : Refusal) → found_in seen ≡ Err refusal → admin_of (recovers seen) ≡ Refuses refusal
+pub opens_not : (seen : Files) (refusal : Refusal) → found_in seen ≡ Err refusal → admin_of (recovers seen) ≡ Refuses refusal true
 opens_not seen refusal is = ap (λ (r : Result Opened Refusal). admin_of (place_in r)) is
 
 -- an end at a place does not speak of the disk of before
-end_over : {out : Option (List ℕ)} {refused : Bool} {now : View} (mid old : View) (e : Ending) → RunEndsAs out refused mid now (end_of e) → RunEndsAs out refused old now (end_of e)
-end_over mid old e ends = record { out_is = ends.out_is; refused_is = ends.refused_is; stands = ends.stands }
+end_over : {out : Option (List ℕ)} {refused : Bool} {moments : Option (ℕ → Moment)} {now : View} (mid old : View) (e : Ending) → RunEndsAs out refused moments mid now (end_of e) → RunEndsAs out refused moments old now (end_of e)
+end_over mid old e ends = record { out_is = ends.out_is; refused_is = ends.refused_is; stands = ends.stands; moments_is = ends.moments_is }
 
-pub opened_ended : (opening : Opening) (place : Place) (taken out : Option (List ℕ)) (refused : Bool) (commands : Option (List Command)) (moments later : Option (ℕ → Moment)) (old mid now : View) (end : RunEnd)
-    → opening ≡ Opens place → later ≡ behind_opening moments → run_end opening taken commands moments ≡ Some end
-    → ((e : Ending) → ending taken false commands later place ≡ Some e → RunEndsAs out refused mid now (end_of e)) → RunEndsAs out refused old now end
-opened_ended opening place taken out refused commands moments later old mid now end is next e ends =
-    by (ending taken false commands later place) ends
-    (ap (λ (m : Option (ℕ → Moment)). option_map end_of (ending taken false commands m place)) next ∙ sym (ap (λ (o : Opening). run_end o taken commands moments) is) ∙ e)
+pub opened_ended : (opening : Opening) (place : Place) (taken out : Option (List ℕ)) (refused : Bool) (left : Option (List ℕ)) (moments later rest : Option (ℕ → Moment)) (old mid now : View) (end : RunEnd)
+    → opening ≡ Opens place → later ≡ behind_opening moments → run_end opening taken left moments ≡ Some end
+    → ((e : Ending) → ending taken false (input_commands place.realm left) later place ≡ Some e → RunEndsAs out refused rest mid now (end_of e)) → RunEndsAs out refused rest old now end
+opened_ended opening place taken out refused left moments later rest old mid now end is next e ends =
+    by (ending taken false (input_commands place.realm left) later place) ends
+    (ap (λ (m : Option (ℕ → Moment)). option_map end_of (ending taken false (input_commands place.realm left) m place)) next ∙ sym (ap (λ (o : Opening). run_end o taken left moments) is) ∙ e)
   where
-    by : (o : Option Ending) → ((x : Ending) → o ≡ Some x → RunEndsAs out refused mid now (end_of x)) → option_map end_of o ≡ Some end → RunEndsAs out refused old now end
+    by : (o : Option Ending) → ((x : Ending) → o ≡ Some x → RunEndsAs out refused rest mid now (end_of x)) → option_map end_of o ≡ Some end → RunEndsAs out refused rest old now end
     by None f e = absurd cc
-    by (Some x) f e = subst (λ (y : RunEnd). RunEndsAs out refused old now y) (same_Some _ _ e) (end_over mid old x (f x refl))
+    by (Some x) f e = subst (λ (y : RunEnd). RunEndsAs out refused rest old now y) (same_Some _ _ e) (end_over mid old x (f x refl))
 
-pub opened_stops : (opening : Opening) (place : Place) (old : View) (taken out : Option (List ℕ)) (commands : Option (List Command)) (moments later : Option (ℕ → Moment)) (now : View)
-    → opening ≡ Opens place → later ≡ behind_opening moments → IsStopped (Stops taken commands later place) out now → RunStops opening old taken commands moments out now
-opened_stops opening place old taken out commands moments later now is next stopped =
-    subst (λ (o : Opening). RunStops o old taken commands moments out now) (sym is)
-    (inl (subst (λ (m : Option (ℕ → Moment)). IsStopped (Stops taken commands m place) out now) next stopped))
+pub opened_stops : (opening : Opening) (place : Place) (old : View) (taken out : Option (List ℕ)) (left : Option (List ℕ)) (moments later : Option (ℕ → Moment)) (now : View)
+    → opening ≡ Opens place → later ≡ behind_opening moments → IsStopped (Stops taken (input_commands place.realm left) later place) out now → RunStops opening old taken left moments out now
+opened_stops opening place old taken out left moments later now is next stopped =
+    subst (λ (o : Opening). RunStops o old taken left moments out now) (sym is)
+    (inl (subst (λ (m : Option (ℕ → Moment)). IsStopped (Stops taken (input_commands place.realm left) m place) out now) next stopped))
 
-pub opened_leaves : {old mid now : View} (opening : Opening) (place : Place) (commands : Option (List Command)) (moments later : Option (ℕ → Moment))
+pub opened_leaves : {old mid now : View} (opening : Opening) (place : Place) (left : Option (List ℕ)) (moments later : Option (ℕ → Moment))
     → opening ≡ Opens place → later ≡ behind_opening moments → Keeps old mid
-    → LeavesOnly mid now (among_places commands later place) → LeavesOnly old now (RunLeaves opening old commands moments)
-opened_leaves {old} opening place commands moments later is next keeps run =
+    → LeavesOnly mid now (among_places (input_commands place.realm left) later place) → LeavesOnly old now (RunLeaves opening old left moments)
+opened_leaves {old} opening place left moments later is next keeps run =
     kept_first keeps
-    (weaken run (λ c h. turn c (inr (subst (λ (m : Option (ℕ → Moment)). among_places commands m place c) next h))))
+    (weaken run (λ c h. turn c (inr (subst (λ (m : Option (ℕ → Moment)). among_places (input_commands place.realm left) m place c) next h))))
     (λ c image. turn c (inl (like_itself c image)))
   where
-    turn : (c : Files) → RunLeaves (Opens place) old commands moments c → RunLeaves opening old commands moments c
-    turn c h = subst (λ (o : Opening). RunLeaves o old commands moments c) (sym is) h
+    turn : (c : Files) → RunLeaves (Opens place) old left moments c → RunLeaves opening old left moments c
+    turn c h = subst (λ (o : Opening). RunLeaves o old left moments c) (sym is) h
 
 -- a run whose database was not opened
-pub unopened_stops : (found : Result Place Refusal) (old : View) (taken : Option (List ℕ)) (commands : Option (List Command)) (moments : Option (ℕ → Moment)) (now : View)
-    → Keeps old now → RunStops (admin_of found) old taken commands moments taken now
-unopened_stops (Ok place) old taken commands moments now keeps = inr (refl, keeps)
-unopened_stops (Err refusal) old taken commands moments now keeps = (record { count = 0; part = sym (after_told-nil taken) }, keeps)
+pub unopened_stops : (found : Result Place Refusal) (old : View) (taken : Option (List ℕ)) (left : Option (List ℕ)) (moments : Option (ℕ → Moment)) (now : View)
+    → Keeps old now → RunStops (admin_of found) old taken left moments taken now
+unopened_stops (Ok place) old taken left moments now keeps = inr (refl, keeps)
+unopened_stops (Err refusal) old taken left moments now keeps = (record { count = 0; part = sym (after_told-nil taken) }, keeps)
 
-pub unopened_leaves : {old now : View} (found : Result Place Refusal) (commands : Option (List Command)) (moments : Option (ℕ → Moment)) → Keeps old now → LeavesOnly old now (RunLeaves (admin_of found) old commands moments)
-unopened_leaves (Ok place) commands moments keeps = weaken (keeps_like keeps) (λ c like. inl like)
-unopened_leaves (Err refusal) commands moments keeps = keeps_like keeps
+pub unopened_leaves : {old now : View} (found : Result Place Refusal) (left : Option (List ℕ)) (moments : Option (ℕ → Moment)) → Keeps old now → LeavesOnly old now (RunLeaves (admin_of found) old left moments)
+unopened_leaves (Ok place) left moments keeps = weaken (keeps_like keeps) (λ c like. inl like)
+unopened_leaves (Err refusal) left moments keeps = keeps_like keeps

@@ -1,33 +1,32 @@
--- The commands that come from a reader of lines, and what was taken from its source.
-use Rattle.std.specs.Prelude.{ℕ, ◌+◌, ◌≡◌, ◌<◌, List, [], ◌∷◌, Option, Some, None, length, option_map, IfSome, IsTrue, ⊤}
+-- What the lines that come from a reader ask for, and what was taken from its source.
+use Rattle.std.specs.Prelude.{ℕ, ◌+◌, ◌≡◌, ◌<◌, List, [], ◌∷◌, Option, Some, None, length, option_map, IsTrue, ⊤}
 use Rattle.kdb_ports.specs.Told.{IsSpent}
 use Rattle.kadm_lines.specs.Reader.{ReaderState, to_come}
-use Rattle.kdb_store.specs.Names.{IsName}
-use Rattle.kadm_top.specs.Steps.{Command}
-use Rattle.kadm_top.specs.Input.{commands_in}
+use Rattle.kadm_top.specs.Input.{commands_in, IsAsked}
+use Rattle.kadm_top.specs.declared.intake.Asked.{Asked}
 use Rattle.kadm_top.specs.declared.intake.Next.{Next}
 use Rattle.kadm_top.specs.declared.intake.Next.TheVariants as next
 
--- the commands that come, where the source tells what is left
-abbrev pub coming : ReaderState → Option (List ℕ) → Option (List Command)
-coming reader told = commands_in (to_come reader told)
+-- what comes in a database of this realm, where the source tells what is left
+abbrev pub coming : List ℕ → ReaderState → Option (List ℕ) → Option (List Asked)
+coming realm reader told = commands_in realm (to_come reader told)
 
--- no command comes, where it is told
-abbrev pub NoCommand : Option (List Command) → Type 0
+-- no line comes, where it is told
+abbrev pub NoCommand : Option (List Asked) → Type 0
 NoCommand None = ⊤
 NoCommand (Some commands) = commands ≡ []
 
-abbrev pub before_commands : Command → Option (List Command) → Option (List Command)
-before_commands command told = option_map (λ commands. command ∷ commands) told
+abbrev pub before_commands : Asked → Option (List Asked) → Option (List Asked)
+before_commands asked told = option_map (λ commands. asked ∷ commands) told
 
--- the first of the commands that came, and the others still come
-abbrev pub Comes : Next → Option (List Command) → Option (List Command) → Type 0
-Comes (next.Command command) old new = old ≡ before_commands command new
+-- the first of what came, and the others still come
+abbrev pub Comes : Next → Option (List Asked) → Option (List Asked) → Type 0
+Comes (next.Line asked) old new = old ≡ before_commands asked new
 Comes next.End old new = NoCommand old
 
-abbrev pub HasName : Next → Type 0
-HasName (next.Command command) = IfSome command IsName
-HasName next.End = ⊤
+abbrev pub IsValid : List ℕ → Next → Type 0
+IsValid realm (next.Line asked) = IsAsked realm asked
+IsValid realm next.End = ⊤
 
 -- how far a reader came, against what its source told at first
 pub record HasTaken (first : Option (List ℕ)) (reader : ReaderState) (told : Option (List ℕ)) : Type 0 where

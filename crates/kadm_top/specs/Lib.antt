@@ -1,9 +1,9 @@
 pub mod Words
 pub mod Standing
-pub mod Commands
 pub mod Replies
 pub mod Parts
 pub mod Steps
+pub mod Changes
 pub mod Stops
 pub mod Input
 pub mod Intake

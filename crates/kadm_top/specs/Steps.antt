@@ -1,107 +1,133 @@
 -- What is answered to the lines of an input, and the places that the database goes through.
-use Rattle.std.specs.Prelude.{ℕ, ◌≡◌, Bool, true, false, ◌||◌, List, [], ◌∷◌, ◌++◌, Option, Some, None}
+use Rattle.std.specs.Prelude.{ℕ, ◌≡◌, Bool, true, false, ◌||◌, nat_le, List, [], ◌∷◌, ◌++◌, codes, Option, Some, None}
 use Rattle.kdb_base.specs.Moment.{Moment}
-use Rattle.kdb_base.specs.declared.moments.Point.{Point}
-use Rattle.kdb_base.specs.declared.outcomes.Refusal.{Refusal}
-use Rattle.kdb_base.specs.declared.outcomes.Refusal.TheVariants.{BadLine}
 use Rattle.kdb_ports.specs.Told.{after_told, later_moments}
-use Rattle.kdb_base.specs.Moments.{later_moment}
+use Rattle.princ_name.specs.Names.{printed}
+use Rattle.kdb_model.specs.Calls.{Call, Outcome}
+use Rattle.kdb_model.specs.Refusals.{name_of_two}
+use Rattle.kdb_model.specs.Steps.{step}
+use Rattle.kdb_model.specs.declared.commands.Command.{Command}
+use Rattle.kdb_model.specs.declared.replies.Reply.{Reply}
+use Rattle.kdb_model.specs.declared.replies.Reply.TheVariants as reply
+use Rattle.kdb_model.specs.declared.states.State.{State}
 use Rattle.kdb_store.specs.Places.{Place}
-use Rattle.kdb_store.specs.Steps.{committed}
-use Rattle.kdb_store.specs.declared.op.Op.TheVariants.{PutPrinc}
-use Rattle.kadm_top.specs.Replies.{reply_text, refusal_of}
-use Rattle.kadm_top.specs.declared.replies.Reply.{Reply}
-use Rattle.kadm_top.specs.declared.replies.Reply.TheVariants.{Accepted, Ended, Refused}
-
--- a command: the name to be added, or None for a line that is not of the grammar
-abbrev pub Command : Type 0
-Command = Option (List ℕ)
+use Rattle.kadm_top.specs.Replies.{text_of}
+use Rattle.kadm_top.specs.declared.intake.Asked.{Asked}
+use Rattle.kadm_top.specs.declared.intake.Asked.TheVariants.{Nothing, Refused, Does}
 
 -- ---- one command
 
--- a refusal, or else the point after the change
-abbrev pub judged : Option Refusal → Point → Reply
-judged (Some refusal) point = Refused refusal
-judged None point = Accepted point
+-- the state that administrators see of a place
+abbrev pub state_of : Place → State
+state_of place = record { realm = place.realm; rows = place.rows; point = place.point }
 
--- the place after a name was added at a moment of the clock; its time does not go back
-abbrev pub added : Place → Moment → List ℕ → Place
-added place moment name = committed (PutPrinc name) (later_moment place.point.time moment) place
+-- the printed name of the administrator at the machine itself
+abbrev pub local_client : List ℕ → List ℕ
+local_client realm = printed (name_of_two (codes "admin") (codes "local") realm)
 
-unfoldable pub reply_to : Command → Place → Moment → Reply
-reply_to None place moment = Refused BadLine
-reply_to (Some name) place moment = judged (refusal_of place name) (added place moment name).point
+-- no serial is left for one more change
+abbrev pub is_last : Place → Bool
+is_last place = nat_le 4294967295 place.point.sno
 
--- a refusal leaves the place as it was
-abbrev pub kept_or : Option Refusal → Place → Place → Place
-kept_or (Some refusal) place changed = place
-kept_or None place changed = changed
+-- a command of this administrator at a moment of the clock
+abbrev pub call_of : Place → Command → Moment → Call
+call_of place command moment = record {
+  client = local_client place.realm;
+  access = None;
+  command = command;
+  moment = moment;
+  random = [];
+  at_end = is_last place;
+}
 
-unfoldable pub place_after : Command → Place → Moment → Place
-place_after None place moment = place
-place_after (Some name) place moment = kept_or (refusal_of place name) place (added place moment name)
+unfoldable pub outcome : Place → Command → Moment → Outcome
+outcome place command moment = step (state_of place) (call_of place command moment)
 
--- a line that is not of the grammar reads no clock
-abbrev pub moments_after : Command → (ℕ → Moment) → ℕ → Moment
-moments_after None moments = moments
-moments_after (Some name) moments = later_moments moments
+-- the place with the rows and the point of a state
+abbrev pub place_at : State → Place → Place
+place_at s place = record { realm = place.realm; point = s.point; rows = s.rows; base = place.base; size = place.size; block = place.block }
 
-abbrev pub is_refusal : Reply → Bool
-is_refusal (Accepted point) = false
-is_refusal Ended = false
-is_refusal (Refused refusal) = true
+-- a skipped line has no reply
+unfoldable pub reply_to : Asked → Place → Moment → Option Reply
+reply_to Nothing place moment = None
+reply_to (Refused refusal) place moment = Some (reply.Refused refusal)
+reply_to (Does command) place moment = Some (outcome place command moment).reply
 
-abbrev pub text_to : Command → Place → Moment → List ℕ
-text_to command place moment = reply_text (reply_to command place moment)
+unfoldable pub place_after : Asked → Place → Moment → Place
+place_after Nothing place moment = place
+place_after (Refused refusal) place moment = place
+place_after (Does command) place moment = place_at (outcome place command moment).state place
 
--- a command was answered so at the next of the moments, where they are told
-abbrev pub Decides : Command → Place → Option (ℕ → Moment) → Reply → Place → Option (ℕ → Moment) → Type 0
-Decides command before None reply later moments = moments ≡ None
-Decides command before (Some told) reply later moments =
-    (reply ≡ reply_to command before (told 0)) × (later ≡ place_after command before (told 0)) × (moments ≡ Some (moments_after command told))
+-- a line that gives no command reads no clock
+abbrev pub moments_after : Asked → (ℕ → Moment) → ℕ → Moment
+moments_after Nothing moments = moments
+moments_after (Refused refusal) moments = moments
+moments_after (Does command) moments = later_moments moments
 
--- ---- one command after another, each at the next of the moments
+abbrev pub refuses : Reply → Bool
+refuses (reply.Done point) = false
+refuses (reply.Shown princ) = false
+refuses (reply.Listed names) = false
+refuses (reply.Refused refusal) = true
 
--- all that is answered, whether a refusal is among it, and the place in the end
+abbrev pub is_refusal : Option Reply → Bool
+is_refusal None = false
+is_refusal (Some reply) = refuses reply
+
+abbrev pub text_to : Asked → Place → Moment → List ℕ
+text_to asked place moment = text_of (reply_to asked place moment)
+
+-- a line was answered so at the next of the moments, where they are told
+abbrev pub Decides : Asked → Place → Option (ℕ → Moment) → Option Reply → Place → Option (ℕ → Moment) → Type 0
+Decides asked before None reply later moments = moments ≡ None
+Decides asked before (Some told) reply later moments =
+    (reply ≡ reply_to asked before (told 0)) × (later ≡ place_after asked before (told 0)) × (moments ≡ Some (moments_after asked told))
+
+-- ---- one line after another, each at the next of the moments
+
+-- all that is answered, whether a refusal is among it, the place in the end, and what is left of the moments
 pub record Said : Type 0 where
   pub bytes : List ℕ
   pub refused : Bool
   pub place : Place
+  pub moments : ℕ → Moment
 
-abbrev pub after_reply : Reply → Said → Said
-after_reply reply later = record { bytes = reply_text reply ++ later.bytes; refused = is_refusal reply || later.refused; place = later.place }
+abbrev pub after_reply : Option Reply → Said → Said
+after_reply reply later = record { bytes = text_of reply ++ later.bytes; refused = is_refusal reply || later.refused; place = later.place; moments = later.moments }
 
-unfoldable pub said : List Command → (ℕ → Moment) → Place → Said
-said [] moments place = record { bytes = []; refused = false; place = place }
-said (command ∷ commands) moments place =
-    after_reply (reply_to command place (moments 0))
-    (said commands (moments_after command moments) (place_after command place (moments 0)))
+unfoldable pub said : List Asked → (ℕ → Moment) → Place → Said
+said [] moments place = record { bytes = []; refused = false; place = place; moments = moments }
+said (asked ∷ commands) moments place =
+    after_reply (reply_to asked place (moments 0))
+    (said commands (moments_after asked moments) (place_after asked place (moments 0)))
 
 -- the places after each of them
-unfoldable pub places_after : List Command → (ℕ → Moment) → Place → List Place
+unfoldable pub places_after : List Asked → (ℕ → Moment) → Place → List Place
 places_after [] moments place = []
-places_after (command ∷ commands) moments place =
-    place_after command place (moments 0)
-    ∷ places_after commands (moments_after command moments) (place_after command place (moments 0))
+places_after (asked ∷ commands) moments place =
+    place_after asked place (moments 0)
+    ∷ places_after commands (moments_after asked moments) (place_after asked place (moments 0))
 
 -- ---- how a run over these commands ends, from what is told
 
--- the bytes in the sink, whether a refusal was written, and the place
+-- the bytes in the sink, whether a refusal was written, the place, and the moments that the clock has left
 pub record Ending : Type 0 where
   pub out : Option (List ℕ)
   pub refused : Bool
   pub place : Place
+  pub moments : ℕ → Moment
 
 abbrev pub end_with : Option (List ℕ) → Bool → Said → Ending
-end_with taken refused later = record { out = after_told taken later.bytes; refused = refused || later.refused; place = later.place }
+end_with taken refused later = record { out = after_told taken later.bytes; refused = refused || later.refused; place = later.place; moments = later.moments }
 
-unfoldable pub ending : Option (List ℕ) → Bool → Option (List Command) → Option (ℕ → Moment) → Place → Option Ending
+unfoldable pub ending : Option (List ℕ) → Bool → Option (List Asked) → Option (ℕ → Moment) → Place → Option Ending
 ending taken refused None moments place = None
 ending taken refused (Some commands) None place = None
 ending taken refused (Some commands) (Some moments) place = Some (end_with taken refused (said commands moments place))
 
 -- it ended so
-pub record EndsAs (taken : Option (List ℕ)) (refused : Bool) (place : Place) (end : Ending) : Type 0 where
+pub record EndsAs (taken : Option (List ℕ)) (refused : Bool) (place : Place) (moments : Option (ℕ → Moment)) (end : Ending) : Type 0 where
   pub out : taken ≡ end.out
   pub refused_is : refused ≡ end.refused
   pub place_is : place ≡ end.place
+  pub moments_is : moments ≡ Some end.moments

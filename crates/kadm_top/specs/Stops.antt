@@ -6,27 +6,28 @@ use Rattle.kdb_disk.specs.View.{View}
 use Rattle.kdb_store.specs.Places.{Place}
 use Rattle.kadm_top.specs.Parts.{SaidPart}
 use Rattle.kadm_top.specs.Standing.{StandsEither}
-use Rattle.kadm_top.specs.Steps.{Command, said, text_to, place_after, moments_after}
+use Rattle.kadm_top.specs.declared.intake.Asked.{Asked}
+use Rattle.kadm_top.specs.Steps.{said, text_to, place_after, moments_after}
 
 -- what is in the sink, and the two places of which a crash leaves the one or the other
 abbrev pub Stage : Type 1
 Stage = Option (List ℕ) → Place → Place → Type 0
 
--- Nothing of the reply was written, and a crash leaves the place before the command or the one after it. Or a part of the
+-- Nothing of the reply was written, and a crash leaves the place before the line or the one after it. Or a part of the
 -- reply was, and it leaves the place after it alone.
 abbrev pub StopsAt : Option (List ℕ) → List ℕ → Place → Place → Stage
 StopsAt taken text before later out one other =
     ((out ≡ taken) × (one ≡ before) × (other ≡ later)) ⊎ (SaidPart text taken out × (one ≡ later) × (other ≡ later))
 
 -- at one of these commands, or after all of them
-unfoldable pub MayStop : Option (List ℕ) → List Command → (ℕ → Moment) → Place → Stage
+unfoldable pub MayStop : Option (List ℕ) → List Asked → (ℕ → Moment) → Place → Stage
 MayStop taken [] moments place out one other = (out ≡ taken) × (one ≡ place) × (other ≡ place)
-MayStop taken (command ∷ commands) moments place out one other =
-    StopsAt taken (text_to command place (moments 0)) place (place_after command place (moments 0)) out one other
-    ⊎ MayStop (after_told taken (text_to command place (moments 0))) commands (moments_after command moments) (place_after command place (moments 0)) out one other
+MayStop taken (asked ∷ commands) moments place out one other =
+    StopsAt taken (text_to asked place (moments 0)) place (place_after asked place (moments 0)) out one other
+    ⊎ MayStop (after_told taken (text_to asked place (moments 0))) commands (moments_after asked moments) (place_after asked place (moments 0)) out one other
 
 -- the same, where the commands and the moments are told
-unfoldable pub Stops : Option (List ℕ) → Option (List Command) → Option (ℕ → Moment) → Place → Stage
+unfoldable pub Stops : Option (List ℕ) → Option (List Asked) → Option (ℕ → Moment) → Place → Stage
 Stops taken None moments place out one other = ⊤
 Stops taken (Some commands) None place out one other = ⊤
 Stops taken (Some commands) (Some moments) place out one other = MayStop taken commands moments place out one other
@@ -44,7 +45,7 @@ pub record IsStopped (stage : Stage) (out : Option (List ℕ)) (now : View) : Ty
 
 -- The plain statement: what was written is a front of the replies to the first so many commands, and a crash leaves the
 -- place after these commands, or the place after one more, of whose reply nothing was written.
-pub record HasStoppedAfter (taken : List ℕ) (commands : List Command) (moments : ℕ → Moment) (place : Place) (out : Option (List ℕ)) (one other : Place) : Type 0 where
+pub record HasStoppedAfter (taken : List ℕ) (commands : List Asked) (moments : ℕ → Moment) (place : Place) (out : Option (List ℕ)) (one other : Place) : Type 0 where
   -- the commands of which a byte may have been written, and those that may be done
   pub answered : ℕ
   pub done : ℕ

@@ -1,48 +1,76 @@
-ghost use Rattle.std.specs.Prelude.{◌≡◌, ◌≢◌, ◌<◌, ◌≤◌, List, ℕ, Option, Some, None, Ok, Err, IfOk, IfSome, OnErr, IsTrue, option_map};
+ghost use Rattle.std.specs.Prelude.{◌≡◌, ◌≢◌, ◌<◌, ◌≤◌, List, ℕ, Option, Some, Ok, Err, IfOk, IsTrue};
 ghost use Rattle.kdb_base.specs.Causes.{Rose};
 ghost use Rattle.kadm_lines.specs.Reader.{work_left};
-ghost use Rattle.kdb_store.specs.Names.{IsName};
-ghost use Rattle.kadm_top.specs.Commands.{name_in};
-ghost use Rattle.kadm_top.specs.Intake.{coming, Comes, HasName, HasTaken};
+ghost use Rattle.kadm_top.specs.Input.{asked_in, line_bytes, without_return, IsAsked};
+ghost use Rattle.kadm_top.specs.Intake.{coming, Comes, IsValid, HasTaken};
 
-use crate::commands::name_in;
 use crate::halts::ReadHalt;
 use kadm_lines::{LineReader, NextLine};
-use kdb_base::{Blob, MemoryOut};
+use kadm_wire::parse_line;
+use kdb_base::{MemoryOut, Refusal, Stop};
+use kdb_model::Command;
 use kdb_ports::Source;
 use std::alloc::Global;
 
-/// What the next line of the input asks for.
+/// What a line of the input asks for.
+#[derive(Debug, Drop)]
+pub enum Asked {
+    /// The line is skipped.
+    Nothing,
+    /// The line is not of the grammar, or too long.
+    Refused(Refusal),
+    /// The line gives a command.
+    Does(Command),
+}
+
+/// What comes next of the input.
 #[derive(Debug, Drop)]
 pub enum Next {
-    /// The name that is to be added, or nothing where the line is not of the grammar.
-    Command(Option<Blob>),
+    Line(Asked),
     /// The input has ended.
     End,
 }
 
-/// A copy of the name that a line adds.
-fn copy_name(alloc: Global, line: &[u8]) -> Result<Option<Blob>, MemoryOut>
-    ensures value { IfOk result (λ name. name ≡ name_in line.now) }
-    ensures name { IfOk result (λ name. IfSome name IsName) }
+/// The bytes without one carriage return at their end.
+fn without_return(text: &[u8]) -> &[u8]
+    ensures { result.now ≡ without_return text.now }
 {
-    match name_in(line) {
-        Some(name) => match Blob::from_bytes(alloc, name) {
-            Ok(name) => Ok(Some(name)),
-            Err(error) => Err(error),
-        },
-        None => Ok(None),
+    match text.strip_suffix(b"\r") {
+        Some(front) => front,
+        None => text,
     }
 }
 
-/// Goes on to the next line, and reads what it asks for.
+/// The bytes of a line: a carriage return belongs to the line feed behind it.
+fn line_bytes(text: &[u8], ended: bool) -> &[u8]
+    ensures { result.now ≡ line_bytes text.now ended }
+{
+    if ended { without_return(text) } else { text }
+}
+
+/// What a line of this text asks for, in a database of this realm.
+#[tactic(auto, unfolding(crate::specs::Input::asked_in))]
+fn read_line(alloc: Global, text: &[u8], ended: bool, realm: &[u8]) -> Result<Asked, MemoryOut>
+    ensures value { IfOk result (λ asked. asked ≡ asked_in realm.now (record { text = Some text.now; ended = ended })) }
+    ensures valid { IfOk result (λ asked. IsAsked realm.now asked) }
+{
+    match parse_line(alloc, line_bytes(text, ended), realm) {
+        Ok(Some(command)) => Ok(Asked::Does(command)),
+        Ok(None) => Ok(Asked::Nothing),
+        Err(Stop::Refused(refusal)) => Ok(Asked::Refused(refusal)),
+        Err(Stop::Halt(_)) => Err(MemoryOut),
+    }
+}
+
+/// Goes on to the next line, and reads what it asks for in a database of this realm.
 pub fn next_command<S: Source>(
     alloc: Global,
     reader: &mut LineReader,
     source: &mut S,
+    realm: &[u8],
 ) -> Result<Next, ReadHalt>
-    ensures next { IfOk result (λ next. Comes next (coming reader.old (S.left source.old)) (coming reader.new (S.left source.new))) }
-    ensures name { IfOk result HasName }
+    ensures next { IfOk result (λ next. Comes next (coming realm.now reader.old (S.left source.old)) (coming realm.now reader.new (S.left source.new))) }
+    ensures valid { IfOk result (IsValid realm.now) }
     ensures end { result ≡ Ok Next.End → IsTrue reader.new.over }
     ensures takes { (first : Option (List ℕ)) → HasTaken first reader.old (S.left source.old) → HasTaken first reader.new (S.left source.new) }
     ensures too_long { result ≡ Err ReadHalt.InputTooLong → reader.new.taken ≡ 4294967296 }
@@ -51,11 +79,11 @@ pub fn next_command<S: Source>(
     ensures read { result ≡ Err ReadHalt.ReadFault → Rose (S.faults source.old) (S.faults source.new) }
 {
     match reader.advance(source) {
-        Ok(NextLine::Line { .. }) => match copy_name(alloc, reader.text()) {
-            Ok(name) => Ok(Next::Command(name)),
+        Ok(NextLine::Line { ended }) => match read_line(alloc, reader.text(), ended, realm) {
+            Ok(asked) => Ok(Next::Line(asked)),
             Err(_) => Err(ReadHalt::MemoryOut),
         },
-        Ok(NextLine::TooLong { .. }) => Ok(Next::Command(None)),
+        Ok(NextLine::TooLong { .. }) => Ok(Next::Line(Asked::Refused(Refusal::LineTooLong))),
         Ok(NextLine::End) => Ok(Next::End),
         Err(fault) => Err(ReadHalt::from(fault)),
     }

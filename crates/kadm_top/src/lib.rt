@@ -1,7 +1,8 @@
 //! The program's one call: from the words, the input, the disk and the clock to the replies.
 #![tactic(auto)]
 
-pub mod commands;
+pub mod changes;
+pub mod clients;
 pub mod halts;
 pub mod intake;
 pub mod laws;

@@ -1,92 +1,70 @@
-ghost use Rattle.std.specs.Prelude.{◌≡◌, IfOk, string_bytes};
-ghost use Rattle.kadm_top.specs.Replies.{reply_text, six_digits};
-ghost use Rattle.kadm_top.specs.Steps.{is_refusal};
+ghost use Rattle.std.specs.Prelude.{◌≡◌, ◌≤◌, Err, OnOk, OnErr};
+ghost use Rattle.kdb_base.specs.Causes.{Rose, HasCause};
+ghost use Rattle.kdb_ports.specs.Told.{after_told};
+ghost use Rattle.kadm_wire.specs.Replies.{reply_text};
+ghost use Rattle.kadm_top.specs.Parts.{SaidPart};
+ghost use Rattle.kadm_top.specs.Replies.{ended_text, text_of};
 
-use kdb_base::{Field, MemoryOut, Point, Refusal};
+use crate::halts::SayHalt;
+use kadm_wire::print_reply;
+use kdb_model::Reply;
+use kdb_ports::{Sink, WriteFailed};
 use std::alloc::Global;
 
-/// What is answered to one line.
-#[derive(Clone, Copy, Debug, PartialEq, Eq)]
-pub enum Reply {
-    /// The change that the line asked for is made, and this is its point.
-    Accepted(Point),
-    /// The database has ended.
-    Ended,
-    Refused(Refusal),
+/// The answer to `destroy`.
+const ENDED: &[u8] = b"ok\n";
+
+/// Writes all of the bytes.
+fn write_whole<K: Sink>(sink: &mut K, bytes: &[u8]) -> Result<(), WriteFailed>
+    ensures ok { OnOk result (K.taken sink.new ≡ after_told (K.taken sink.old) bytes.now) }
+    ensures err { OnErr result (SaidPart bytes.now (K.taken sink.old) (K.taken sink.new)) }
+    ensures cause { HasCause (K.faults sink.old) (K.faults sink.new) result }
+{
+    let mut at = 0;
+    while at < bytes.len() {
+        at += sink.write(&bytes[at..])?;
+    }
+    Ok(())
 }
 
-impl Reply {
-    pub fn is_refusal(&self) -> bool
-        ensures { result ≡ is_refusal self.now }
-    {
-        matches!(self, Reply::Refused(_))
+/// Writes a reply whole.
+pub fn say<K: Sink>(alloc: Global, sink: &mut K, reply: &Reply) -> Result<(), SayHalt>
+    ensures ok { OnOk result (K.taken sink.new ≡ after_told (K.taken sink.old) (reply_text reply.now)) }
+    ensures err { OnErr result (SaidPart (reply_text reply.now) (K.taken sink.old) (K.taken sink.new)) }
+    ensures later { K.faults sink.old ≤ K.faults sink.new }
+    ensures cause { result ≡ Err SayHalt.WriteFault → Rose (K.faults sink.old) (K.faults sink.new) }
+{
+    match print_reply(alloc, reply) {
+        Ok(text) => match write_whole(sink, text.as_slice()) {
+            Ok(()) => Ok(()),
+            Err(_) => Err(SayHalt::WriteFault),
+        },
+        Err(_) => Err(SayHalt::MemoryOut),
     }
 }
 
-/// The reply's text, with the line feed that ends it.
-pub fn print_reply(alloc: Global, reply: &Reply) -> Result<String, MemoryOut>
-    ensures { IfOk result (λ text. string_bytes text ≡ reply_text reply.now) }
+/// Writes the reply whole, where there is one.
+pub fn say_any<K: Sink>(alloc: Global, sink: &mut K, reply: &Option<Reply>) -> Result<(), SayHalt>
+    ensures ok { OnOk result (K.taken sink.new ≡ after_told (K.taken sink.old) (text_of reply.now)) }
+    ensures err { OnErr result (SaidPart (text_of reply.now) (K.taken sink.old) (K.taken sink.new)) }
+    ensures later { K.faults sink.old ≤ K.faults sink.new }
+    ensures cause { result ≡ Err SayHalt.WriteFault → Rose (K.faults sink.old) (K.faults sink.new) }
 {
     match reply {
-        Reply::Accepted(point) => print_point(alloc, point),
-        Reply::Ended => print_ended(alloc),
-        Reply::Refused(refusal) => print_refusal(alloc, refusal),
+        Some(reply) => match say(alloc, sink, reply) {
+            Ok(()) => Ok(()),
+            Err(halt) => Err(halt),
+        },
+        None => Ok(()),
     }
 }
 
-#[tactic(auto, unfolding(crate::specs::Replies::reply_text))]
-fn print_point(alloc: Global, point: &Point) -> Result<String, MemoryOut>
-    ensures { IfOk result (λ text. string_bytes text ≡ reply_text (Reply.Accepted point.now)) }
+/// Writes the answer to `destroy` whole.
+#[tactic(auto, unfolding(crate::specs::Replies::ended_text))]
+pub fn say_ended<K: Sink>(sink: &mut K) -> Result<(), WriteFailed>
+    ensures ok { OnOk result (K.taken sink.new ≡ after_told (K.taken sink.old) ended_text) }
+    ensures err { OnErr result (SaidPart ended_text (K.taken sink.old) (K.taken sink.new)) }
+    ensures cause { HasCause (K.faults sink.old) (K.faults sink.new) result }
 {
-    let sno = point.sno;
-    let secs = point.time.secs();
-    let micros = print_micros(alloc, point.time.usecs())?;
-    let micros = micros.as_str();
-    Ok(format!(in alloc; "ok {sno} {secs}.{micros}\n")?)
-}
-
-#[tactic(auto, unfolding(crate::specs::Replies::reply_text))]
-fn print_ended(alloc: Global) -> Result<String, MemoryOut>
-    ensures { IfOk result (λ text. string_bytes text ≡ reply_text Reply.Ended) }
-{
-    Ok(String::from_str(alloc, "ok\n")?)
-}
-
-/// Six digits.
-fn print_micros(alloc: Global, usecs: u32) -> Result<String, MemoryOut>
-    ensures { IfOk result (λ text. string_bytes text ≡ six_digits usecs) }
-{
-    Ok(format!(in alloc; "{usecs:06}")?)
-}
-
-#[tactic(auto, unfolding(crate::specs::Replies::reply_text))]
-fn print_refusal(alloc: Global, refusal: &Refusal) -> Result<String, MemoryOut>
-    ensures { IfOk result (λ text. string_bytes text ≡ reply_text (Reply.Refused refusal.now)) }
-{
-    match refusal {
-        Refusal::BadLine => Ok(String::from_str(alloc, "err 1 BadLine\n")?),
-        Refusal::BadName { offset } => Ok(format!(in alloc; "err 2 BadName {offset}\n")?),
-        Refusal::Duplicate => Ok(String::from_str(alloc, "err 3 Duplicate\n")?),
-        Refusal::UnknownPrincipal => Ok(String::from_str(alloc, "err 4 UnknownPrincipal\n")?),
-        Refusal::Protected => Ok(String::from_str(alloc, "err 8 Protected\n")?),
-        Refusal::PassTooShort => Ok(String::from_str(alloc, "err 9 PassTooShort\n")?),
-        Refusal::PassClasses => Ok(String::from_str(alloc, "err 10 PassClasses\n")?),
-        Refusal::BadValue { field } => print_bad_value(alloc, *field),
-        Refusal::NotADatabase => Ok(String::from_str(alloc, "err 20 NotADatabase\n")?),
-        Refusal::AlreadyThere => Ok(String::from_str(alloc, "err 21 AlreadyThere\n")?),
-        Refusal::Damaged { file, place } => Ok(format!(in alloc;
-            "err 22 Damaged {file} {place}\n"
-        )?),
-        Refusal::TimeEnd => Ok(String::from_str(alloc, "err 23 TimeEnd\n")?),
-        Refusal::LineTooLong => Ok(String::from_str(alloc, "err 27 LineTooLong\n")?),
-        Refusal::RowsFull { limit } => Ok(format!(in alloc; "err 29 RowsFull {limit}\n")?),
-    }
-}
-
-#[tactic(auto, unfolding(crate::specs::Replies::reply_text))]
-fn print_bad_value(alloc: Global, field: Field) -> Result<String, MemoryOut>
-    ensures { IfOk result (λ text. string_bytes text ≡ reply_text (Reply.Refused (Refusal.BadValue field))) }
-{
-    let word = field.word();
-    Ok(format!(in alloc; "err 13 BadValue {word}\n")?)
+    write_whole(sink, ENDED)
 }

@@ -1,4 +1,4 @@
-ghost use Rattle.std.specs.Prelude.{◌≡◌, ◌≢◌, ◌≤◌, ◌⊎◌, true, false, List, ℕ, Option, Some, None, Result, Ok, Err, map, IfOk, OnOk, OnErr};
+ghost use Rattle.std.specs.Prelude.{◌≡◌, ◌≢◌, ◌≤◌, ◌⊎◌, true, false, [], List, ℕ, Option, Some, None, Result, Ok, Err, map, IfOk, OnOk, OnErr};
 ghost use Rattle.kdb_base.specs.Causes.{Rose};
 ghost use Rattle.kdb_base.specs.Moment.{Moment};
 ghost use Rattle.kdb_base.specs.declared.outcomes.Halt.TheVariants.{DiskFault};
@@ -14,24 +14,27 @@ ghost use Rattle.kdb_store.specs.Images.{is_realm};
 ghost use Rattle.kdb_store.specs.Moments.{Creates};
 ghost use Rattle.kdb_store.specs.Stores.{AnswersMade};
 ghost use Rattle.kdb_store.specs.Places.{Holds, place_of, recovers};
+ghost use Rattle.kadm_wire.specs.Replies.{reply_text};
 ghost use Rattle.kadm_top.specs.Parts.{SaidPart};
 ghost use Rattle.kadm_top.specs.Halts.{status_after};
 ghost use Rattle.kadm_top.specs.Words.{words_in};
 ghost use Rattle.kadm_top.specs.declared.words.Words.TheVariants.{Admin, Create};
 ghost use Rattle.kadm_top.specs.Standing.{Stands};
-ghost use Rattle.kadm_top.specs.Steps.{Command, Ending, EndsAs, ending};
+ghost use Rattle.kadm_top.specs.Steps.{Ending, ending};
 ghost use Rattle.kadm_top.specs.Stops.{IsStopped, Stops};
-ghost use Rattle.kadm_top.specs.Run.{Opens, RunEnd, RunEndsAs, RunStops, RunLeaves, ReadsInput, IsShortInput, WereTaken, OnEnd, OnStop, admin_of, create_of, destroy_of, end_of, opening_of, among_places, input_commands, made, refusal_line, run_end};
+ghost use Rattle.kadm_top.specs.Run.{RunEnd, RunEndsAs, RunStops, RunLeaves, ReadsInput, IsShortInput, WereTaken, OnEnd, OnStop, admin_of, create_of, destroy_of, end_of, opening_of, among_places, input_commands, made, refusal_line, run_end};
 
 use crate::halts::{SayHalt, SessionHalt, status_of};
-use crate::replies::Reply;
-use crate::session::{say, serve};
+use crate::replies::{say, say_ended};
+use crate::session::serve;
 use crate::words::{Words, read_words};
 use kadm_lines::LineReader;
 use kdb_base::{Blob, Field, Point, Refusal, Status, Stop, Time};
 use kdb_disk::Disk;
+use kdb_model::Reply;
 use kdb_ports::{Clock, Entropy, Sink, Source};
-use kdb_store::{Opened, Rows, create_files, destroy_files, is_realm, open_files};
+use kdb_store::{Opened, create_files, destroy_files, is_realm, open_files};
+use princ_record::Rows;
 use std::alloc::Global;
 
 /// How many entries the log of a new database holds.
@@ -54,6 +57,20 @@ fn refuse<K: Sink>(alloc: Global, sink: &mut K, refusal: Refusal) -> Result<(), 
     }
 }
 
+/// Writes the point of a database that was made.
+fn say_point<K: Sink>(alloc: Global, sink: &mut K, point: Point) -> Result<(), SayHalt>
+    ensures ok { OnOk result (K.taken sink.new ≡ after_told (K.taken sink.old) (reply_text (Reply.Done point))) }
+    ensures err { OnErr result (SaidPart (reply_text (Reply.Done point)) (K.taken sink.old) (K.taken sink.new)) }
+    ensures later { K.faults sink.old ≤ K.faults sink.new }
+    ensures cause { result ≡ Err SayHalt.WriteFault → Rose (K.faults sink.old) (K.faults sink.new) }
+{
+    let reply = Reply::Done(point);
+    match say(alloc, sink, &reply) {
+        Ok(()) => Ok(()),
+        Err(halt) => Err(halt),
+    }
+}
+
 /// Answers the input over a database that was opened.
 fn session<S: Source, K: Sink, D: Disk, C: Clock>(
     alloc: Global,
@@ -64,11 +81,11 @@ fn session<S: Source, K: Sink, D: Disk, C: Clock>(
     clock: &mut C,
 ) -> Result<bool, SessionHalt>
     requires holds { D.tells → Holds opened (D.view disk.old) }
-    ensures ended { D.tells → (end : Ending) → ending (K.taken sink.old) false (input_commands (S.left source.old)) (C.moments clock.old) (place_of opened) ≡ Some end
-        → IfOk result (λ refused. RunEndsAs (K.taken sink.new) refused (D.view disk.old) (D.view disk.new) (end_of end)) }
+    ensures ended { D.tells → (end : Ending) → ending (K.taken sink.old) false (input_commands (place_of opened).realm (S.left source.old)) (C.moments clock.old) (place_of opened) ≡ Some end
+        → IfOk result (λ refused. RunEndsAs (K.taken sink.new) refused (C.moments clock.new) (D.view disk.old) (D.view disk.new) (end_of end)) }
     ensures stopped { D.tells → OnErr result
-        (IsStopped (Stops (K.taken sink.old) (input_commands (S.left source.old)) (C.moments clock.old) (place_of opened)) (K.taken sink.new) (D.view disk.new)) }
-    ensures moments { D.tells → LeavesOnly (D.view disk.old) (D.view disk.new) (among_places (input_commands (S.left source.old)) (C.moments clock.old) (place_of opened)) }
+        (IsStopped (Stops (K.taken sink.old) (input_commands (place_of opened).realm (S.left source.old)) (C.moments clock.old) (place_of opened)) (K.taken sink.new) (D.view disk.new)) }
+    ensures moments { D.tells → LeavesOnly (D.view disk.old) (D.view disk.new) (among_places (input_commands (place_of opened).realm (S.left source.old)) (C.moments clock.old) (place_of opened)) }
     ensures spent { OnOk result (IsSpent (S.left source.new)) }
     ensures short { OnOk result (IsShortInput (S.left source.old)) }
     ensures too_long { result ≡ Err SessionHalt.InputTooLong → WereTaken 4294967296 (S.left source.old) (S.left source.new) }
@@ -99,11 +116,11 @@ fn admin<S: Source, K: Sink, D: Disk, C: Clock>(
     clock: &mut C,
 ) -> Result<bool, SessionHalt>
     ensures ended { D.tells → (end : RunEnd)
-        → run_end (admin_of (recovers (D.view disk.old).seen)) (K.taken sink.old) (input_commands (S.left source.old)) (C.moments clock.old) ≡ Some end
-        → IfOk result (λ refused. RunEndsAs (K.taken sink.new) refused (D.view disk.old) (D.view disk.new) end) }
+        → run_end (admin_of (recovers (D.view disk.old).seen)) (K.taken sink.old) (S.left source.old) (C.moments clock.old) ≡ Some end
+        → IfOk result (λ refused. RunEndsAs (K.taken sink.new) refused (C.moments clock.new) (D.view disk.old) (D.view disk.new) end) }
     ensures stopped { D.tells →
-        OnErr result (RunStops (admin_of (recovers (D.view disk.old).seen)) (D.view disk.old) (K.taken sink.old) (input_commands (S.left source.old)) (C.moments clock.old) (K.taken sink.new) (D.view disk.new)) }
-    ensures moments { D.tells → LeavesOnly (D.view disk.old) (D.view disk.new) (RunLeaves (admin_of (recovers (D.view disk.old).seen)) (D.view disk.old) (input_commands (S.left source.old)) (C.moments clock.old)) }
+        OnErr result (RunStops (admin_of (recovers (D.view disk.old).seen)) (D.view disk.old) (K.taken sink.old) (S.left source.old) (C.moments clock.old) (K.taken sink.new) (D.view disk.new)) }
+    ensures moments { D.tells → LeavesOnly (D.view disk.old) (D.view disk.new) (RunLeaves (admin_of (recovers (D.view disk.old).seen)) (D.view disk.old) (S.left source.old) (C.moments clock.old)) }
     ensures done { result ≡ Ok false → IsSpent (S.left source.new) × IsShortInput (S.left source.old) }
     ensures refused { result ≡ Ok true → (IsSpent (S.left source.new) × IsShortInput (S.left source.old)) ⊎ (source.new ≡ source.old) }
     ensures read_to_end { D.tells → ReadsInput (admin_of (recovers (D.view disk.old).seen)) → OnOk result (IsSpent (S.left source.new)) }
@@ -131,6 +148,15 @@ fn admin<S: Source, K: Sink, D: Disk, C: Clock>(
     }
 }
 
+fn no_rows(alloc: Global) -> Rows
+    ensures { result ≡ record { princs = []; policies = [] } }
+{
+    match Rows::from_vecs(Vec::new(alloc), Vec::new(alloc)) {
+        Some(rows) => rows,
+        None => unreachable!(),
+    }
+}
+
 /// The point of a database that was made at this moment.
 fn first_point(moment: Time) -> Point
     ensures { result ≡ record { sno = 1; time = moment } }
@@ -152,7 +178,7 @@ fn make_files<D: Disk>(alloc: Global, realm: &Blob, disk: &mut D, moment: Time) 
     ensures later { D.faults disk.old ≤ D.faults disk.new }
     ensures cause { result ≡ Err (Halts DiskFault) → Rose (D.faults disk.old) (D.faults disk.new) }
 {
-    let rows = Rows::new(alloc);
+    let rows = no_rows(alloc);
     let base = first_point(moment);
     match create_files(alloc, disk, realm.as_slice(), rows, base, LOG_SIZE, BLOCK) {
         Ok(_) => Ok(()),
@@ -169,12 +195,12 @@ fn make<K: Sink, D: Disk, C: Clock>(
     clock: &mut C,
 ) -> Result<bool, SessionHalt>
     requires { is_realm realm.now ≡ true }
-    ensures ended { D.tells → (commands : Option (List Command)) (end : RunEnd)
-        → run_end (create_of realm.now (in_force ((D.view disk.old).seen 0))) (K.taken sink.old) commands (C.moments clock.old) ≡ Some end
-        → IfOk result (λ refused. RunEndsAs (K.taken sink.new) refused (D.view disk.old) (D.view disk.new) end) }
-    ensures stopped { D.tells → (commands : Option (List Command))
-        → OnErr result (RunStops (create_of realm.now (in_force ((D.view disk.old).seen 0))) (D.view disk.old) (K.taken sink.old) commands (C.moments clock.old) (K.taken sink.new) (D.view disk.new)) }
-    ensures moments { D.tells → (commands : Option (List Command)) → LeavesOnly (D.view disk.old) (D.view disk.new) (RunLeaves (create_of realm.now (in_force ((D.view disk.old).seen 0))) (D.view disk.old) commands (C.moments clock.old)) }
+    ensures ended { D.tells → (left : Option (List ℕ)) (end : RunEnd)
+        → run_end (create_of realm.now (in_force ((D.view disk.old).seen 0))) (K.taken sink.old) left (C.moments clock.old) ≡ Some end
+        → IfOk result (λ refused. RunEndsAs (K.taken sink.new) refused (C.moments clock.new) (D.view disk.old) (D.view disk.new) end) }
+    ensures stopped { D.tells → (left : Option (List ℕ))
+        → OnErr result (RunStops (create_of realm.now (in_force ((D.view disk.old).seen 0))) (D.view disk.old) (K.taken sink.old) left (C.moments clock.old) (K.taken sink.new) (D.view disk.new)) }
+    ensures moments { D.tells → (left : Option (List ℕ)) → LeavesOnly (D.view disk.old) (D.view disk.new) (RunLeaves (create_of realm.now (in_force ((D.view disk.old).seen 0))) (D.view disk.old) left (C.moments clock.old)) }
     ensures sink_later { K.faults sink.old ≤ K.faults sink.new }
     ensures disk_later { D.faults disk.old ≤ D.faults disk.new }
     ensures read { result ≡ Err SessionHalt.ReadFault → ⊥ }
@@ -184,7 +210,7 @@ fn make<K: Sink, D: Disk, C: Clock>(
 {
     let moment = clock.now();
     match make_files(alloc, realm, disk, moment) {
-        Ok(()) => match say(alloc, sink, &Reply::Accepted(first_point(moment))) {
+        Ok(()) => match say_point(alloc, sink, first_point(moment)) {
             Ok(()) => Ok(false),
             Err(halt) => Err(SessionHalt::from(halt)),
         },
@@ -205,12 +231,12 @@ fn create<K: Sink, D: Disk, C: Clock>(
     disk: &mut D,
     clock: &mut C,
 ) -> Result<bool, SessionHalt>
-    ensures ended { D.tells → (commands : Option (List Command)) (end : RunEnd)
-        → run_end (opening_of (Some (Create realm.now)) (D.view disk.old).seen) (K.taken sink.old) commands (C.moments clock.old) ≡ Some end
-        → IfOk result (λ refused. RunEndsAs (K.taken sink.new) refused (D.view disk.old) (D.view disk.new) end) }
-    ensures stopped { D.tells → (commands : Option (List Command))
-        → OnErr result (RunStops (opening_of (Some (Create realm.now)) (D.view disk.old).seen) (D.view disk.old) (K.taken sink.old) commands (C.moments clock.old) (K.taken sink.new) (D.view disk.new)) }
-    ensures moments { D.tells → (commands : Option (List Command)) → LeavesOnly (D.view disk.old) (D.view disk.new) (RunLeaves (opening_of (Some (Create realm.now)) (D.view disk.old).seen) (D.view disk.old) commands (C.moments clock.old)) }
+    ensures ended { D.tells → (left : Option (List ℕ)) (end : RunEnd)
+        → run_end (opening_of (Some (Create realm.now)) (D.view disk.old).seen) (K.taken sink.old) left (C.moments clock.old) ≡ Some end
+        → IfOk result (λ refused. RunEndsAs (K.taken sink.new) refused (C.moments clock.new) (D.view disk.old) (D.view disk.new) end) }
+    ensures stopped { D.tells → (left : Option (List ℕ))
+        → OnErr result (RunStops (opening_of (Some (Create realm.now)) (D.view disk.old).seen) (D.view disk.old) (K.taken sink.old) left (C.moments clock.old) (K.taken sink.new) (D.view disk.new)) }
+    ensures moments { D.tells → (left : Option (List ℕ)) → LeavesOnly (D.view disk.old) (D.view disk.new) (RunLeaves (opening_of (Some (Create realm.now)) (D.view disk.old).seen) (D.view disk.old) left (C.moments clock.old)) }
     ensures bad_realm { is_realm realm.now ≡ false → disk.new ≡ disk.old }
     ensures sink_later { K.faults sink.old ≤ K.faults sink.new }
     ensures disk_later { D.faults disk.old ≤ D.faults disk.new }
@@ -234,12 +260,12 @@ fn create<K: Sink, D: Disk, C: Clock>(
 
 /// Ends the database.
 fn end<K: Sink, D: Disk>(alloc: Global, sink: &mut K, disk: &mut D) -> Result<bool, SessionHalt>
-    ensures ended { D.tells → (commands : Option (List Command)) (moments : Option (ℕ → Moment)) (end : RunEnd)
-        → run_end (destroy_of (in_force ((D.view disk.old).seen 0))) (K.taken sink.old) commands moments ≡ Some end
-        → IfOk result (λ refused. RunEndsAs (K.taken sink.new) refused (D.view disk.old) (D.view disk.new) end) }
-    ensures stopped { D.tells → (commands : Option (List Command)) (moments : Option (ℕ → Moment))
-        → OnErr result (RunStops (destroy_of (in_force ((D.view disk.old).seen 0))) (D.view disk.old) (K.taken sink.old) commands moments (K.taken sink.new) (D.view disk.new)) }
-    ensures moments { D.tells → (commands : Option (List Command)) (moments : Option (ℕ → Moment)) → LeavesOnly (D.view disk.old) (D.view disk.new) (RunLeaves (destroy_of (in_force ((D.view disk.old).seen 0))) (D.view disk.old) commands moments) }
+    ensures ended { D.tells → (left : Option (List ℕ)) (moments : Option (ℕ → Moment)) (end : RunEnd)
+        → run_end (destroy_of (in_force ((D.view disk.old).seen 0))) (K.taken sink.old) left moments ≡ Some end
+        → IfOk result (λ refused. RunEndsAs (K.taken sink.new) refused moments (D.view disk.old) (D.view disk.new) end) }
+    ensures stopped { D.tells → (left : Option (List ℕ)) (moments : Option (ℕ → Moment))
+        → OnErr result (RunStops (destroy_of (in_force ((D.view disk.old).seen 0))) (D.view disk.old) (K.taken sink.old) left moments (K.taken sink.new) (D.view disk.new)) }
+    ensures moments { D.tells → (left : Option (List ℕ)) (moments : Option (ℕ → Moment)) → LeavesOnly (D.view disk.old) (D.view disk.new) (RunLeaves (destroy_of (in_force ((D.view disk.old).seen 0))) (D.view disk.old) left moments) }
     ensures sink_later { K.faults sink.old ≤ K.faults sink.new }
     ensures disk_later { D.faults disk.old ≤ D.faults disk.new }
     ensures read { result ≡ Err SessionHalt.ReadFault → ⊥ }
@@ -248,9 +274,9 @@ fn end<K: Sink, D: Disk>(alloc: Global, sink: &mut K, disk: &mut D) -> Result<bo
     ensures disk { result ≡ Err SessionHalt.DiskFault → Rose (D.faults disk.old) (D.faults disk.new) }
 {
     match destroy_files(disk) {
-        Ok(()) => match say(alloc, sink, &Reply::Ended) {
+        Ok(()) => match say_ended(sink) {
             Ok(()) => Ok(false),
-            Err(halt) => Err(SessionHalt::from(halt)),
+            Err(_) => Err(SessionHalt::WriteFault),
         },
         Err(Stop::Refused(refusal)) => match refuse(alloc, sink, refusal) {
             Ok(()) => Ok(true),
@@ -270,11 +296,11 @@ fn run_words<S: Source, K: Sink, D: Disk, C: Clock>(
     clock: &mut C,
 ) -> Result<bool, SessionHalt>
     ensures ended { D.tells → (end : RunEnd)
-        → run_end (opening_of words (D.view disk.old).seen) (K.taken sink.old) (input_commands (S.left source.old)) (C.moments clock.old) ≡ Some end
-        → IfOk result (λ refused. RunEndsAs (K.taken sink.new) refused (D.view disk.old) (D.view disk.new) end) }
+        → run_end (opening_of words (D.view disk.old).seen) (K.taken sink.old) (S.left source.old) (C.moments clock.old) ≡ Some end
+        → IfOk result (λ refused. RunEndsAs (K.taken sink.new) refused (C.moments clock.new) (D.view disk.old) (D.view disk.new) end) }
     ensures stopped { D.tells →
-        OnErr result (RunStops (opening_of words (D.view disk.old).seen) (D.view disk.old) (K.taken sink.old) (input_commands (S.left source.old)) (C.moments clock.old) (K.taken sink.new) (D.view disk.new)) }
-    ensures moments { D.tells → LeavesOnly (D.view disk.old) (D.view disk.new) (RunLeaves (opening_of words (D.view disk.old).seen) (D.view disk.old) (input_commands (S.left source.old)) (C.moments clock.old)) }
+        OnErr result (RunStops (opening_of words (D.view disk.old).seen) (D.view disk.old) (K.taken sink.old) (S.left source.old) (C.moments clock.old) (K.taken sink.new) (D.view disk.new)) }
+    ensures moments { D.tells → LeavesOnly (D.view disk.old) (D.view disk.new) (RunLeaves (opening_of words (D.view disk.old).seen) (D.view disk.old) (S.left source.old) (C.moments clock.old)) }
     ensures done { result ≡ Ok false → words ≡ Some Admin → IsSpent (S.left source.new) × IsShortInput (S.left source.old) }
     ensures refused { result ≡ Ok true → (IsSpent (S.left source.new) × IsShortInput (S.left source.old)) ⊎ (source.new ≡ source.old) }
     ensures read_to_end { D.tells → ReadsInput (opening_of words (D.view disk.old).seen) → OnOk result (IsSpent (S.left source.new)) }
@@ -313,13 +339,13 @@ fn status_at_end(ended: Result<bool, SessionHalt>) -> Status
 }
 
 /// Does all that the program does: it judges the words, makes, ends or opens the database on the disk,
-/// answers each line of the source to the sink, and keeps the disk the way the replies say.
+/// answers the lines of the source to the sink, and keeps the disk the way the replies say.
 ///
-/// The words are `admin`, `create REALM` or `destroy`; other words are answered by `err 1 BadLine`, and
-/// a bad realm by `err 13 BadValue realm`, and no file is touched. A reply is written once its change is
-/// on the disk. A crash at any moment leaves the database as it was or after some of the commands; where
-/// it returns early, a crash afterwards leaves it after commands among which is each of which a byte was
-/// answered. When the input is read, no clause says.
+/// The words are `admin`, `create REALM` or `destroy [-f]`, where `--` may end the options; other words
+/// are answered by `err 1 BadLine`, and a bad realm by `err 13 BadValue realm`, and no file is touched. A
+/// reply is written once its change is on the disk. A crash at any moment leaves the database as it was
+/// or after some of the lines; where it returns early, a crash afterwards leaves it after lines among
+/// which is each of which a byte was answered. When the input is read, no clause says.
 pub fn run_local<S: Source, K: Sink, D: Disk, C: Clock, E: Entropy>(
     alloc: Global,
     words: &[Vec<u8>],
@@ -330,24 +356,25 @@ pub fn run_local<S: Source, K: Sink, D: Disk, C: Clock, E: Entropy>(
     _entropy: &mut E,
 ) -> Status
     // Where all is told: the bytes are the replies, a crash afterwards leaves the last place, or all as
-    // it was where the opening was refused, and the status says whether a refusal is among the replies.
+    // it was where the opening was refused, and the status says whether a refusal is among the replies. The
+    // clock was read once where files are opened or made, and then once for each command.
     ensures ended { D.tells → (end : RunEnd)
-        → run_end (opening_of (words_in (map (λ word. word.items) words.now)) (D.view disk.old).seen) (K.taken sink.old) (input_commands (S.left source.old)) (C.moments clock.old) ≡ Some end
-        → OnEnd result (λ refused. RunEndsAs (K.taken sink.new) refused (D.view disk.old) (D.view disk.new) end) }
+        → run_end (opening_of (words_in (map (λ word. word.items) words.now)) (D.view disk.old).seen) (K.taken sink.old) (S.left source.old) (C.moments clock.old) ≡ Some end
+        → OnEnd result (λ refused. RunEndsAs (K.taken sink.new) refused (C.moments clock.new) (D.view disk.old) (D.view disk.new) end) }
 
     // Where it stops early: the bytes are a front of the replies, and a crash leaves the place after
-    // some of the commands, among them each of which a byte was answered, or nothing has changed.
-    ensures stopped { D.tells → OnStop result (RunStops (opening_of (words_in (map (λ word. word.items) words.now)) (D.view disk.old).seen) (D.view disk.old) (K.taken sink.old) (input_commands (S.left source.old)) (C.moments clock.old) (K.taken sink.new) (D.view disk.new)) }
+    // some of the lines, among them each of which a byte was answered, or nothing has changed.
+    ensures stopped { D.tells → OnStop result (RunStops (opening_of (words_in (map (λ word. word.items) words.now)) (D.view disk.old).seen) (D.view disk.old) (K.taken sink.old) (S.left source.old) (C.moments clock.old) (K.taken sink.new) (D.view disk.new)) }
 
     // A crash at any moment of it leaves files like those that one would have left before it, or a place
     // of the run, or no database while one is made or once its end has begun.
-    ensures moments { D.tells → LeavesOnly (D.view disk.old) (D.view disk.new) (RunLeaves (opening_of (words_in (map (λ word. word.items) words.now)) (D.view disk.old).seen) (D.view disk.old) (input_commands (S.left source.old)) (C.moments clock.old)) }
+    ensures moments { D.tells → LeavesOnly (D.view disk.old) (D.view disk.new) (RunLeaves (opening_of (words_in (map (λ word. word.items) words.now)) (D.view disk.old).seen) (D.view disk.old) (S.left source.old) (C.moments clock.old)) }
 
     // What was read of the input.
     ensures done { result ≡ Status.Done → words_in (map (λ word. word.items) words.now) ≡ Some Admin → IsSpent (S.left source.new) × IsShortInput (S.left source.old) }
     ensures refused { result ≡ Status.Refused → (IsSpent (S.left source.new) × IsShortInput (S.left source.old)) ⊎ (source.new ≡ source.old) }
     ensures read_to_end { D.tells → ReadsInput (opening_of (words_in (map (λ word. word.items) words.now)) (D.view disk.old).seen) → OnEnd result (λ _. IsSpent (S.left source.new)) }
-    // No input is read but where a database was opened for it, and other words touch no file.
+    // No input is read but where the files hold a database for it, and other words touch no file.
     ensures unread { D.tells → (ReadsInput (opening_of (words_in (map (λ word. word.items) words.now)) (D.view disk.old).seen) → ⊥) → source.new ≡ source.old }
     ensures other_words { words_in (map (λ word. word.items) words.now) ≢ Some Admin → source.new ≡ source.old }
     ensures no_words { words_in (map (λ word. word.items) words.now) ≡ None → disk.new ≡ disk.old }
@@ -362,7 +389,7 @@ pub fn run_local<S: Source, K: Sink, D: Disk, C: Clock, E: Entropy>(
     ensures source_later { S.faults source.old ≤ S.faults source.new }
     ensures sink_later { K.faults sink.old ≤ K.faults sink.new }
     ensures disk_later { D.faults disk.old ≤ D.faults disk.new }
-    ensures entropy_unused { E.faults _entropy.new ≡ E.faults _entropy.old }
+    ensures entropy_unused { _entropy.new ≡ _entropy.old }
 {
     match read_words(alloc, words) {
         Ok(found) => status_at_end(run_words(alloc, found, source, sink, disk, clock)),

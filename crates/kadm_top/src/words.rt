@@ -1,4 +1,4 @@
-ghost use Rattle.std.specs.Prelude.{◌≡◌, List, ℕ, Option, Some, map, codes, IfOk};
+ghost use Rattle.std.specs.Prelude.{◌≡◌, Option, Some, map, IfOk};
 ghost use Rattle.std.specs.Str.{bytes_eq};
 ghost use Rattle.kadm_top.specs.Words.{no_more, no_more_but_f, words_in, words_behind, as_create};
 
@@ -93,8 +93,9 @@ fn read_behind(alloc: Global, word: &[u8], words: &[Vec<u8>]) -> Result<Option<W
     Ok(None)
 }
 
-/// What the words ask for: `admin`, `create REALM` or `destroy [-f]`, each with `--` behind its options
-/// or without. Nothing, where they are not of this grammar.
+/// What the words ask for: `admin`, `create REALM` or `destroy [-f]`, each with `--` as its last word or
+/// without. The realm is the word behind `create`, whatever it is. Nothing, where they are not of this
+/// grammar.
 #[tactic(auto, unfolding(crate::specs::Words::words_in))]
 pub fn read_words(alloc: Global, words: &[Vec<u8>]) -> Result<Option<Words>, MemoryOut>
     ensures { IfOk result (λ found. found ≡ words_in (map (λ word. word.items) words.now)) }

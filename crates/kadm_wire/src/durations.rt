@@ -2,6 +2,7 @@ ghost use Rattle.std.specs.Prelude.{List, ℕ, ◌≡◌, ◌+◌, ◌*◌, ◌^
 ghost use Rattle.kadm_wire.specs.Numbers.{is_digit, decimal_value, IsDigits};
 ghost use Rattle.std.specs.List.{prefix_len};
 ghost use Rattle.kadm_wire.specs.Durations.{units, IsUnits, SpellsGroups, SpellsSum, SpellsDuration};
+ghost use Rattle.kadm_wire.specs.Readings.{duration_in};
 
 use crate::bytes::{after, before};
 use crate::numbers::{is_all_digits, read_seconds, value_of_digits};
@@ -123,6 +124,7 @@ fn known_units() -> &'static [Unit; 4]
 pub fn read_duration(text: &[u8]) -> Option<u32>
     ensures spelled { IfSome result (λ secs. SpellsDuration text.now secs) }
     ensures only { (secs : ℕ) → SpellsDuration text.now secs → result ≡ Some secs }
+    ensures value { result ≡ duration_in text.now }
 {
     if is_all_digits(text) {
         return read_seconds(text);

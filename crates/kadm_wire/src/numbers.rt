@@ -1,6 +1,7 @@
 ghost use Rattle.std.specs.Prelude.{List, ℕ, ◌≡◌, ◌-◌, ◌<◌, ◌≤◌, ◌^◌, min, Some, IfSome};
 ghost use Rattle.std.specs.List.{list_all};
 ghost use Rattle.kadm_wire.specs.Numbers.{is_digit, decimal_value, SpellsNumber, SpellsSeconds};
+ghost use Rattle.kadm_wire.specs.Readings.{number_in};
 
 /// Whether every byte is a decimal digit.
 pub(crate) fn is_all_digits(text: &[u8]) -> bool
@@ -26,6 +27,7 @@ pub(crate) fn value_of_digits(text: &[u8]) -> u64
 pub fn read_number(text: &[u8]) -> Option<u64>
     ensures spelled { IfSome result (λ number. SpellsNumber text.now number) }
     ensures only { (number : ℕ) → SpellsNumber text.now number → result ≡ Some number }
+    ensures value { result ≡ number_in text.now }
 {
     if text.is_empty() {
         return None;

@@ -1,5 +1,7 @@
 ghost use Rattle.std.specs.Prelude.{List, ℕ, ◌≡◌, ◌+◌, ◌/◌, ◌%◌, ◌^◌, ◌<◌, ◌≤◌, pos, ◌≤ℤ◌, Some, IfSome, length, slice_index};
 ghost use Rattle.jiff.specs.Types.{DateTime as CivilTime};
+ghost use Rattle.kadm_wire.specs.Calendar.{civil_text_at};
+ghost use Rattle.kadm_wire.specs.Readings.{time_in};
 ghost use Rattle.kadm_wire.specs.Times.{IsAt, civil_text, SpellsCivil, SpellsTime};
 
 use crate::bytes::is_same;
@@ -111,6 +113,7 @@ fn print_civil(time: DateTime) -> [u8; 20]
 pub fn print_time(secs: u32) -> [u8; 20]
     ensures spelled { SpellsCivil result secs }
     ensures time { SpellsTime result secs }
+    ensures value { result ≡ civil_text_at secs }
     ensures only { (text : List ℕ) → SpellsCivil text secs → text ≡ result }
 {
     print_civil(civil_at(secs))
@@ -157,6 +160,7 @@ fn read_civil(text: &[u8]) -> Option<u32>
 pub fn read_time(text: &[u8]) -> Option<u32>
     ensures spelled { IfSome result (λ secs. SpellsTime text.now secs) }
     ensures only { (secs : ℕ) → SpellsTime text.now secs → result ≡ Some secs }
+    ensures value { result ≡ time_in text.now }
 {
     if is_same(text, b"never".as_slice()) {
         return Some(0);

@@ -100,6 +100,8 @@ pub enum Refusal {
     LineTooLong,
     /// A row more than this number would be added.
     RowsFull { limit: u32 },
+    /// The record would have so many bytes, which is more than a row may have.
+    RecordTooLarge { size: u64 },
 }
 
 /// How a run ends.

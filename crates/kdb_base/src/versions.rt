@@ -42,13 +42,15 @@ impl Activations {
 
     /// The activations as a vector, without a copy.
     pub fn into_vec(self) -> Vec<Activation>
-        ensures { result.items ≡ self }
+        ensures value { result.items ≡ self }
+        ensures rising { AreRising (map (λ x. x.version) result.items) }
     {
         self.items
     }
 
     pub fn as_slice(&self) -> &[Activation]
-        ensures { result.now ≡ self.now }
+        ensures value { result.now ≡ self.now }
+        ensures rising { AreRising (map (λ x. x.version) result.now) }
     {
         &self.items
     }
@@ -93,13 +95,15 @@ impl AuxList {
 
     /// The keys as a vector, without a copy.
     pub fn into_vec(self) -> Vec<AuxKey>
-        ensures { result.items ≡ self }
+        ensures value { result.items ≡ self }
+        ensures rising { AreRising (map (λ x. x.version) result.items) }
     {
         self.items
     }
 
     pub fn as_slice(&self) -> &[AuxKey]
-        ensures { result.now ≡ self.now }
+        ensures value { result.now ≡ self.now }
+        ensures rising { AreRising (map (λ x. x.version) result.now) }
     {
         &self.items
     }

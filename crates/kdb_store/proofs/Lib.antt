@@ -1,5 +1,5 @@
-pub mod Ordered
 pub mod Finding
 pub mod Ranges
 pub mod Making
-mod Keys
+pub mod Lengths
+pub mod Rows

@@ -1,11 +1,11 @@
 -- The image of a database: the file that holds its realm, its point and its rows.
 use Rattle.std.specs.Prelude.{ℕ, Bool, ◌&&◌, ◌||◌, nat_le, nat_eq, List, [], ◌∷◌, ◌++◌, length, Option, IsTrue}
 use Rattle.std.specs.List.{list_all}
-use Rattle.kdb_format.specs.Readings.{Reading, ◌>>=◌, ◌>>◌, done, checked, literal_at, big_at, bytes_at, counted_at, counted_list_at, whole}
-use Rattle.kdb_format.specs.Spellings.{big, counted, counted_list}
+use Rattle.kdb_format.specs.Readings.{Reading, ◌>>=◌, ◌>>◌, done, checked, literal_at, counted_at, whole}
+use Rattle.kdb_format.specs.Spellings.{counted, counted_list}
 use Rattle.kdb_format.specs.Moments.{point_at, point, IsPoint}
-use Rattle.kdb_store.specs.Names.{is_name}
-use Rattle.kdb_store.specs.Rows.{are_rows, AreRows}
+use Rattle.princ_record.specs.Rows.{AreRows}
+use Rattle.kdb_store.specs.StoredRows.{row, rows_at, stored}
 use Rattle.kdb_store.specs.declared.image.Image.{Image}
 
 -- letters, digits, `.` and `-`
@@ -27,40 +27,18 @@ magic = 75 ∷ 68 ∷ 66 ∷ 73 ∷ 0 ∷ 1 ∷ []
 unfoldable pub ending : List ℕ
 ending = 69 ∷ 78 ∷ 68 ∷ 46 ∷ []
 
--- the kind of a row that is a name
-unfoldable pub name_kind : List ℕ
-name_kind = 1 ∷ []
-
--- a length in four bytes, and that many bytes
-unfoldable pub long_at : Reading (List ℕ)
-long_at = do
-  n ← big_at 4
-  bytes_at n
-
-unfoldable pub long : List ℕ → List ℕ
-long bytes = big 4 (length bytes) ++ bytes
-
--- a row: its kind, and the name with its length
-unfoldable pub row_at : Reading (List ℕ)
-row_at = do
-  literal_at name_kind
-  checked is_name long_at
-
-unfoldable pub row : List ℕ → List ℕ
-row name = name_kind ++ long name
-
 -- the realm, the point, and the rows in their order
 unfoldable pub image_at : Reading Image
 image_at = do
   literal_at magic
   realm ← checked is_realm counted_at
   at ← point_at
-  rows ← checked are_rows (counted_list_at 4 row_at)
+  rows ← rows_at
   literal_at ending
   done (record { realm = realm; point = at; rows = rows })
 
 unfoldable pub image : Image → List ℕ
-image i = magic ++ (counted i.realm ++ (point i.point ++ (counted_list 4 row i.rows ++ ending)))
+image i = magic ++ (counted i.realm ++ (point i.point ++ (counted_list 4 row (stored i.rows) ++ ending)))
 
 pub record IsImage (i : Image) : Type 0 where
   pub realm : IsRealm i.realm

@@ -1,7 +1,6 @@
-pub mod Names
-pub mod Rows
-pub mod Orders
+pub mod StoredRows
 pub mod Images
+pub mod Leaving
 pub mod Laws
 pub mod Places
 pub mod Steps

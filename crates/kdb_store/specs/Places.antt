@@ -9,6 +9,7 @@ use Rattle.kdb_control.specs.Choice.{Choice}
 use Rattle.kdb_control.specs.Force.{in_force}
 use Rattle.kdb_control.specs.declared.force.Force.{Force}
 use Rattle.kdb_control.specs.declared.force.Force.TheVariants.{Nothing, Is, Broken}
+use Rattle.princ_record.specs.Rows.{RowLists}
 use Rattle.kdb_store.specs.Images.{image_in}
 use Rattle.kdb_store.specs.declared.image.Image.{Image}
 use Rattle.kdb_store.specs.declared.opened.Opened.{Opened}
@@ -17,7 +18,7 @@ use Rattle.kdb_store.specs.declared.opened.Opened.{Opened}
 pub record Place : Type 0 where
   pub realm : List ℕ
   pub point : Point
-  pub rows : List (List ℕ)
+  pub rows : RowLists
   -- the point at which the log begins, how many entries it holds, and the length of its blocks
   pub base : Point
   pub size : ℕ

@@ -1,42 +1,36 @@
 -- What a change does to a place.
-use Rattle.std.specs.Prelude.{ℕ, ◌+◌, ◌-◌, List, length}
+use Rattle.std.specs.Prelude.{ℕ, ◌+◌, ◌-◌, List, Some}
 use Rattle.kdb_base.specs.Moment.{Moment}
 use Rattle.kdb_base.specs.declared.moments.Point.{Point}
-use Rattle.kdb_store.specs.Names.{IsName}
-use Rattle.kdb_store.specs.Rows.{with_row}
 use Rattle.kdb_control.specs.Choice.{Choice}
 use Rattle.kdb_control.specs.Force.{turn_after}
+use Rattle.princ_record.specs.Effects.{effect}
+use Rattle.princ_record.specs.Entries.{entry_len}
+use Rattle.princ_record.specs.Rows.{RowLists}
+use Rattle.princ_record.specs.Undoing.{finished}
+use Rattle.princ_record.specs.declared.begun.Begun.{Begun}
+use Rattle.princ_record.specs.declared.entries.Op.{Op}
 use Rattle.kdb_store.specs.Places.{Place}
 use Rattle.kdb_store.specs.declared.image.Image.{Image}
 use Rattle.kdb_store.specs.declared.opened.Opened.{Opened}
-use Rattle.kdb_store.specs.declared.op.Op.{Op}
-use Rattle.kdb_store.specs.declared.op.Op.TheVariants.{PutPrinc}
 
--- what a change does to the rows
-abbrev pub effect : Op → List (List ℕ) → List (List ℕ)
-effect (PutPrinc name) rows = with_row name rows
-
--- what is put is a name
-abbrev pub IsOp : Op → Type 0
-IsOp (PutPrinc name) = IsName name
-
--- the bytes of a change's entry in a log: the key and the row, and what stands before them
+-- the bytes of a change's entry in a log
 abbrev pub entry_length : Op → ℕ
-entry_length (PutPrinc name) = 21 + length name + length name
+entry_length op = entry_len (Some op)
 
 -- the place after a change at a time: the next serial, and the rows after the change
 abbrev pub committed : Op → Moment → Place → Place
 committed op time place = record {
   realm = place.realm;
   point = record { sno = place.point.sno + 1; time = time };
-  rows = effect op place.rows;
+  rows = effect (Some op) place.rows;
   base = place.base;
   size = place.size;
   block = place.block;
 }
 
 -- the place of a database that was made anew
-abbrev pub created : List ℕ → List (List ℕ) → Point → ℕ → ℕ → Place
+abbrev pub created : List ℕ → RowLists → Point → ℕ → ℕ → Place
 created realm rows base size block = record { realm = realm; point = base; rows = rows; base = base; size = size; block = block }
 
 -- the choice of files of a database that was made anew: its image in the first of the image files, its log in the first of
@@ -50,7 +44,11 @@ next_choice c = record { turn = turn_after c.turn; image = 3 - c.image; log = c.
 
 -- the image after a change
 abbrev pub changed : Op → Point → Image → Image
-changed op point i = record { realm = i.realm; point = point; rows = effect op i.rows }
+changed op point i = record { realm = i.realm; point = point; rows = effect (Some op) i.rows }
+
+-- the image once a change that was begun is finished
+abbrev pub with_begun : Begun → Point → Image → Image
+with_begun begun point i = record { realm = i.realm; point = point; rows = finished begun i.rows }
 
 -- what the files hold after a change
 abbrev pub after_change : Op → Point → Opened → Opened

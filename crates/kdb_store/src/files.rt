@@ -24,11 +24,11 @@ use crate::image::{Image, ImageFormat, image_text};
 use crate::opened::Opened;
 use crate::putting::{image_file, put_into_force};
 use crate::realm::Realm;
-use crate::rows::Rows;
 use kdb_base::{Halt, MemoryOut as NoMemory, Point, Refusal, Stop};
 use kdb_control::{Control, ControlStop, erase, read};
 use kdb_disk::{Disk, DiskFailed, FileReader, settle_all};
 use kdb_format::{FormatFault, read_whole};
+use princ_record::Rows;
 use std::alloc::Global;
 
 // The number of the control file.
@@ -253,7 +253,8 @@ fn first_image(
 /// Makes a database of these rows. `AlreadyThere` comes exactly where a control slot is open. Memory is
 /// taken before the first device call.
 ///
-/// Every file is synced first. Until the control slot is in force, a crash leaves no database.
+/// Every file is synced first. From then on, and until the control slot is in force, a crash leaves no
+/// database.
 pub fn create_files<D: Disk>(
     alloc: Global,
     disk: &mut D,

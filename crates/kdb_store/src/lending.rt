@@ -1,31 +1,24 @@
 //! A database over a disk that is lent to each call, for callers that cannot hand their disk over.
-ghost use Rattle.std.specs.Prelude.{◌≡◌, ◌≤◌, ◌<◌, ◌+◌, ◌-◌, length, IfOk, OnOk, OnErr, Ok, Err};
+ghost use Rattle.std.specs.Prelude.{◌≡◌, ◌≤◌, ◌<◌, ◌+◌, IfOk, OnOk, OnErr, Ok, Err, Some};
 ghost use Rattle.kdb_base.specs.Causes.{Rose};
 ghost use Rattle.kdb_base.specs.Moments.{micros};
 ghost use Rattle.kdb_disk.specs.View.{View};
 ghost use Rattle.kdb_disk.specs.Moments.{LeavesOnly};
+ghost use Rattle.princ_record.specs.Effects.{effect, IsRoom};
+ghost use Rattle.princ_record.specs.Entries.{IsOp};
+ghost use Rattle.princ_record.specs.Undoing.{IsNewName};
 ghost use Rattle.kdb_store.specs.Places.{place_of, Holds};
-ghost use Rattle.kdb_store.specs.Steps.{committed, effect, entry_length, next_choice, IsOp};
+ghost use Rattle.kdb_store.specs.Steps.{committed, next_choice};
 ghost use Rattle.kdb_store.specs.Moments.{RecoversEither};
 
 use crate::changing::change;
-use crate::op::Op;
 use crate::opened::Opened;
 use kdb_base::{Halt, Point, Time};
 use kdb_disk::Disk;
+use princ_record::Op;
 use std::alloc::Global;
 
 impl Opened {
-    /// The length of a block of the log, in bytes.
-    #[tactic(auto, unfolding(kdb_control::specs::Choice::in_ranges))]
-    pub fn block(&self) -> u32
-        ensures value { result ≡ self.now.control.block }
-        ensures least { 2048 ≤ result }
-        ensures most { result ≤ 10240 }
-    {
-        self.control.block
-    }
-
     /// Does one change at a time, and gives its point. Memory is taken before the first device call.
     ///
     /// At each moment a crash leaves the place before the change or the one after it. After
@@ -38,9 +31,9 @@ impl Opened {
         time: Time,
     ) -> Result<Point, Halt>
         requires holds { D.tells → Holds self.old (D.view disk.old) }
-        requires op { IsOp op }
-        requires fits { entry_length op ≤ self.old.control.block - 1 }
-        requires room { length (effect op self.old.image.rows) ≤ 100000 }
+        requires op { IsOp (Some op) }
+        requires room { IsRoom (effect (Some op) self.old.image.rows) }
+        requires name { IsNewName op self.old.image.rows }
         requires serial { self.old.image.point.sno < 4294967295 }
         requires time { micros self.old.image.point.time ≤ micros time }
         ensures point { IfOk result (λ point. point ≡ (committed op time (place_of self.old)).point) }

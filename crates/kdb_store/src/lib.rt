@@ -8,21 +8,16 @@ pub mod files;
 pub mod image;
 pub mod laws;
 pub mod lending;
-pub mod names;
-pub mod op;
 pub mod opened;
 mod putting;
 pub mod realm;
-pub mod rows;
 pub mod store;
+mod stored;
 
 pub use files::{create_files, destroy_files, open_files};
 pub use image::{Image, ImageFormat};
-pub use names::{is_name, is_realm};
-pub use op::Op;
 pub use opened::Opened;
-pub use realm::Realm;
-pub use rows::Rows;
+pub use realm::{Realm, is_realm};
 pub use store::Store;
 
 #[cfg(test)]

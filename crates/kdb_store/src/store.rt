@@ -1,6 +1,6 @@
 //! A database over a disk that it holds.
-ghost use Rattle.std.specs.Prelude.{◌≡◌, ◌≢◌, ◌≤◌, ◌<◌, ◌-◌, ◌↔◌, ◌&&◌, ℕ, [], false, true, nat_le, length, IfOk, IfSome, IfNone, OnOk, OnErr, IsTrue, Ok, Err};
-ghost use Rattle.std.specs.List.{Contains};
+ghost use Rattle.std.specs.Prelude.{◌≡◌, ◌≢◌, ◌≤◌, ◌<◌, ◌-◌, ◌↔◌, ◌&&◌, ℕ, [], false, true, nat_le, IfOk, IfSome, OnOk, OnErr, IsTrue, None, Some, Ok, Err};
+ghost use Rattle.std.specs.List.{All, Contains};
 ghost use Rattle.kdb_base.specs.Causes.{Rose, HasCause};
 ghost use Rattle.kdb_base.specs.Moments.{micros};
 ghost use Rattle.kdb_base.specs.declared.outcomes.Stop.TheVariants.{Halt as Halts, Refused};
@@ -9,20 +9,22 @@ ghost use Rattle.kdb_disk.specs.View.{View};
 ghost use Rattle.kdb_disk.specs.Moments.{Keeps, LeavesOnly};
 ghost use Rattle.kdb_control.specs.declared.force.Force.TheVariants.{Nothing};
 ghost use Rattle.kdb_control.specs.Force.{in_force};
+ghost use Rattle.princ_record.specs.Effects.{effect, IsRoom};
+ghost use Rattle.princ_record.specs.Entries.{IsOp};
+ghost use Rattle.princ_record.specs.Undoing.{IsNewName};
 ghost use Rattle.kdb_store.specs.Images.{IsRealm};
 ghost use Rattle.kdb_store.specs.Places.{place_of, Holds};
-ghost use Rattle.kdb_store.specs.Steps.{committed, created, effect, entry_length, first_choice, next_choice, IsOp};
+ghost use Rattle.kdb_store.specs.Steps.{committed, created, entry_length, first_choice, next_choice};
 ghost use Rattle.kdb_store.specs.Stores.{Answers, AnswersMade, disk_after, answer_of, returned};
 ghost use Rattle.kdb_store.specs.Moments.{RecoversEither, RecoversToNone, Creates, Destroys};
 
 use crate::changing::change;
 use crate::files::{create_files, end_opened, open_files};
-use crate::op::Op;
 use crate::opened::Opened;
-use crate::rows::Rows;
-use kdb_base::{Blob, Halt, Point, Stop, Time};
-use kdb_control::Control;
+use kdb_base::{Halt, Point, Stop, Time};
 use kdb_disk::{Disk, DiskFailed};
+use policy_rules::Policy;
+use princ_record::{Op, Princ, Rows};
 use std::alloc::Global;
 use std::marker::Model;
 
@@ -45,17 +47,6 @@ impl<D: Disk + Drop> Model for Store<D> {
     ghost Value = { Held D };
 
     ghost view = { λ s. record { disk = s.disk; opened = s.opened; broken = s.broken } };
-}
-
-// Whether the entry of a change is short enough for a block of the log that a choice of files says.
-#[tactic(auto, using(crate::proofs::Ranges::block_low))]
-fn entry_fits(op: &Op, control: &Control) -> bool
-    ensures { IsTrue result ↔ (entry_length op.now ≤ control.now.block - 1) }
-{
-    let room = (control.block as usize - 22) / 2;
-    match op {
-        Op::PutPrinc(name) => name.len() <= room,
-    }
 }
 
 impl<D: Disk + Drop> Store<D> {
@@ -123,9 +114,10 @@ impl<D: Disk + Drop> Store<D> {
 
     /// Whether the entry of a change is short enough for a block of the log.
     pub fn fits(&self, op: &Op) -> bool
-        ensures { IsTrue result ↔ (entry_length op.now ≤ self.now.opened.control.block - 1) }
+        requires op { IsOp (Some op.now) }
+        ensures exact { IsTrue result ↔ (entry_length op.now ≤ self.now.opened.control.block - 1) }
     {
-        entry_fits(op, &self.opened.control)
+        self.opened.fits(op)
     }
 
     /// Does one change at a time, and gives its point. Memory is taken before the first device call.
@@ -134,9 +126,10 @@ impl<D: Disk + Drop> Store<D> {
     pub fn commit(&mut self, op: Op, time: Time) -> Result<Point, Halt>
         requires holds { D.tells → Holds self.old.opened (D.view self.old.disk) }
         requires whole { self.old.broken ≡ false }
-        requires op { IsOp op }
+        requires op { IsOp (Some op) }
         requires fits { entry_length op ≤ self.old.opened.control.block - 1 }
-        requires room { length (effect op self.old.opened.image.rows) ≤ 100000 }
+        requires room { IsRoom (effect (Some op) self.old.opened.image.rows) }
+        requires name { IsNewName op self.old.opened.image.rows }
         requires serial { self.old.opened.image.point.sno < 4294967295 }
         requires time { micros self.old.opened.image.point.time ≤ micros time }
         ensures point { IfOk result (λ point. point ≡ (committed op time (place_of self.old.opened)).point) }
@@ -192,16 +185,23 @@ impl<D: Disk + Drop> Store<D> {
         }
     }
 
-    /// The name of this row, where there is one.
-    pub fn get(&self, key: &[u8]) -> Option<&Blob>
-        ensures some { IfSome result (λ name. name.now ≡ key.now) }
-        ensures there { IfSome result (λ _. Contains self.now.opened.image.rows key.now) }
-        ensures none { IfNone result (Contains self.now.opened.image.rows key.now → ⊥) }
+    /// The principal of this printed name, where there is one.
+    pub fn get(&self, key: &[u8]) -> Option<&Princ>
+        ensures some { IfSome result (λ p. Contains self.now.opened.image.rows.princs p.now × (p.now.name ≡ key.now)) }
+        ensures none { result ≡ None → All (λ p. p.name ≢ key.now) self.now.opened.image.rows.princs }
     {
-        self.opened.image.rows.get(key)
+        self.opened.get(key)
     }
 
-    /// The rows, in the order of their keys.
+    /// The policy of this name, where there is one.
+    pub fn policy(&self, key: &[u8]) -> Option<&Policy>
+        ensures some { IfSome result (λ p. Contains self.now.opened.image.rows.policies p.now × (p.now.name ≡ key.now)) }
+        ensures none { result ≡ None → All (λ p. p.name ≢ key.now) self.now.opened.image.rows.policies }
+    {
+        self.opened.policy(key)
+    }
+
+    /// The principals and the policies, in the order of their keys.
     pub fn rows(&self) -> &Rows
         ensures { result.now ≡ self.now.opened.image.rows }
     {

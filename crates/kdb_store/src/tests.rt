@@ -1,9 +1,15 @@
-ghost use Rattle.std.specs.Prelude.{◌≡◌, [], IfOk};
+ghost use Rattle.std.specs.Prelude.{◌≡◌, IfOk, OnOk};
+ghost use Rattle.princ_record.specs.Entries.{IsRow};
+ghost use Rattle.princ_record.specs.PrintedNames.{IsPrinted};
 ghost use Rattle.kdb_store.specs.Places.{Holds};
 
 use super::*;
+use crate::image::image_text;
 use kdb_base::{Blob, Fails, Point, Refusal, Stop, Time};
 use kdb_disk::{Disk, MemoryDisk, Pick};
+use kdb_format::{FormatFault, read_whole};
+use princ_record::names::is_printed;
+use princ_record::{Op, Princ, Rows, decode, encoded_len};
 use std::alloc::Global;
 use std::process::Abort;
 use std::test::*;
@@ -18,13 +24,21 @@ const FIRST_SLOT: [u8; 31] = [
 const FIRST_IMAGE: &[u8] =
     b"KDBI\x00\x01\x00\x0bEXAMPLE.ORG\x00\x00\x00\x01\x65\x53\xf1\x00\x00\x00\x00\x00\x00\x00\x00\x00END.";
 
-// The same at the serial 2 with alice.
+// The same at the serial 2 with the row of alice, of 65 bytes: no attributes and no times, changed last
+// by a@R at the same time, a master key of version 1, and no keys.
 const SECOND_IMAGE: &[u8] =
-    b"KDBI\x00\x01\x00\x0bEXAMPLE.ORG\x00\x00\x00\x02\x65\x53\xf1\x00\x00\x00\x00\x00\x00\x00\x00\x01\x01\x00\x00\x00\x05aliceEND.";
+    b"KDBI\x00\x01\x00\x0bEXAMPLE.ORG\x00\x00\x00\x02\x65\x53\xf1\x00\x00\x00\x00\x00\x00\x00\x00\x01\x01\x00\x00\x00\x41\x00\x11alice@EXAMPLE.ORG\x00\x00\x00\x00\x00\x00\x00\x00\x00\x00\x00\x00\x00\x00\x00\x00\x00\x00\x00\x00\x00\x02\x00\x02\x00\x08\x00\xf1\x53\x65a@R\x00\x00\x08\x00\x02\x01\x00\x00\x00\x00\x00\x00\x00END.";
+
+// The serial 3, and no rows again.
+const THIRD_IMAGE: &[u8] =
+    b"KDBI\x00\x01\x00\x0bEXAMPLE.ORG\x00\x00\x00\x03\x65\x53\xf1\x00\x00\x00\x00\x00\x00\x00\x00\x00END.";
 
 const REALM: &[u8] = b"EXAMPLE.ORG";
 
-const ALICE: &[u8] = b"alice";
+const NAME: &[u8] = b"alice@EXAMPLE.ORG";
+
+const ALICE: &[u8] =
+    b"\x00\x11alice@EXAMPLE.ORG\x00\x00\x00\x00\x00\x00\x00\x00\x00\x00\x00\x00\x00\x00\x00\x00\x00\x00\x00\x00\x00\x02\x00\x02\x00\x08\x00\xf1\x53\x65a@R\x00\x00\x08\x00\x02\x01\x00\x00\x00\x00\x00\x00\x00";
 
 // Another answer than the one that was to come.
 #[derive(Debug, Drop)]
@@ -45,33 +59,83 @@ fn base() -> Point
     }
 }
 
+// No rows.
+fn no_rows(alloc: Global) -> Result<Rows, Fail> {
+    match Rows::from_vecs(Vec::new(alloc), Vec::new(alloc)) {
+        Some(rows) => Ok(rows),
+        None => Err(Fail::from(Unexpected)),
+    }
+}
+
 // Makes a database without rows.
 fn create_on(alloc: Global, disk: &mut MemoryDisk) -> Result<Opened, Fail>
     ensures holds { IfOk result (λ opened. Holds opened (⟦<MemoryDisk as Disk>⟧.view disk.new)) }
-    ensures rows { IfOk result (λ opened. opened.image.rows ≡ []) }
     ensures point { IfOk result (λ opened. opened.image.point ≡ record { sno = 1; time = record { secs = 1700000000; usecs = 0 } }) }
 {
     if !is_realm(REALM) {
         return Err(Fail::from(Unexpected));
     }
-    match create_files(alloc, disk, REALM, Rows::new(alloc), base(), 1000, 2048) {
+    match create_files(alloc, disk, REALM, no_rows(alloc)?, base(), 1000, 2048) {
         Ok(opened) => Ok(opened),
         Err(stop) => Err(Fail::from(stop)),
     }
 }
 
-// Adds a name to it.
-fn add_on(alloc: Global, disk: MemoryDisk, opened: Opened) -> Result<MemoryDisk, Fail>
+// The principal that the row spells.
+fn alice(alloc: Global) -> Result<Princ, Fail>
+    ensures { IfOk result IsRow }
+{
+    let princ = decode(alloc, ALICE)?;
+    if encoded_len(&princ) > 8000 {
+        return Err(Fail::from(Unexpected));
+    }
+    Ok(princ)
+}
+
+// A printed name.
+#[tactic(auto, using(princ_record::specs::PrintedNames::test_printed))]
+fn printed(alloc: Global, bytes: &[u8]) -> Result<Blob, Fail>
+    ensures { IfOk result IsPrinted }
+{
+    if !is_printed(bytes) {
+        return Err(Fail::from(Unexpected));
+    }
+    let name = Blob::from_bytes(alloc, bytes)?;
+    Ok(name)
+}
+
+// Puts the principal, over the disk that is lent.
+fn put_on(alloc: Global, disk: &mut MemoryDisk, opened: &mut Opened) -> Result<(), Fail>
+    requires holds { Holds opened.old (⟦<MemoryDisk as Disk>⟧.view disk.old) }
+    requires point { opened.old.image.point ≡ record { sno = 1; time = record { secs = 1700000000; usecs = 0 } } }
+    ensures holds { OnOk result (Holds opened.new (⟦<MemoryDisk as Disk>⟧.view disk.new)) }
+    ensures point { OnOk result (opened.new.image.point ≡ record { sno = 2; time = record { secs = 1700000000; usecs = 0 } }) }
+{
+    let op = Op::PutPrinc(alice(alloc)?);
+    if !opened.fits(&op) || !opened.rows().has_room_for(&op) {
+        return Err(Fail::from(Unexpected));
+    }
+    match opened.commit(alloc, disk, op, begin()) {
+        Ok(_) => Ok(()),
+        Err(halt) => Err(Fail::from(halt)),
+    }
+}
+
+// Takes it away again.
+fn drop_on(alloc: Global, disk: MemoryDisk, opened: Opened) -> Result<MemoryDisk, Fail>
     requires holds { Holds opened (⟦<MemoryDisk as Disk>⟧.view disk) }
-    requires point { opened.image.point ≡ record { sno = 1; time = record { secs = 1700000000; usecs = 0 } } }
+    requires point { opened.image.point ≡ record { sno = 2; time = record { secs = 1700000000; usecs = 0 } } }
 {
     let mut store = Store::over(alloc, disk, opened);
-    let op = Op::PutPrinc(Blob::from_bytes(alloc, ALICE)?);
-    if !is_name(ALICE) || !store.fits(&op) || !store.rows().has_room(ALICE) {
+    let op = Op::DropPrinc(printed(alloc, NAME)?);
+    if store.get(NAME).is_none() || store.policy(NAME).is_some() || !store.fits(&op) {
+        return Err(Fail::from(Unexpected));
+    }
+    if !store.rows().has_room_for(&op) {
         return Err(Fail::from(Unexpected));
     }
     match store.commit(op, begin()) {
-        Ok(point) if point.sno == 2 && store.get(ALICE).is_some() && !store.broken() => {
+        Ok(point) if point.sno == 3 && store.get(NAME).is_none() && !store.broken() => {
             Ok(store.into_disk())
         }
         Ok(_) => Err(Fail::from(Unexpected)),
@@ -84,7 +148,7 @@ fn create_again(alloc: Global, disk: MemoryDisk) -> Result<MemoryDisk, Fail> {
     if !is_realm(REALM) {
         return Err(Fail::from(Unexpected));
     }
-    match Store::create(alloc, disk, REALM, Rows::new(alloc), base(), 1000, 2048) {
+    match Store::create(alloc, disk, REALM, no_rows(alloc)?, base(), 1000, 2048) {
         Err((disk, Stop::Refused(Refusal::AlreadyThere))) => Ok(disk),
         _ => Err(Fail::from(Unexpected)),
     }
@@ -113,7 +177,7 @@ fn found(alloc: Global, disk: MemoryDisk) -> Result<Found, Fail> {
     match Store::recover(alloc, disk) {
         Ok(store) => {
             let (_, last) = store.held();
-            Ok(Some((last.sno, store.rows().len())))
+            Ok(Some((last.sno, store.rows().princs().len())))
         }
         Err((_, Stop::Refused(Refusal::NotADatabase))) => Ok(None),
         Err((_, stop)) => Err(Fail::from(stop)),
@@ -148,31 +212,81 @@ fn check_stops(
 fn a_database_is_made_changed_and_ended(rt: HostRuntime) -> Result<(), Fail> {
     let alloc = rt.alloc();
     let mut disk = MemoryDisk::new(alloc, Fails::none(alloc))?;
-    let opened = create_on(alloc, &mut disk)?;
+    let mut opened = create_on(alloc, &mut disk)?;
     let made = disk.calls();
     let rest = disk.bytes(0).strip_prefix(&FIRST_SLOT);
     assert_eq!(rt; rest.map(|zeros| zeros.len()), Some(34));
     assert!(rt; rest.map(|zeros| zeros.iter().all(|b| *b == 0)) == Some(true));
     assert_eq!(rt; disk.bytes(1), FIRST_IMAGE);
-    let disk = add_on(alloc, disk, opened)?;
-    let changed = disk.calls();
+    put_on(alloc, &mut disk, &mut opened)?;
+    let put = disk.calls();
     assert_eq!(rt; disk.bytes(2), SECOND_IMAGE);
+    let disk = drop_on(alloc, disk, opened)?;
+    let dropped = disk.calls();
+    assert_eq!(rt; disk.bytes(1), THIRD_IMAGE);
     let disk = create_again(alloc, disk)?;
     let refused = disk.calls();
     let disk = destroy_on(alloc, disk)?;
     let ended = disk.calls();
     assert_eq!(rt; disk.bytes(1).len(), 0);
     assert_eq!(rt; disk.bytes(2).len(), 0);
+    let with_alice = Some((2, 1));
+    let without = Some((3, 0));
     check_stops(&rt, alloc, &disk, 0, made, None, Some((1, 0)))?;
-    check_stops(&rt, alloc, &disk, made, changed, Some((1, 0)), Some((2, 1)))?;
-    check_stops(
-        &rt,
-        alloc,
-        &disk,
-        changed,
-        refused,
-        Some((2, 1)),
-        Some((2, 1)),
+    check_stops(&rt, alloc, &disk, made, put, Some((1, 0)), with_alice)?;
+    check_stops(&rt, alloc, &disk, put, dropped, with_alice, without)?;
+    check_stops(&rt, alloc, &disk, dropped, refused, without, without)?;
+    check_stops(&rt, alloc, &disk, refused, ended, without, None)
+}
+
+// The serial 1, and then a number of rows and the rows.
+fn image_with(alloc: Global, count: u8, rows: &[&[u8]]) -> Result<Vec<u8>, Fail> {
+    let mut out = Vec::new(alloc);
+    out.extend_from_slice(
+        b"KDBI\x00\x01\x00\x0bEXAMPLE.ORG\x00\x00\x00\x01\x65\x53\xf1\x00\x00\x00\x00\x00",
     )?;
-    check_stops(&rt, alloc, &disk, refused, ended, Some((2, 1)), None)
+    out.extend_from_slice(&[0, 0, 0, count])?;
+    for row in rows {
+        out.extend_from_slice(row)?;
+    }
+    out.extend_from_slice(b"END.")?;
+    Ok(out)
+}
+
+#[test]
+fn rows_are_principals_and_then_policies(rt: HostRuntime) -> Result<(), Fail> {
+    let alloc = rt.alloc();
+    let policy: &[u8] =
+        b"\x02\x00\x00\x00\x13\x00\x03std\x00\x00\x00\x3c\x00\x00\x00\x0a\x00\x08\x00\x03\x00\x02";
+    let kind: &[u8] = b"\x01\x00\x00\x00\x41";
+    let other: &[u8] = b"\x03\x00\x00\x00\x41";
+    let longer: &[u8] = b"\x01\x00\x00\x00\x42";
+    let bytes = image_with(alloc, 2, &[kind, ALICE, policy])?;
+    let image = read_whole::<ImageFormat>(alloc, &bytes)?;
+    assert_eq!(rt; image.rows.princs().len(), 1);
+    assert_eq!(rt; image.rows.policies().len(), 1);
+    let text = image_text(alloc, &image)?;
+    assert_eq!(rt; text, bytes);
+    let wrong: [(u8, &[&[u8]]); 6] = [
+        // A policy before a principal.
+        (2, &[policy, kind, ALICE]),
+        // A row of kind 3.
+        (1, &[other, ALICE]),
+        // A name twice, of a principal and of a policy.
+        (2, &[kind, ALICE, kind, ALICE]),
+        (2, &[policy, policy]),
+        // A row that is longer than its record.
+        (1, &[longer, ALICE, b"\x00"]),
+        // A row more than the number says.
+        (1, &[kind, ALICE, policy]),
+    ];
+    for (count, rows) in wrong {
+        let bytes = image_with(alloc, count, rows)?;
+        let refused = matches!(
+            read_whole::<ImageFormat>(alloc, &bytes),
+            Err(FormatFault::Malformed)
+        );
+        assert!(rt; refused, "{bytes:?}");
+    }
+    Ok(())
 }

@@ -39,6 +39,3 @@ fn main(rt: HostRuntime) -> ExitCode {
     );
     ExitCode::from(status.code())
 }
-
-#[cfg(test)]
-mod tests;

@@ -1,8 +1,10 @@
-//! Measures the ciphers under the product's keys. `bench/crypto.sh` runs it beside OpenSSL.
+//! Measures the ciphers under the product's keys, and the records of principals. `bench/crypto.sh` runs it
+//! beside OpenSSL.
 #![tactic(auto)]
 
 mod ciphers;
 mod profile;
+mod records;
 mod timing;
 
 use anyhow::Result;
@@ -24,5 +26,6 @@ fn main(rt: HostRuntime) -> Result<()> {
     }
     ciphers::report(&rt)?;
     profile::report(&rt, rt.alloc())?;
+    records::report(&rt, rt.alloc())?;
     Ok(())
 }

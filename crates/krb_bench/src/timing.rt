@@ -26,3 +26,9 @@ pub fn print_time<R: Print>(rt: &R, name: &str, turns: u32, seconds: f64) -> io:
     let micros = seconds / f64::from(turns) * 1.0e6;
     println!(rt; "{name}: {micros:.3} microseconds")
 }
+
+/// Prints how many of `turns` rows went by in a second.
+pub fn print_rate<R: Print>(rt: &R, name: &str, turns: u32, seconds: f64) -> io::Result<()> {
+    let rate = f64::from(turns) / seconds;
+    println!(rt; "{name}: {rate:.0} rows/s")
+}

@@ -12,3 +12,4 @@ pub mod PatternWords
 pub mod Matching
 pub mod PrintedSpells
 pub mod FaultlessWords
+pub mod OwnNames

@@ -12,6 +12,12 @@ AnswersName name (Ok answer) = answer ≡ name
 AnswersName name (Err MemoryOut) = ⊤
 AnswersName name (Err (BadName offset)) = ⊥
 
+-- what is read of the word is answered, or memory ran out
+unfoldable pub AnswersReading : Result NameParts ℕ → Result NameParts NameFault → Type 0
+AnswersReading reading (Ok name) = reading ≡ Ok name
+AnswersReading reading (Err MemoryOut) = ⊤
+AnswersReading reading (Err (BadName offset)) = reading ≡ Err offset
+
 -- the word spells no name
 pub record SpellsNone (word given : List ℕ) : Type 0 where
   pub none : (name : NameParts) → Spells word given name → IsName name → ⊥

@@ -3,6 +3,7 @@ pub mod Names
 pub mod Spelling
 pub mod Faults
 pub mod Reading
+pub mod Readings
 pub mod Steps
 pub mod Whole
 pub mod Answers

@@ -1,8 +1,10 @@
 //! Laws of the words of names. They do no work.
 
-ghost use Rattle.std.specs.Prelude.{List, ℕ, ◌≡◌, None};
+ghost use Rattle.std.specs.Prelude.{List, ℕ, ◌≡◌, ◌↔◌, true, None, Ok, Err};
+ghost use Rattle.princ_name.specs.Answers.{IsRefusedAt};
 ghost use Rattle.princ_name.specs.Faults.{first_fault};
 ghost use Rattle.princ_name.specs.Names.{NameParts, IsName, printed};
+ghost use Rattle.princ_name.specs.Readings.{is_name, own_name_in};
 ghost use Rattle.princ_name.specs.Spelling.{Spells};
 
 /// A word spells one name at most.
@@ -17,7 +19,26 @@ pub fn spelled_word_has_no_fault()
 {}
 
 /// The printed form of a name spells it, whatever realm is given. So a name that is printed and read
-/// is the name again, and two names have two printed forms.
+/// is the name again.
 pub fn printed_form_spells_the_name()
     ensures { (name : NameParts) (given : List ℕ) → IsName name → Spells (printed name) given name }
+{}
+
+/// Names with one printed form are one name.
+pub fn printed_form_has_one_name()
+    ensures { (a b : NameParts) → IsName a → IsName b → printed a ≡ printed b → a ≡ b }
+{}
+
+/// The test of the limits of names passes exactly the names within them.
+pub fn limits_are_tested()
+    ensures { (name : NameParts) → (is_name name ≡ true) ↔ IsName name }
+{}
+
+/// What is read of a word is the one name of the given realm that it spells within the limits, and a
+/// refusal is read just where there is no such name, with its place.
+pub fn own_name_is_spelled()
+    ensures name { (word given : List ℕ) (name : NameParts)
+        → (own_name_in word given ≡ Ok name) ↔ (Spells word given name × IsName name × (name.realm ≡ given)) }
+    ensures refusal { (word given : List ℕ) (place : ℕ)
+        → (own_name_in word given ≡ Err place) ↔ IsRefusedAt word given place }
 {}

@@ -1,8 +1,9 @@
 ghost use Rattle.std.specs.Prelude.{List, ℕ, ◌≡◌, ◌≢◌, None, map, length, IfOk, IfSome};
-ghost use Rattle.princ_name.specs.Answers.{AnswersName, IsRefusedAt};
+ghost use Rattle.princ_name.specs.Answers.{AnswersName, AnswersReading, IsRefusedAt};
 ghost use Rattle.princ_name.specs.Equal.{same_name, same_name_equiv, same_name_partial};
 ghost use Rattle.princ_name.specs.Faults.{fault_place};
 ghost use Rattle.princ_name.specs.Names.{NameParts, IsName, printed};
+ghost use Rattle.princ_name.specs.Readings.{own_name_in};
 ghost use Rattle.princ_name.specs.Spelling.{Spells};
 ghost use Rattle.princ_name.specs.Whole.{IsWhole, name_of};
 
@@ -131,13 +132,15 @@ pub fn parse_name(alloc: Global, text: &[u8], realm: &[u8]) -> Result<Name, Name
 }
 
 /// The name of this realm that a word spells. A name of another realm is refused at the realm's first
-/// byte, any other word as `parse_name` does.
+/// byte, any other word as `parse_name` does. So the word and the realm alone decide the answer, unless
+/// memory runs out.
 pub fn parse_own_name(alloc: Global, text: &[u8], realm: &[u8]) -> Result<Name, NameFault>
     ensures spelled { IfOk result (λ name. Spells text.now realm.now name) }
     ensures limits { IfOk result (λ name. IsName name) }
     ensures own { IfOk result (λ name. name.realm ≡ realm.now) }
     ensures only { (name : NameParts) → Spells text.now realm.now name → IsName name → name.realm ≡ realm.now → AnswersName name result }
     ensures refused { (offset : ℕ) → result ≡ Err (NameFault.BadName offset) → IsRefusedAt text.now realm.now offset }
+    ensures value { AnswersReading (own_name_in text.now realm.now) result }
 {
     let whole = match read_whole(alloc, text, realm) {
         Ok(whole) => whole,

@@ -163,6 +163,10 @@ module _ {X : Type 0} where
   unfolding drop_by
   drop_short key k xs = omega (arith, sides key k xs, length-append (filter (is_lower key k) xs) (filter (is_higher key k) xs))
 
+  pub put_short : (key : X → List ℕ) (x : X) (xs : List X) → length (put_by key x xs) ≤ length xs + 1
+  unfolding put_by
+  put_short key x xs = omega (arith, sides key (key x) xs, length-append (filter (is_lower key (key x)) xs) (x ∷ filter (is_higher key (key x)) xs))
+
 -- ---- the rows
 
 pub put_princ_rows : (p : Princ) (r : RowLists) → AreRows r → IsRow p → IsRoom (put_princ p r) → AreRows (put_princ p r)

@@ -11,3 +11,6 @@ pub mod Sizes
 pub mod Entries
 pub mod Rows
 pub mod Effects
+pub mod Undoing
+pub mod Replies
+pub mod Tags

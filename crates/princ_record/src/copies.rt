@@ -8,7 +8,6 @@ use crate::princs::Princ;
 use crate::remembered::{OldKey, OldKeys, OldSet, OldSets};
 use kdb_base::{Activations, AuxKey, AuxList, Blob, MemoryOut, Salt};
 use std::alloc::Global;
-use tagged_data::rising::are_rising;
 
 /// A value that can be copied, where memory is given.
 pub(crate) trait Copied: Drop {
@@ -103,26 +102,17 @@ impl Copied for AuxKey {
     }
 }
 
-/// The list's type keeps its versions rising, and tells other crates nothing of it. So the copy asks
-/// again, and no other answer ever comes.
 fn copy_activations(alloc: Global, list: &Activations) -> Result<Activations, MemoryOut>
     ensures { IfOk result (λ x. x ≡ list.now) }
 {
     let items = list.as_slice().to_vec(alloc)?;
-    if !are_rising(&items) {
-        return Err(MemoryOut);
-    }
     Ok(Activations::from_vec(items))
 }
 
-/// As for activations.
 fn copy_aux_keys(alloc: Global, list: &AuxList) -> Result<AuxList, MemoryOut>
     ensures { IfOk result (λ x. x ≡ list.now) }
 {
     let keys = copy_all(alloc, list.as_slice())?;
-    if !are_rising(&keys) {
-        return Err(MemoryOut);
-    }
     Ok(AuxList::from_vec(keys))
 }
 

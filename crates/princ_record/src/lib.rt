@@ -3,21 +3,26 @@
 //! spelling of a record are refused.
 #![tactic(auto)]
 
+pub mod begun;
 mod copies;
 pub mod entries;
 mod etypes;
 pub mod facts;
 pub mod faults;
 pub mod keys;
+pub mod laws;
 mod measures;
 pub mod names;
 pub mod policies;
 pub mod princs;
 pub mod remembered;
+pub mod replies;
 pub mod rows;
+pub mod sorted;
 
+pub use begun::Begun;
 pub use copies::copy;
-pub use entries::{Entry, Op};
+pub use entries::{Entries, Entry, Op};
 pub use facts::ChainPart;
 pub use faults::RowFault;
 pub use keys::{KeyItem, Keys};
@@ -25,7 +30,9 @@ pub use measures::encoded_len;
 pub use policies::{PolicyFormat, copy_policy, decode_policy, encode_policy};
 pub use princs::{Princ, PrincFormat, decode, encode};
 pub use remembered::{OldKey, OldKeys, OldSet, OldSets};
+pub use replies::{PollReply, ReplyCode};
 pub use rows::Rows;
+pub use sorted::Keyed;
 
 #[cfg(test)]
 mod tests;

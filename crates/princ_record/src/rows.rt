@@ -1,28 +1,24 @@
-ghost use Rattle.std.specs.Prelude.{◌≡◌, ◌≢◌, ◌+◌, ◌≤◌, ℕ, List, Contains, None, length, map, option_map, IfSome, OnErr, OnOk};
+ghost use Rattle.std.specs.Prelude.{◌≡◌, ◌≢◌, ◌⊎◌, ◌+◌, ◌≤◌, length, true, false, Contains, Some, None, IfOk, IfSome, OnErr, OnOk};
 ghost use Rattle.std.specs.List.{All};
 ghost use Rattle.policy_rules.specs.Rules.{Rules};
-ghost use Rattle.princ_record.specs.Effects.{put_by, drop_by, put_princ, drop_princ, put_policy, drop_policy, IsRoom};
-ghost use Rattle.princ_record.specs.Entries.{IsRow};
+ghost use Rattle.princ_record.specs.Effects.{effect, put_princ, drop_princ, put_policy, drop_policy, IsRoom};
+ghost use Rattle.princ_record.specs.Entries.{IsOp, IsRow};
 ghost use Rattle.princ_record.specs.Policies.{IsPolicy};
-ghost use Rattle.princ_record.specs.Rows.{AreInOrder, AreRows, key_cmp, IsAt, IsGap, rises_from, is_behind};
+ghost use Rattle.princ_record.specs.Rows.{AreRows};
+ghost use Rattle.princ_record.specs.Undoing.{IsNewName, IsBegun, finished, undone};
 
+use crate::begun::Begun;
+use crate::entries::Op;
 use crate::princs::Princ;
+use crate::sorted::{
+    Keyed, are_in_order, begin_put, begin_rename, drop_row, find_row, holds_key, put_row, undo_row,
+};
 use kdb_base::MemoryOut;
 use policy_rules::Policy;
-use std::cmp::Ordering;
 use std::marker::Model;
 
 /// The most rows of a database.
 pub const MAX_ROWS: usize = 100_000;
-
-/// A record with a key.
-trait Keyed {
-    ghost key_of: { Self → List ℕ };
-
-    /// The key.
-    fn key(&self) -> &[u8]
-        ensures { result.now ≡ key_of self.now };
-}
 
 impl Keyed for Princ {
     ghost key_of = { λ p. p.name };
@@ -58,89 +54,6 @@ impl Model for Rows {
     ghost invariant = { λ r. AreRows (record { princs = r.princs.items; policies = r.policies.items }) };
 }
 
-fn is_behind(last: Option<&[u8]>, key: &[u8]) -> bool
-    ensures { result ≡ is_behind (option_map (λ k. k.now) last.entry) key.now }
-{
-    match last {
-        Some(last) => last.cmp(key) == Ordering::Less,
-        None => true,
-    }
-}
-
-/// Whether each key is above the one before it.
-#[tactic(auto, unfolding(crate::specs::Rows::rises_from))]
-fn are_in_order<T: Keyed>(items: &[T]) -> bool
-    ensures { result ≡ rises_from None (map T.key_of items.now) }
-{
-    let mut last = None;
-    for item in items {
-        let key = item.key();
-        if !is_behind(last, key) {
-            return false;
-        }
-        last = Some(key);
-    }
-    true
-}
-
-fn compare<T: Keyed>(item: &T, key: &[u8]) -> Ordering
-    ensures { result ≡ key_cmp (T.key_of item.now) key.now }
-{
-    item.key().cmp(key)
-}
-
-/// Where the record of a key is, or else where it would go.
-fn place_of<T: Keyed>(items: &[T], key: &[u8]) -> Result<usize, usize>
-    requires { AreInOrder (map T.key_of items.now) }
-    ensures found { (at : ℕ) → result ≡ Ok at → IsAt T.key_of items.now key.now at }
-    ensures absent { (at : ℕ) → result ≡ Err at → IsGap T.key_of items.now key.now at }
-{
-    items.binary_search_by(|item| compare(item, key))
-}
-
-/// The record of a key.
-fn row_of<'a, T: Keyed>(items: &'a [T], key: &[u8]) -> Option<&'a T>
-    requires { AreInOrder (map T.key_of items.now) }
-    ensures some { IfSome result (λ x. Contains items.now x.now × (T.key_of x.now ≡ key.now)) }
-    ensures none { result ≡ None → All (λ x. T.key_of x ≢ key.now) items.now }
-{
-    match place_of(items, key) {
-        Ok(at) => Some(&items[at]),
-        Err(_) => None,
-    }
-}
-
-/// Puts the record in its place, or in that of the one with its key.
-fn put_row<T: Keyed + Drop>(items: &mut Vec<T>, item: T) -> Result<(), MemoryOut>
-    requires { AreInOrder (map T.key_of items.old.items) }
-    ensures ok { OnOk result (items.new.items ≡ put_by T.key_of item items.old.items) }
-    ensures err { OnErr result (items.new.items ≡ items.old.items) }
-{
-    match place_of(items, item.key()) {
-        Ok(at) => {
-            items[at] = item;
-            Ok(())
-        }
-        Err(at) => {
-            items.insert(at, item)?;
-            Ok(())
-        }
-    }
-}
-
-/// Takes the record of a key away, where it is there.
-fn drop_row<T: Keyed + Drop>(items: &mut Vec<T>, key: &[u8])
-    requires { AreInOrder (map T.key_of items.old.items) }
-    ensures { items.new.items ≡ drop_by T.key_of key.now items.old.items }
-{
-    match place_of(items, key) {
-        Ok(at) => {
-            let _ = items.remove(at);
-        }
-        Err(_) => {}
-    }
-}
-
 impl Rows {
     /// The rows of these records. None where they are in another order, or more than 100000.
     pub fn from_vecs(princs: Vec<Princ>, policies: Vec<Policy>) -> Option<Rows>
@@ -159,6 +72,15 @@ impl Rows {
             return None;
         }
         Some(Rows { princs, policies })
+    }
+
+    /// The principals and the policies as vectors, without a copy.
+    pub fn into_vecs(self) -> (Vec<Princ>, Vec<Policy>)
+        ensures princs { result.0.items ≡ self.princs }
+        ensures policies { result.1.items ≡ self.policies }
+        ensures rows { AreRows self }
+    {
+        (self.princs, self.policies)
     }
 
     /// The principals in the byte order of their printed names.
@@ -182,7 +104,7 @@ impl Rows {
         ensures some { IfSome result (λ p. Contains self.now.princs p.now × (p.now.name ≡ name.now)) }
         ensures none { result ≡ None → All (λ p. p.name ≢ name.now) self.now.princs }
     {
-        row_of(self.princs(), name)
+        find_row(self.princs(), name)
     }
 
     /// The policy of this name.
@@ -190,7 +112,36 @@ impl Rows {
         ensures some { IfSome result (λ p. Contains self.now.policies p.now × (p.now.name ≡ name.now)) }
         ensures none { result ≡ None → All (λ p. p.name ≢ name.now) self.now.policies }
     {
-        row_of(self.policies(), name)
+        find_row(self.policies(), name)
+    }
+
+    /// Whether a rename leaves no more rows than there may be, where there is no room for one more.
+    fn has_room_for_rename(&self, old: &[u8], princ: &Princ) -> bool
+        requires { 100000 ≤ length self.now.princs + length self.now.policies }
+        ensures yes { result ≡ true → IsRoom (put_princ princ.now (drop_princ old.now self.now)) }
+        ensures no { result ≡ false → IsRoom (put_princ princ.now (drop_princ old.now self.now)) → ⊥ }
+    {
+        if holds_key(self.princs(), old) {
+            return true;
+        }
+        holds_key(self.princs(), princ.name.as_slice())
+    }
+
+    /// Whether the change leaves no more rows than there may be.
+    pub fn has_room_for(&self, op: &Op) -> bool
+        ensures yes { result ≡ true → IsRoom (effect (Some op.now) self.now) }
+        ensures no { result ≡ false → IsRoom (effect (Some op.now) self.now) → ⊥ }
+    {
+        if self.princs().len() + self.policies().len() < MAX_ROWS {
+            return true;
+        }
+        match op {
+            Op::PutPrinc(princ) => holds_key(self.princs(), princ.name.as_slice()),
+            Op::Rename(old, princ) => self.has_room_for_rename(old.as_slice(), princ),
+            Op::PutPolicy(policy) => holds_key(self.policies(), policy.name()),
+            Op::DropPrinc(_) => true,
+            Op::DropPolicy(_) => true,
+        }
     }
 
     /// Puts the principal in its place, or in that of the one with its name.
@@ -225,5 +176,108 @@ impl Rows {
         ensures { self.new ≡ drop_policy name.now self.old }
     {
         drop_row(&mut self.policies, name);
+    }
+
+    fn begin_put_princ(&mut self, princ: Princ) -> Result<Begun, MemoryOut>
+        requires row { IsRow princ }
+        requires room { IsRoom (put_princ princ self.old) }
+        ensures ok { IfOk result (λ b. finished b self.new ≡ put_princ princ self.old) }
+        ensures back { IfOk result (λ b. undone b self.new ≡ self.old) }
+        ensures fits { IfOk result (λ b. IsBegun b self.new) }
+        ensures err { OnErr result (self.new ≡ self.old) }
+    {
+        let back = begin_put(&mut self.princs, princ)?;
+        Ok(Begun::PutPrinc(back))
+    }
+
+    fn begin_rename(&mut self, old: &[u8], princ: Princ) -> Result<Begun, MemoryOut>
+        requires row { IsRow princ }
+        requires room { IsRoom (put_princ princ (drop_princ old.now self.old)) }
+        requires name { (princ.name ≡ old.now) ⊎ All (λ q. q.name ≢ princ.name) self.old.princs }
+        ensures ok { IfOk result (λ b. finished b self.new ≡ put_princ princ (drop_princ old.now self.old)) }
+        ensures back { IfOk result (λ b. undone b self.new ≡ self.old) }
+        ensures fits { IfOk result (λ b. IsBegun b self.new) }
+        ensures err { OnErr result (self.new ≡ self.old) }
+    {
+        let back = begin_rename(&mut self.princs, old, princ)?;
+        Ok(Begun::PutPrinc(back))
+    }
+
+    fn begin_put_policy(&mut self, policy: Policy) -> Result<Begun, MemoryOut>
+        requires row { IsPolicy policy }
+        requires room { IsRoom (put_policy policy self.old) }
+        ensures ok { IfOk result (λ b. finished b self.new ≡ put_policy policy self.old) }
+        ensures back { IfOk result (λ b. undone b self.new ≡ self.old) }
+        ensures fits { IfOk result (λ b. IsBegun b self.new) }
+        ensures err { OnErr result (self.new ≡ self.old) }
+    {
+        let back = begin_put(&mut self.policies, policy)?;
+        Ok(Begun::PutPolicy(back))
+    }
+
+    /// Does the change but for a drop, which is left to `finish`. What it returns finishes the change, or
+    /// takes it back.
+    #[tactic(auto, unfolding(crate::specs::Undoing::finished, crate::specs::Undoing::undone, crate::specs::Effects::effect, crate::specs::Effects::drop_princ, crate::specs::Effects::drop_policy))]
+    pub fn begin(&mut self, op: Op) -> Result<Begun, MemoryOut>
+        requires op { IsOp (Some op) }
+        requires room { IsRoom (effect (Some op) self.old) }
+        requires name { IsNewName op self.old }
+        // Finished, it has the effect of the change.
+        ensures ok { IfOk result (λ b. finished b self.new ≡ effect (Some op) self.old) }
+        // Taken back, it leaves the rows that were.
+        ensures back { IfOk result (λ b. undone b self.new ≡ self.old) }
+        ensures fits { IfOk result (λ b. IsBegun b self.new) }
+        ensures err { OnErr result (self.new ≡ self.old) }
+    {
+        // The proof of a drop, which changes nothing yet, rests on the order of the rows.
+        let _ = &self.princs;
+        match op {
+            Op::PutPrinc(princ) => self.begin_put_princ(princ),
+            Op::DropPrinc(name) => Ok(Begun::DropPrinc(name)),
+            Op::Rename(old, princ) => self.begin_rename(old.as_slice(), princ),
+            Op::PutPolicy(policy) => self.begin_put_policy(policy),
+            Op::DropPolicy(name) => Ok(Begun::DropPolicy(name)),
+        }
+    }
+
+    /// Finishes what was begun.
+    #[tactic(auto, unfolding(crate::specs::Undoing::finished, crate::specs::Effects::drop_princ, crate::specs::Effects::drop_policy))]
+    pub fn finish(&mut self, begun: Begun)
+        ensures { self.new ≡ finished begun self.old }
+    {
+        match begun {
+            Begun::DropPrinc(name) => self.drop_princ(name.as_slice()),
+            Begun::DropPolicy(name) => self.drop_policy(name.as_slice()),
+            Begun::PutPrinc(_) => {}
+            Begun::PutPolicy(_) => {}
+        }
+    }
+
+    /// Takes back what was begun. Memory is not asked for.
+    #[tactic(auto, unfolding(crate::specs::Undoing::undone))]
+    pub fn undo(&mut self, begun: Begun)
+        requires { IsBegun begun self.old }
+        ensures { self.new ≡ undone begun self.old }
+    {
+        match begun {
+            Begun::PutPrinc(back) => undo_row(&mut self.princs, back),
+            Begun::PutPolicy(back) => undo_row(&mut self.policies, back),
+            Begun::DropPrinc(_) => {}
+            Begun::DropPolicy(_) => {}
+        }
+    }
+
+    /// Does the whole change. A rename keeps its name or takes one that no row has: what its effect is where
+    /// another row has the name is defined, and no change of a database comes to it.
+    pub fn apply(&mut self, op: Op) -> Result<(), MemoryOut>
+        requires op { IsOp (Some op) }
+        requires room { IsRoom (effect (Some op) self.old) }
+        requires name { IsNewName op self.old }
+        ensures ok { OnOk result (self.new ≡ effect (Some op) self.old) }
+        ensures err { OnErr result (self.new ≡ self.old) }
+    {
+        let begun = self.begin(op)?;
+        self.finish(begun);
+        Ok(())
     }
 }

@@ -44,6 +44,14 @@ impl TagList {
         TagList { items }
     }
 
+    /// The items as a vector, without a copy.
+    pub fn into_vec(self) -> Vec<TagItem>
+        ensures value { result.items ≡ self }
+        ensures tagged { IsTagged result.items }
+    {
+        self.items
+    }
+
     /// The items in their order.
     pub fn as_slice(&self) -> &[TagItem]
         ensures value { result.now ≡ self.now }

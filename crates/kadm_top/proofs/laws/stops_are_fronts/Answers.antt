@@ -5,7 +5,8 @@ use Rattle.std.proofs.lemmas.List.{take-append-drop}
 use Rattle.kdb_base.specs.Moment.{Moment}
 use Rattle.kdb_store.specs.Places.{Place}
 use Rattle.kadm_top.specs.Parts.{SaidPart}
-use Rattle.kadm_top.specs.Steps.{Command, said, text_to, place_after, moments_after}
+use Rattle.kadm_top.specs.declared.intake.Asked.{Asked}
+use Rattle.kadm_top.specs.Steps.{said, text_to, place_after, moments_after}
 use Rattle.kadm_top.specs.Stops.{HasStoppedAfter, MayStop}
 use Rattle.kadm_top.proofs.laws.stops_are_fronts.Goals as goal
 
@@ -26,10 +27,10 @@ after_all taken moments place out one other is one_is other_is = record {
   other_is = other_is;
 }
 
-in_change : (taken : List ℕ) (command : Command) (commands : List Command) (moments : ℕ → Moment) (place : Place) (out : Option (List ℕ)) (one other : Place)
-    → out ≡ Some taken → one ≡ place → other ≡ place_after command place (moments 0) → HasStoppedAfter taken (command ∷ commands) moments place out one other
+in_change : (taken : List ℕ) (asked : Asked) (commands : List Asked) (moments : ℕ → Moment) (place : Place) (out : Option (List ℕ)) (one other : Place)
+    → out ≡ Some taken → one ≡ place → other ≡ place_after asked place (moments 0) → HasStoppedAfter taken (asked ∷ commands) moments place out one other
 unfolding said
-in_change taken command commands moments place out one other is one_is other_is = record {
+in_change taken asked commands moments place out one other is one_is other_is = record {
   answered = 0;
   done = 1;
   order = omega arith;
@@ -43,12 +44,12 @@ in_change taken command commands moments place out one other is one_is other_is 
   other_is = other_is;
 }
 
-in_reply : (taken : List ℕ) (command : Command) (commands : List Command) (moments : ℕ → Moment) (place : Place) (out : Option (List ℕ)) (one other : Place)
-    → SaidPart (text_to command place (moments 0)) (Some taken) out → one ≡ place_after command place (moments 0) → other ≡ place_after command place (moments 0)
-    → HasStoppedAfter taken (command ∷ commands) moments place out one other
+in_reply : (taken : List ℕ) (asked : Asked) (commands : List Asked) (moments : ℕ → Moment) (place : Place) (out : Option (List ℕ)) (one other : Place)
+    → SaidPart (text_to asked place (moments 0)) (Some taken) out → one ≡ place_after asked place (moments 0) → other ≡ place_after asked place (moments 0)
+    → HasStoppedAfter taken (asked ∷ commands) moments place out one other
 unfolding said
-in_reply taken command commands moments place out one other part one_is other_is =
-    let text = text_to command place (moments 0) in
+in_reply taken asked commands moments place out one other part one_is other_is =
+    let text = text_to asked place (moments 0) in
     record {
       answered = 1;
       done = 1;
@@ -63,12 +64,12 @@ in_reply taken command commands moments place out one other part one_is other_is
       other_is = other_is;
     }
 
-in_others : (taken : List ℕ) (command : Command) (commands : List Command) (moments : ℕ → Moment) (place : Place) (out : Option (List ℕ)) (one other : Place)
-    → HasStoppedAfter (taken ++ text_to command place (moments 0)) commands (moments_after command moments) (place_after command place (moments 0)) out one other
-    → HasStoppedAfter taken (command ∷ commands) moments place out one other
+in_others : (taken : List ℕ) (asked : Asked) (commands : List Asked) (moments : ℕ → Moment) (place : Place) (out : Option (List ℕ)) (one other : Place)
+    → HasStoppedAfter (taken ++ text_to asked place (moments 0)) commands (moments_after asked moments) (place_after asked place (moments 0)) out one other
+    → HasStoppedAfter taken (asked ∷ commands) moments place out one other
 unfolding said
-in_others taken command commands moments place out one other rest =
-    let text = text_to command place (moments 0) in
+in_others taken asked commands moments place out one other rest =
+    let text = text_to asked place (moments 0) in
     record {
       answered = suc rest.answered;
       done = suc rest.done;
@@ -83,15 +84,15 @@ in_others taken command commands moments place out one other rest =
       other_is = rest.other_is;
     }
 
-stopped_after : (taken : List ℕ) (commands : List Command) (moments : ℕ → Moment) (place : Place) (out : Option (List ℕ)) (one other : Place)
+stopped_after : (taken : List ℕ) (commands : List Asked) (moments : ℕ → Moment) (place : Place) (out : Option (List ℕ)) (one other : Place)
     → MayStop (Some taken) commands moments place out one other → HasStoppedAfter taken commands moments place out one other
 unfolding MayStop
 stopped_after taken [] moments place out one other h = after_all taken moments place out one other h.0 h.1 h.2
-stopped_after taken (command ∷ commands) moments place out one other (inl (inl h)) = in_change taken command commands moments place out one other h.0 h.1 h.2
-stopped_after taken (command ∷ commands) moments place out one other (inl (inr h)) = in_reply taken command commands moments place out one other h.0 h.1 h.2
-stopped_after taken (command ∷ commands) moments place out one other (inr h) =
-    in_others taken command commands moments place out one other
-    (stopped_after (taken ++ text_to command place (moments 0)) commands (moments_after command moments) (place_after command place (moments 0)) out one other h)
+stopped_after taken (asked ∷ commands) moments place out one other (inl (inl h)) = in_change taken asked commands moments place out one other h.0 h.1 h.2
+stopped_after taken (asked ∷ commands) moments place out one other (inl (inr h)) = in_reply taken asked commands moments place out one other h.0 h.1 h.2
+stopped_after taken (asked ∷ commands) moments place out one other (inr h) =
+    in_others taken asked commands moments place out one other
+    (stopped_after (taken ++ text_to asked place (moments 0)) commands (moments_after asked moments) (place_after asked place (moments 0)) out one other h)
 
 pub returns : goal.returns
 returns c = stopped_after

@@ -4,7 +4,7 @@ use Rattle.kadm_top.proofs.run.admin.Goals as goal
 
 pub returns-in-Ok-session-clause-ended : goal.returns-in-Ok-session-clause-ended
 returns-in-Ok-session-clause-ended g c = λ told end e.
-    opened_ended _ (place_of c.in-Ok.opened) _ _ c.in-Ok-session.refused _ _ _ _ _ _ end
+    opened_ended _ (place_of c.in-Ok.opened) _ _ c.in-Ok-session.refused _ _ _ _ _ _ _ end
     (opens_as _ c.in-Ok.opened (c.in-Ok.ensures.answer told)) c.now-opened_at.ensures.others e (c.in-Ok-session.ensures.ended told)
 
 pub returns-in-Ok-session-clause-moments : goal.returns-in-Ok-session-clause-moments

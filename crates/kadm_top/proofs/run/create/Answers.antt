@@ -6,14 +6,14 @@ use Rattle.kadm_top.proofs.Making.{good_realm}
 use Rattle.kadm_top.proofs.run.create.Goals as goal
 
 pub returns-then-is_realm-clause-ended : goal.returns-then-is_realm-clause-ended
-returns-then-is_realm-clause-ended g c = λ told commands end e.
+returns-then-is_realm-clause-ended g c = λ told left end e.
     let good : is_realm c.args.realm.now ≡ true = ap is_realm (sym c.as_slice.ensures) ∙ sym c.is_realm.ensures ∙ c.if-is_realm.true in
-    c.make.ensures.ended told commands end
-    (ap (λ (o : Opening). run_end o (g.K.Sink.taken c.args.sink.now) commands (g.C.Clock.moments c.args.clock.now)) (sym (good_realm c.args.realm.now (g.D.Disk.view c.args.disk.now).seen good)) ∙ e)
+    c.make.ensures.ended told left end
+    (ap (λ (o : Opening). run_end o (g.K.Sink.taken c.args.sink.now) left (g.C.Clock.moments c.args.clock.now)) (sym (good_realm c.args.realm.now (g.D.Disk.view c.args.disk.now).seen good)) ∙ e)
 
 pub returns-then-is_realm-clause-moments : goal.returns-then-is_realm-clause-moments
-returns-then-is_realm-clause-moments g c = λ told commands.
+returns-then-is_realm-clause-moments g c = λ told left.
     let good : is_realm c.args.realm.now ≡ true = ap is_realm (sym c.as_slice.ensures) ∙ sym c.is_realm.ensures ∙ c.if-is_realm.true in
-    subst (λ (o : Opening). LeavesOnly (g.D.Disk.view c.args.disk.now) (g.D.Disk.view c.make.new.disk) (RunLeaves o (g.D.Disk.view c.args.disk.now) commands (g.C.Clock.moments c.args.clock.now)))
+    subst (λ (o : Opening). LeavesOnly (g.D.Disk.view c.args.disk.now) (g.D.Disk.view c.make.new.disk) (RunLeaves o (g.D.Disk.view c.args.disk.now) left (g.C.Clock.moments c.args.clock.now)))
     (sym (good_realm c.args.realm.now (g.D.Disk.view c.args.disk.now).seen good))
-    (c.make.ensures.moments told commands)
+    (c.make.ensures.moments told left)

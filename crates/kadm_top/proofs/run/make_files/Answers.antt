@@ -17,11 +17,11 @@ returns-clause-stands g c = λ told.
     elim c.match-create_files.branch [
       | in-Ok w ↦ subst P (sym w.result-is)
           (opened_stands (c.create_files.ensures.holds told w.in-Ok.field-0 w.in-Ok.is)
-          (c.create_files.ensures.place w.in-Ok.field-0 w.in-Ok.is ∙ (λ i. created (c.as_slice.ensures i) (c.new-rows.ensures i) (c.first_point-base.ensures i) 1000 2048)))
+          (c.create_files.ensures.place w.in-Ok.field-0 w.in-Ok.is ∙ (λ i. created (c.as_slice.ensures i) (c.no_rows-rows.ensures i) (c.first_point-base.ensures i) 1000 2048)))
       | in-Err w ↦ subst P (sym w.result-is) tt
     ]
 
 pub returns-clause-moments : goal.returns-clause-moments
 returns-clause-moments g c = λ told.
     subst (λ (p : Place). LeavesOnly (g.D.Disk.view c.args.disk.now) (g.D.Disk.view c.create_files.new.disk) (Creates (g.D.Disk.view c.args.disk.now) p))
-    (λ i. created (c.as_slice.ensures i) (c.new-rows.ensures i) (c.first_point-base.ensures i) 1000 2048) (c.create_files.ensures.moments told)
+    (λ i. created (c.as_slice.ensures i) (c.no_rows-rows.ensures i) (c.first_point-base.ensures i) 1000 2048) (c.create_files.ensures.moments told)

@@ -1,10 +1,10 @@
-use Rattle.std.proofs.Common.{◌∙◌, ap, sym, subst, Option, Some}
+use Rattle.std.proofs.Common.{◌∙◌, ap, refl, sym, subst, false, Option, Some}
 use Rattle.std.specs.Prelude.{OnErr}
 use Rattle.kdb_disk.specs.Moments.{LeavesOnly}
 use Rattle.kdb_disk.proofs.Runs.{kept}
 use Rattle.kdb_base.specs.declared.outcomes.Refusal.TheVariants.{BadLine}
 use Rattle.kadm_top.specs.declared.words.Words.{Words}
-use Rattle.kadm_top.specs.Run.{Opening, ReadsInput, RunLeaves, RunStops, input_commands, opening_of, run_end}
+use Rattle.kadm_top.specs.Run.{Opening, ReadsInput, RunLeaves, RunStops, opening_of, run_end}
 use Rattle.kadm_top.proofs.Running.{refused_ended, refused_stops, refused_leaves}
 use Rattle.kadm_top.proofs.Making.{create_unread, destroy_unread}
 use Rattle.kadm_top.proofs.run.run_words.Goals as goal
@@ -12,18 +12,18 @@ use Rattle.kadm_top.proofs.run.run_words.Goals as goal
 pub returns-in-Some-Admin-clause-ended : goal.returns-in-Some-Admin-clause-ended
 unfolding opening_of
 returns-in-Some-Admin-clause-ended g c = λ told end e.
-    c.admin.ensures.ended told end (ap (λ (o : Opening). run_end o (g.K.Sink.taken c.args.sink.now) (input_commands (g.S.Source.left c.args.source.now)) (g.C.Clock.moments c.args.clock.now)) (sym (ap (λ (w : Option Words). opening_of w (g.D.Disk.view c.args.disk.now).seen) (c.in-Some-Admin.is ∙ ap Some c.in-Some-Admin.field-0-is))) ∙ e)
+    c.admin.ensures.ended told end (ap (λ (o : Opening). run_end o (g.K.Sink.taken c.args.sink.now) (g.S.Source.left c.args.source.now) (g.C.Clock.moments c.args.clock.now)) (sym (ap (λ (w : Option Words). opening_of w (g.D.Disk.view c.args.disk.now).seen) (c.in-Some-Admin.is ∙ ap Some c.in-Some-Admin.field-0-is))) ∙ e)
 
 pub returns-in-Some-Admin-clause-stopped : goal.returns-in-Some-Admin-clause-stopped
 unfolding opening_of
 returns-in-Some-Admin-clause-stopped g c = λ told.
-    subst (λ (o : Opening). OnErr c.admin.result (RunStops o (g.D.Disk.view c.args.disk.now) (g.K.Sink.taken c.args.sink.now) (input_commands (g.S.Source.left c.args.source.now)) (g.C.Clock.moments c.args.clock.now) (g.K.Sink.taken c.admin.new.sink) (g.D.Disk.view c.admin.new.disk)))
+    subst (λ (o : Opening). OnErr c.admin.result (RunStops o (g.D.Disk.view c.args.disk.now) (g.K.Sink.taken c.args.sink.now) (g.S.Source.left c.args.source.now) (g.C.Clock.moments c.args.clock.now) (g.K.Sink.taken c.admin.new.sink) (g.D.Disk.view c.admin.new.disk)))
     (sym (ap (λ (w : Option Words). opening_of w (g.D.Disk.view c.args.disk.now).seen) (c.in-Some-Admin.is ∙ ap Some c.in-Some-Admin.field-0-is))) (c.admin.ensures.stopped told)
 
 pub returns-in-Some-Admin-clause-moments : goal.returns-in-Some-Admin-clause-moments
 unfolding opening_of
 returns-in-Some-Admin-clause-moments g c = λ told.
-    subst (λ (o : Opening). LeavesOnly (g.D.Disk.view c.args.disk.now) (g.D.Disk.view c.admin.new.disk) (RunLeaves o (g.D.Disk.view c.args.disk.now) (input_commands (g.S.Source.left c.args.source.now)) (g.C.Clock.moments c.args.clock.now)))
+    subst (λ (o : Opening). LeavesOnly (g.D.Disk.view c.args.disk.now) (g.D.Disk.view c.admin.new.disk) (RunLeaves o (g.D.Disk.view c.args.disk.now) (g.S.Source.left c.args.source.now) (g.C.Clock.moments c.args.clock.now)))
     (sym (ap (λ (w : Option Words). opening_of w (g.D.Disk.view c.args.disk.now).seen) (c.in-Some-Admin.is ∙ ap Some c.in-Some-Admin.field-0-is))) (c.admin.ensures.moments told)
 
 pub returns-in-Some-Admin-clause-read_to_end : goal.returns-in-Some-Admin-clause-read_to_end
@@ -36,17 +36,17 @@ returns-in-Some-Admin-clause-unread g c = λ told not. c.admin.ensures.unread to
 
 pub returns-in-Some-Create-clause-ended : goal.returns-in-Some-Create-clause-ended
 returns-in-Some-Create-clause-ended g c = λ told end e.
-    c.create.ensures.ended told (input_commands (g.S.Source.left c.args.source.now)) end (ap (λ (o : Opening). run_end o (g.K.Sink.taken c.args.sink.now) (input_commands (g.S.Source.left c.args.source.now)) (g.C.Clock.moments c.args.clock.now)) (sym (ap (λ (w : Option Words). opening_of w (g.D.Disk.view c.args.disk.now).seen) (c.in-Some-Create.is ∙ ap Some c.in-Some-Create.field-0-is))) ∙ e)
+    c.create.ensures.ended told (g.S.Source.left c.args.source.now) end (ap (λ (o : Opening). run_end o (g.K.Sink.taken c.args.sink.now) (g.S.Source.left c.args.source.now) (g.C.Clock.moments c.args.clock.now)) (sym (ap (λ (w : Option Words). opening_of w (g.D.Disk.view c.args.disk.now).seen) (c.in-Some-Create.is ∙ ap Some c.in-Some-Create.field-0-is))) ∙ e)
 
 pub returns-in-Some-Create-clause-stopped : goal.returns-in-Some-Create-clause-stopped
 returns-in-Some-Create-clause-stopped g c = λ told.
-    subst (λ (o : Opening). OnErr c.create.result (RunStops o (g.D.Disk.view c.args.disk.now) (g.K.Sink.taken c.args.sink.now) (input_commands (g.S.Source.left c.args.source.now)) (g.C.Clock.moments c.args.clock.now) (g.K.Sink.taken c.create.new.sink) (g.D.Disk.view c.create.new.disk)))
-    (sym (ap (λ (w : Option Words). opening_of w (g.D.Disk.view c.args.disk.now).seen) (c.in-Some-Create.is ∙ ap Some c.in-Some-Create.field-0-is))) (c.create.ensures.stopped told (input_commands (g.S.Source.left c.args.source.now)))
+    subst (λ (o : Opening). OnErr c.create.result (RunStops o (g.D.Disk.view c.args.disk.now) (g.K.Sink.taken c.args.sink.now) (g.S.Source.left c.args.source.now) (g.C.Clock.moments c.args.clock.now) (g.K.Sink.taken c.create.new.sink) (g.D.Disk.view c.create.new.disk)))
+    (sym (ap (λ (w : Option Words). opening_of w (g.D.Disk.view c.args.disk.now).seen) (c.in-Some-Create.is ∙ ap Some c.in-Some-Create.field-0-is))) (c.create.ensures.stopped told (g.S.Source.left c.args.source.now))
 
 pub returns-in-Some-Create-clause-moments : goal.returns-in-Some-Create-clause-moments
 returns-in-Some-Create-clause-moments g c = λ told.
-    subst (λ (o : Opening). LeavesOnly (g.D.Disk.view c.args.disk.now) (g.D.Disk.view c.create.new.disk) (RunLeaves o (g.D.Disk.view c.args.disk.now) (input_commands (g.S.Source.left c.args.source.now)) (g.C.Clock.moments c.args.clock.now)))
-    (sym (ap (λ (w : Option Words). opening_of w (g.D.Disk.view c.args.disk.now).seen) (c.in-Some-Create.is ∙ ap Some c.in-Some-Create.field-0-is))) (c.create.ensures.moments told (input_commands (g.S.Source.left c.args.source.now)))
+    subst (λ (o : Opening). LeavesOnly (g.D.Disk.view c.args.disk.now) (g.D.Disk.view c.create.new.disk) (RunLeaves o (g.D.Disk.view c.args.disk.now) (g.S.Source.left c.args.source.now) (g.C.Clock.moments c.args.clock.now)))
+    (sym (ap (λ (w : Option Words). opening_of w (g.D.Disk.view c.args.disk.now).seen) (c.in-Some-Create.is ∙ ap Some c.in-Some-Create.field-0-is))) (c.create.ensures.moments told (g.S.Source.left c.args.source.now))
 
 pub returns-in-Some-Create-clause-read_to_end : goal.returns-in-Some-Create-clause-read_to_end
 returns-in-Some-Create-clause-read_to_end g c = λ told reads. absurd (create_unread _ (g.D.Disk.view c.args.disk.now).seen (subst ReadsInput (ap (λ (w : Option Words). opening_of w (g.D.Disk.view c.args.disk.now).seen) (c.in-Some-Create.is ∙ ap Some c.in-Some-Create.field-0-is)) reads))
@@ -54,19 +54,19 @@ returns-in-Some-Create-clause-read_to_end g c = λ told reads. absurd (create_un
 pub returns-in-Some-Destroy-clause-ended : goal.returns-in-Some-Destroy-clause-ended
 unfolding opening_of
 returns-in-Some-Destroy-clause-ended g c = λ told end e.
-    c.end.ensures.ended told (input_commands (g.S.Source.left c.args.source.now)) (g.C.Clock.moments c.args.clock.now) end (ap (λ (o : Opening). run_end o (g.K.Sink.taken c.args.sink.now) (input_commands (g.S.Source.left c.args.source.now)) (g.C.Clock.moments c.args.clock.now)) (sym (ap (λ (w : Option Words). opening_of w (g.D.Disk.view c.args.disk.now).seen) (c.in-Some-Destroy.is ∙ ap Some c.in-Some-Destroy.field-0-is))) ∙ e)
+    c.end.ensures.ended told (g.S.Source.left c.args.source.now) (g.C.Clock.moments c.args.clock.now) end (ap (λ (o : Opening). run_end o (g.K.Sink.taken c.args.sink.now) (g.S.Source.left c.args.source.now) (g.C.Clock.moments c.args.clock.now)) (sym (ap (λ (w : Option Words). opening_of w (g.D.Disk.view c.args.disk.now).seen) (c.in-Some-Destroy.is ∙ ap Some c.in-Some-Destroy.field-0-is))) ∙ e)
 
 pub returns-in-Some-Destroy-clause-stopped : goal.returns-in-Some-Destroy-clause-stopped
 unfolding opening_of
 returns-in-Some-Destroy-clause-stopped g c = λ told.
-    subst (λ (o : Opening). OnErr c.end.result (RunStops o (g.D.Disk.view c.args.disk.now) (g.K.Sink.taken c.args.sink.now) (input_commands (g.S.Source.left c.args.source.now)) (g.C.Clock.moments c.args.clock.now) (g.K.Sink.taken c.end.new.sink) (g.D.Disk.view c.end.new.disk)))
-    (sym (ap (λ (w : Option Words). opening_of w (g.D.Disk.view c.args.disk.now).seen) (c.in-Some-Destroy.is ∙ ap Some c.in-Some-Destroy.field-0-is))) (c.end.ensures.stopped told (input_commands (g.S.Source.left c.args.source.now)) (g.C.Clock.moments c.args.clock.now))
+    subst (λ (o : Opening). OnErr c.end.result (RunStops o (g.D.Disk.view c.args.disk.now) (g.K.Sink.taken c.args.sink.now) (g.S.Source.left c.args.source.now) (g.C.Clock.moments c.args.clock.now) (g.K.Sink.taken c.end.new.sink) (g.D.Disk.view c.end.new.disk)))
+    (sym (ap (λ (w : Option Words). opening_of w (g.D.Disk.view c.args.disk.now).seen) (c.in-Some-Destroy.is ∙ ap Some c.in-Some-Destroy.field-0-is))) (c.end.ensures.stopped told (g.S.Source.left c.args.source.now) (g.C.Clock.moments c.args.clock.now))
 
 pub returns-in-Some-Destroy-clause-moments : goal.returns-in-Some-Destroy-clause-moments
 unfolding opening_of
 returns-in-Some-Destroy-clause-moments g c = λ told.
-    subst (λ (o : Opening). LeavesOnly (g.D.Disk.view c.args.disk.now) (g.D.Disk.view c.end.new.disk) (RunLeaves o (g.D.Disk.view c.args.disk.now) (input_commands (g.S.Source.left c.args.source.now)) (g.C.Clock.moments c.args.clock.now)))
-    (sym (ap (λ (w : Option Words). opening_of w (g.D.Disk.view c.args.disk.now).seen) (c.in-Some-Destroy.is ∙ ap Some c.in-Some-Destroy.field-0-is))) (c.end.ensures.moments told (input_commands (g.S.Source.left c.args.source.now)) (g.C.Clock.moments c.args.clock.now))
+    subst (λ (o : Opening). LeavesOnly (g.D.Disk.view c.args.disk.now) (g.D.Disk.view c.end.new.disk) (RunLeaves o (g.D.Disk.view c.args.disk.now) (g.S.Source.left c.args.source.now) (g.C.Clock.moments c.args.clock.now)))
+    (sym (ap (λ (w : Option Words). opening_of w (g.D.Disk.view c.args.disk.now).seen) (c.in-Some-Destroy.is ∙ ap Some c.in-Some-Destroy.field-0-is))) (c.end.ensures.moments told (g.S.Source.left c.args.source.now) (g.C.Clock.moments c.args.clock.now))
 
 pub returns-in-Some-Destroy-clause-read_to_end : goal.returns-in-Some-Destroy-clause-read_to_end
 unfolding opening_of
@@ -75,7 +75,7 @@ returns-in-Some-Destroy-clause-read_to_end g c = λ told reads. absurd (destroy_
 pub returns-in-Ok-clause-ended : goal.returns-in-Ok-clause-ended
 unfolding opening_of
 returns-in-Ok-clause-ended g c = λ told end e.
-    refused_ended _ BadLine _ _ _ _ _ _ end (ap (λ (w : Option Words). opening_of w (g.D.Disk.view c.args.disk.now).seen) c.in-None.is) e c.in-Ok.ensures.ok (kept _)
+    refused_ended _ BadLine false _ _ _ _ _ _ _ end (ap (λ (w : Option Words). opening_of w (g.D.Disk.view c.args.disk.now).seen) c.in-None.is) e c.in-Ok.ensures.ok (kept _) refl
 
 pub returns-in-Ok-clause-moments : goal.returns-in-Ok-clause-moments
 unfolding opening_of

@@ -16,7 +16,7 @@ loop-now_refused-preserved-then-refused g c =
     let some : (P : Bool → Type 0) (Q : Type 0) → IfOk c.turn.result (λ (t : Option Bool). GoesOn t P Q) → P c.in-Ok-Some.now_refused =
     λ P Q h. goes_some P Q c.in-Ok-Some.field-0 c.in-Ok-Some.now_refused c.in-Ok-Some.is c.in-Ok-Some.field-0-is h in
     record {
-      ends = was.ends ∙ some _ _ (c.turn.ensures.next c.loop-now_refused.refused) ∙ ap (λ (r : Bool). ending (g.K.Sink.taken c.turn.new.sink) r (coming c.turn.new.reader (g.S.Source.left c.turn.new.source)) (g.C.Clock.moments c.turn.new.clock) (place_of c.turn.new.database)) (sym (was_refused c.loop-now_refused.refused c.in-Ok-Some.now_refused c.if-refused.true));
+      ends = was.ends ∙ some _ _ (c.turn.ensures.next c.loop-now_refused.refused) ∙ ap (λ (r : Bool). ending (g.K.Sink.taken c.turn.new.sink) r (coming (place_of c.turn.new.database).realm c.turn.new.reader (g.S.Source.left c.turn.new.source)) (g.C.Clock.moments c.turn.new.clock) (place_of c.turn.new.database)) (sym (was_refused c.loop-now_refused.refused c.in-Ok-Some.now_refused c.if-refused.true));
       within = λ out one other h. was.within out one other (some _ _ c.turn.ensures.within out one other h);
       others = λ files h. was.others files (some _ _ c.turn.ensures.others files h);
       run = λ told. then_on (was.run told) (c.turn.ensures.moments told) was.others;
@@ -35,7 +35,7 @@ loop-now_refused-preserved g c =
     let some : (P : Bool → Type 0) (Q : Type 0) → IfOk c.turn.result (λ (t : Option Bool). GoesOn t P Q) → P c.in-Ok-Some.now_refused =
     λ P Q h. goes_some P Q c.in-Ok-Some.field-0 c.in-Ok-Some.now_refused c.in-Ok-Some.is c.in-Ok-Some.field-0-is h in
     record {
-      ends = was.ends ∙ some _ _ (c.turn.ensures.next c.loop-now_refused.refused) ∙ ap (λ (r : Bool). ending (g.K.Sink.taken c.turn.new.sink) r (coming c.turn.new.reader (g.S.Source.left c.turn.new.source)) (g.C.Clock.moments c.turn.new.clock) (place_of c.turn.new.database)) (sym (is_refused c.loop-now_refused.refused c.in-Ok-Some.now_refused c.if-refused.false));
+      ends = was.ends ∙ some _ _ (c.turn.ensures.next c.loop-now_refused.refused) ∙ ap (λ (r : Bool). ending (g.K.Sink.taken c.turn.new.sink) r (coming (place_of c.turn.new.database).realm c.turn.new.reader (g.S.Source.left c.turn.new.source)) (g.C.Clock.moments c.turn.new.clock) (place_of c.turn.new.database)) (sym (is_refused c.loop-now_refused.refused c.in-Ok-Some.now_refused c.if-refused.false));
       within = λ out one other h. was.within out one other (some _ _ c.turn.ensures.within out one other h);
       others = λ files h. was.others files (some _ _ c.turn.ensures.others files h);
       run = λ told. then_on (was.run told) (c.turn.ensures.moments told) was.others;
@@ -52,7 +52,7 @@ returns-in-Ok-None-clause-ended g c = λ end e.
     let was = c.loop-now_refused.invariant in
     let none = goes_none _ _ c.in-Ok-None.field-0 c.in-Ok-None.is c.in-Ok-None.field-0-is (c.turn.ensures.next c.loop-now_refused.refused) in
     let stays = c.turn.ensures.end (c.in-Ok-None.is ∙ ap Ok c.in-Ok-None.field-0-is) in
-    rw (stays.0, stays.1) (ended_here _ c.loop-now_refused.refused _ _ _ end none (sym was.ends ∙ e))
+    rw (stays.0, stays.1, c.turn.ensures.end_clock (c.in-Ok-None.is ∙ ap Ok c.in-Ok-None.field-0-is)) (ended_here _ c.loop-now_refused.refused _ _ _ end none (sym was.ends ∙ e))
 
 pub loop-now_refused-init : goal.loop-now_refused-init
 loop-now_refused-init g c = record {

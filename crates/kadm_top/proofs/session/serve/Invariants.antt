@@ -12,13 +12,13 @@ use Rattle.kadm_top.proofs.session.serve.Given as goal
 -- the place that the store is at.
 abbrev pub invariant-loop-now_refused : goal.invariant-loop-now_refused
 invariant-loop-now_refused g l = record {
-  ends : ending (g.K.Sink.taken l.fn.sink) false (coming l.fn.reader (g.S.Source.left l.fn.source)) (g.C.Clock.moments l.fn.clock) (place_of l.fn.database)
-      ≡ ending (g.K.Sink.taken l.sink) l.refused (coming l.reader (g.S.Source.left l.source)) (g.C.Clock.moments l.clock) (place_of l.database);
-  within : StopsWithin (Stops (g.K.Sink.taken l.sink) (coming l.reader (g.S.Source.left l.source)) (g.C.Clock.moments l.clock) (place_of l.database))
-      (Stops (g.K.Sink.taken l.fn.sink) (coming l.fn.reader (g.S.Source.left l.fn.source)) (g.C.Clock.moments l.fn.clock) (place_of l.fn.database));
-  others : AmongWithin (among_places (coming l.reader (g.S.Source.left l.source)) (g.C.Clock.moments l.clock) (place_of l.database))
-      (among_places (coming l.fn.reader (g.S.Source.left l.fn.source)) (g.C.Clock.moments l.fn.clock) (place_of l.fn.database));
-  run : g.D.Disk.tells → LeavesOnly (g.D.Disk.view l.fn.disk) (g.D.Disk.view l.disk) (among_places (coming l.fn.reader (g.S.Source.left l.fn.source)) (g.C.Clock.moments l.fn.clock) (place_of l.fn.database));
+  ends : ending (g.K.Sink.taken l.fn.sink) false (coming (place_of l.fn.database).realm l.fn.reader (g.S.Source.left l.fn.source)) (g.C.Clock.moments l.fn.clock) (place_of l.fn.database)
+      ≡ ending (g.K.Sink.taken l.sink) l.refused (coming (place_of l.database).realm l.reader (g.S.Source.left l.source)) (g.C.Clock.moments l.clock) (place_of l.database);
+  within : StopsWithin (Stops (g.K.Sink.taken l.sink) (coming (place_of l.database).realm l.reader (g.S.Source.left l.source)) (g.C.Clock.moments l.clock) (place_of l.database))
+      (Stops (g.K.Sink.taken l.fn.sink) (coming (place_of l.fn.database).realm l.fn.reader (g.S.Source.left l.fn.source)) (g.C.Clock.moments l.fn.clock) (place_of l.fn.database));
+  others : AmongWithin (among_places (coming (place_of l.database).realm l.reader (g.S.Source.left l.source)) (g.C.Clock.moments l.clock) (place_of l.database))
+      (among_places (coming (place_of l.fn.database).realm l.fn.reader (g.S.Source.left l.fn.source)) (g.C.Clock.moments l.fn.clock) (place_of l.fn.database));
+  run : g.D.Disk.tells → LeavesOnly (g.D.Disk.view l.fn.disk) (g.D.Disk.view l.disk) (among_places (coming (place_of l.fn.database).realm l.fn.reader (g.S.Source.left l.fn.source)) (g.C.Clock.moments l.fn.clock) (place_of l.fn.database));
   holds : g.D.Disk.tells → Holds l.database (g.D.Disk.view l.disk);
   same : g.D.Disk.loans l.disk ≡ g.D.Disk.loans l.fn.disk;
   takes : (first : Option (List ℕ)) → HasTaken first l.fn.reader (g.S.Source.left l.fn.source) → HasTaken first l.reader (g.S.Source.left l.source);

@@ -1,3 +1,4 @@
+use Rattle.std.proofs.Common.{refl}
 use Rattle.kadm_top.proofs.OneCommand.{among_still, holds_stands}
 use Rattle.kadm_top.proofs.Turning.{ending_on, within_on, among_on, among_run_on, stopped_on, stops_here, comes_first}
 use Rattle.kadm_top.proofs.session.turn.Goals as goal
@@ -13,31 +14,31 @@ returns-in-Ok-End-clause-moments g c = λ told. among_still _ _ _ (c.requires.ho
 
 pub returns-in-Ok-clause-next : goal.returns-in-Ok-clause-next
 returns-in-Ok-clause-next g c = λ refused.
-    ending_on c.in-Ok-Command.command _ _ _ _ refused _ _ _ _ _
-    (comes_first _ _ _ _ c.in-Ok-Command.field-0-is c.in-Ok-Command.ensures.next) (c.in-Ok.ensures.next refused)
+    ending_on c.in-Ok-Line.asked _ _ _ _ refused _ _ _ _ _
+    (comes_first _ _ _ _ _ _ _ _ _ c.in-Ok-Line.field-0-is c.as_slice-realm.ensures.value c.in-Ok.ensures.realm c.in-Ok-Line.ensures.next) (c.in-Ok.ensures.next refused)
 
 pub returns-in-Ok-clause-within : goal.returns-in-Ok-clause-within
 returns-in-Ok-clause-within g c =
-    within_on c.in-Ok-Command.command _ _ _ _ _ _ _ _
-    (comes_first _ _ _ _ c.in-Ok-Command.field-0-is c.in-Ok-Command.ensures.next) (λ more. c.in-Ok.ensures.within more)
+    within_on c.in-Ok-Line.asked _ _ _ _ _ _ _ _
+    (comes_first _ _ _ _ _ _ _ _ _ c.in-Ok-Line.field-0-is c.as_slice-realm.ensures.value c.in-Ok.ensures.realm c.in-Ok-Line.ensures.next) (λ more. c.in-Ok.ensures.within more)
 
 pub returns-in-Ok-clause-others : goal.returns-in-Ok-clause-others
 returns-in-Ok-clause-others g c =
-    among_on c.in-Ok-Command.command _ _ _ _ _ _
-    (comes_first _ _ _ _ c.in-Ok-Command.field-0-is c.in-Ok-Command.ensures.next) (λ more. c.in-Ok.ensures.others more)
+    among_on c.in-Ok-Line.asked _ _ _ _ _ _
+    (comes_first _ _ _ _ _ _ _ _ _ c.in-Ok-Line.field-0-is c.as_slice-realm.ensures.value c.in-Ok.ensures.realm c.in-Ok-Line.ensures.next) (λ more. c.in-Ok.ensures.others more)
 
 pub returns-in-Ok-clause-moments : goal.returns-in-Ok-clause-moments
 returns-in-Ok-clause-moments g c = λ told.
-    among_run_on c.in-Ok-Command.command _ _ _ _
-    (comes_first _ _ _ _ c.in-Ok-Command.field-0-is c.in-Ok-Command.ensures.next) (c.answer.ensures.moments told)
+    among_run_on c.in-Ok-Line.asked _ _ _ _
+    (comes_first _ _ _ _ _ _ _ _ _ c.in-Ok-Line.field-0-is c.as_slice-realm.ensures.value refl c.in-Ok-Line.ensures.next) (c.answer.ensures.moments told)
 
-pub returns-in-Err-answer-clause-moments : goal.returns-in-Err-answer-clause-moments
-returns-in-Err-answer-clause-moments g c = λ told.
-    among_run_on c.in-Ok-Command.command _ _ _ _
-    (comes_first _ _ _ _ c.in-Ok-Command.field-0-is c.in-Ok-Command.ensures.next) (c.answer.ensures.moments told)
+pub returns-clause-moments : goal.returns-clause-moments
+returns-clause-moments g c = λ told.
+    among_run_on c.in-Ok-Line.asked _ _ _ _
+    (comes_first _ _ _ _ _ _ _ _ _ c.in-Ok-Line.field-0-is c.as_slice-realm.ensures.value refl c.in-Ok-Line.ensures.next) (c.answer.ensures.moments told)
 
-pub returns-in-Err-answer-clause-stopped : goal.returns-in-Err-answer-clause-stopped
-returns-in-Err-answer-clause-stopped g c = λ told.
-    stopped_on c.in-Ok-Command.command _ _ _ _ _ _ _
-    (comes_first _ _ _ _ c.in-Ok-Command.field-0-is c.in-Ok-Command.ensures.next)
+pub returns-clause-stopped : goal.returns-clause-stopped
+returns-clause-stopped g c = λ told.
+    stopped_on c.in-Ok-Line.asked _ _ _ _ _ _ _
+    (comes_first _ _ _ _ _ _ _ _ _ c.in-Ok-Line.field-0-is c.as_slice-realm.ensures.value refl c.in-Ok-Line.ensures.next)
     (λ more. c.in-Err-answer.ensures.stopped told more)

@@ -2,6 +2,7 @@ use Rattle.std.proofs.Common.{sym, ◌∙◌, subst, List}
 use Rattle.kadm_wire.specs.declared.durations.Unit.{Unit}
 use Rattle.kadm_wire.specs.Durations.{IsUnits}
 use Rattle.kadm_wire.proofs.DurationLemmas.{are_units, number_then_duration, sum_then_duration, digits_are_number, else_sum}
+use Rattle.kadm_wire.proofs.ReadingLemmas.{duration_value}
 use Rattle.kadm_wire.proofs.durations.read_duration.Goals as goal
 
 pub returns-then-is_all_digits-clause-spelled : goal.returns-then-is_all_digits-clause-spelled
@@ -24,3 +25,10 @@ pub returns-clause-only : goal.returns-clause-only
 returns-clause-only c = λ secs s.
     let sum = else_sum _ _ secs c.known_units.ensures (sym c.is_all_digits.ensures ∙ c.if-is_all_digits.false) s in
     c.read_groups.ensures.only secs sum.0 sum.1
+
+pub returns-then-is_all_digits-clause-value : goal.returns-then-is_all_digits-clause-value
+returns-then-is_all_digits-clause-value c =
+    duration_value _ _ (returns-then-is_all_digits-clause-spelled c) (returns-then-is_all_digits-clause-only c)
+
+pub returns-clause-value : goal.returns-clause-value
+returns-clause-value c = duration_value _ _ (returns-clause-spelled c) (returns-clause-only c)

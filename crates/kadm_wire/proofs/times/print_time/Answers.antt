@@ -1,5 +1,6 @@
 use Rattle.std.proofs.Common.{inr}
 use Rattle.kadm_wire.specs.Times.{SpellsTime}
+use Rattle.kadm_wire.proofs.CalendarLemmas.{spells-civil_text_at}
 use Rattle.kadm_wire.proofs.TimeLemmas.{only_text}
 use Rattle.kadm_wire.proofs.times.print_time.Goals as goal
 
@@ -10,3 +11,7 @@ returns-clause-only c =
 pub returns-clause-time : goal.returns-clause-time
 unfolding SpellsTime
 returns-clause-time c = inr (inr (record { time = c.civil_at.result; at = c.civil_at.ensures; text_is = c.print_civil.ensures }))
+
+pub returns-clause-value : goal.returns-clause-value
+returns-clause-value c =
+    spells-civil_text_at _ c.args.secs (record { time = c.civil_at.result; at = c.civil_at.ensures; text_is = c.print_civil.ensures })

@@ -1,9 +1,10 @@
 -- The word's one name, and its realm.
 use Rattle.std.proofs.Common.{◌≡◌, Err, sym, subst, ap, inl, inr, refl, ◌∙◌}
-use Rattle.princ_name.specs.Answers.{AnswersName}
-use Rattle.princ_name.specs.Names.{NameParts}
+use Rattle.princ_name.specs.Answers.{AnswersName, AnswersReading}
+use Rattle.princ_name.specs.Names.{NameParts, IsName}
 use Rattle.princ_name.specs.Spelling.{Spells}
 use Rattle.princ_name.specs.declared.faults.NameFault.TheVariants.{BadName}
+use Rattle.princ_name.proofs.OwnNames.{answers_fault, answers_name}
 use Rattle.princ_name.proofs.Parsed.{fault_answers, spells_none, whole_spells, whole_is, other_realm, own_realm}
 use Rattle.princ_name.proofs.names.parse_own_name.Goals as goal
 
@@ -40,3 +41,18 @@ returns-in-Ok-name_from-clause-only c = λ name h is own. c.in-Ok-name_from.ensu
 pub returns-in-Err-name_from-clause-only : goal.returns-in-Err-name_from-clause-only
 unfolding AnswersName
 returns-in-Err-name_from-clause-only c = λ name h is own. tt
+
+pub returns-in-Err-clause-value : goal.returns-in-Err-clause-value
+returns-in-Err-clause-value c = answers_fault c.args.text.now c.args.realm.now c.in-Err.fault (λ offset is. returns-in-Err-clause-refused c offset (ap Err is))
+
+pub returns-in-Some-clause-value : goal.returns-in-Some-clause-value
+returns-in-Some-clause-value c = answers_fault c.args.text.now c.args.realm.now (BadName c.in-Some.offset) (λ offset is. returns-in-Some-clause-refused c offset (ap Err is))
+
+pub returns-in-Ok-name_from-clause-value : goal.returns-in-Ok-name_from-clause-value
+returns-in-Ok-name_from-clause-value c =
+    answers_name c.args.text.now c.args.realm.now c.in-Ok-name_from.name (returns-in-Ok-name_from-clause-spelled c)
+    (subst IsName (sym c.in-Ok-name_from.ensures) c.in-Ok.ensures.whole.name) (returns-in-Ok-name_from-clause-own c)
+
+pub returns-in-Err-name_from-clause-value : goal.returns-in-Err-name_from-clause-value
+unfolding AnswersReading
+returns-in-Err-name_from-clause-value c = tt

@@ -9,9 +9,9 @@ is_sum items list e = ap (sum_by (λ (k : AuxKey). 6 + length k.wrapped)) e ∙ 
 
 pub measure_all-requires-clause-small : goal.measure_all-requires-clause-small
 measure_all-requires-clause-small c =
-    let total = is_sum c.as_slice.result.now c.args.list.now c.as_slice.ensures in
+    let total = is_sum c.as_slice.result.now c.args.list.now c.as_slice.ensures.value in
     let small : sum_by (λ (k : AuxKey). 6 + length k.wrapped) c.as_slice.result.now < 2 ^ 63 = omega (arith, total, c.requires.short) in
     small
 
 pub returns : goal.returns
-returns c = c.measure_all.ensures ∙ is_sum c.as_slice.result.now c.args.list.now c.as_slice.ensures
+returns c = c.measure_all.ensures ∙ is_sum c.as_slice.result.now c.args.list.now c.as_slice.ensures.value

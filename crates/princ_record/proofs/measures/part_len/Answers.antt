@@ -8,7 +8,7 @@ returns-clause-small c =
     omega (
       arith,
       length-activations_text c.args.part.now.activations,
-      ap (λ (xs : List Activation). length xs) c.as_slice.ensures,
+      ap (λ (xs : List Activation). length xs) c.as_slice.ensures.value,
       c.requires.activations_short,
       c.aux_len.ensures,
       c.requires.aux_short,

@@ -1,0 +1,113 @@
+ghost use Rattle.std.specs.Prelude.{◌≡◌, ◌≤◌, Some, Ok, Err, IfOk, OnOk};
+ghost use Rattle.kdb_base.specs.Causes.{Rose};
+ghost use Rattle.kdb_base.specs.declared.outcomes.Refusal.{Refusal as WhyNot};
+ghost use Rattle.kdb_base.specs.declared.outcomes.Halt.{Halt as Early};
+ghost use Rattle.kdb_disk.specs.Moments.{LeavesOnly};
+ghost use Rattle.princ_record.specs.Effects.{effect, IsRoom};
+ghost use Rattle.princ_record.specs.Entries.{IsOp};
+ghost use Rattle.princ_record.specs.Undoing.{IsNewName};
+ghost use Rattle.princ_record.specs.declared.entries.Op.{Op as Entry};
+ghost use Rattle.kdb_model.specs.Changes.{IsCommand};
+ghost use Rattle.kdb_model.specs.declared.replies.Reply.{Reply as Answered};
+ghost use Rattle.kdb_store.specs.Places.{Holds, place_of};
+ghost use Rattle.kdb_store.specs.Moments.{RecoversEither};
+ghost use Rattle.kadm_top.specs.Changes.{change_reply, changed_place, changed_to, kept_with};
+ghost use Rattle.kadm_top.specs.Steps.{outcome, place_after};
+ghost use Rattle.kadm_top.specs.declared.intake.Asked.TheVariants.{Does};
+
+use crate::clients::local_client;
+use kdb_base::{Halt, Refusal, Stop, Time};
+use kdb_disk::Disk;
+use kdb_model::{Command, Planned, Reply, plan};
+use kdb_store::Opened;
+use princ_record::Op;
+use std::alloc::Global;
+
+/// What a command of the local administrator comes to at this moment of the clock: a refusal, an answer,
+/// or a change. The change is not made yet, and is refused where no serial is left for it.
+fn plan_local(
+    alloc: Global,
+    database: &Opened,
+    command: &Command,
+    moment: Time,
+) -> Result<Planned, Stop>
+    requires { IsCommand database.now.image.realm command.now }
+    ensures refused { (r : WhyNot) → result ≡ Err (Stop.Refused r) → outcome (place_of database.now) command.now moment ≡ kept_with (Reply.Refused r) (place_of database.now) }
+    ensures answer { (reply : Answered) → result ≡ Ok (Planned.Answer reply) → outcome (place_of database.now) command.now moment ≡ kept_with reply (place_of database.now) }
+    ensures change { (op : Entry) → result ≡ Ok (Planned.Change op) → outcome (place_of database.now) command.now moment ≡ changed_to op moment (place_of database.now) }
+    ensures op { (op : Entry) → result ≡ Ok (Planned.Change op) → IsOp (Some op) }
+    ensures room { (op : Entry) → result ≡ Ok (Planned.Change op) → IsRoom (effect (Some op) database.now.image.rows) }
+    ensures name { (op : Entry) → result ≡ Ok (Planned.Change op) → IsNewName op database.now.image.rows }
+    ensures halted { (halt : Early) → result ≡ Err (Stop.Halt halt) → halt ≡ Halt.MemoryOut }
+{
+    let realm = database.image.realm.as_slice();
+    let time = database.image.point.time.later(moment);
+    match local_client(alloc, realm) {
+        Ok(client) => plan(
+            alloc,
+            command,
+            &database.image.rows,
+            realm,
+            client.as_slice(),
+            time.secs(),
+        ),
+        Err(_) => Err(Stop::Halt(Halt::MemoryOut)),
+    }
+}
+
+/// Does a change at a moment of the clock. It is refused at the last serial.
+fn commit<D: Disk>(
+    alloc: Global,
+    database: &mut Opened,
+    disk: &mut D,
+    op: Op,
+    moment: Time,
+) -> Result<Reply, Halt>
+    requires op { IsOp (Some op) }
+    requires room { IsRoom (effect (Some op) database.old.image.rows) }
+    requires name { IsNewName op database.old.image.rows }
+    requires holds { D.tells → Holds database.old (D.view disk.old) }
+    ensures reply { IfOk result (λ reply. reply ≡ change_reply op moment (place_of database.old)) }
+    ensures place { OnOk result (place_of database.new ≡ changed_place op moment (place_of database.old)) }
+    ensures holds { D.tells → OnOk result (Holds database.new (D.view disk.new)) }
+    ensures moments { D.tells → LeavesOnly (D.view disk.old) (D.view disk.new) (RecoversEither (place_of database.old) (changed_place op moment (place_of database.old))) }
+    ensures same { D.loans disk.new ≡ D.loans disk.old }
+    ensures later { D.faults disk.old ≤ D.faults disk.new }
+    ensures cause { result ≡ Err Halt.DiskFault → Rose (D.faults disk.old) (D.faults disk.new) }
+{
+    if database.image.point.sno == u32::MAX {
+        return Ok(Reply::Refused(Refusal::TimeEnd));
+    }
+    let time = database.image.point.time.later(moment);
+    match database.commit(alloc, disk, op, time) {
+        Ok(point) => Ok(Reply::Done(point)),
+        Err(halt) => Err(halt),
+    }
+}
+
+/// Does a command of the local administrator at a moment of the clock.
+#[tactic(auto, unfolding(crate::specs::Steps::place_after))]
+pub fn perform<D: Disk>(
+    alloc: Global,
+    database: &mut Opened,
+    disk: &mut D,
+    command: &Command,
+    moment: Time,
+) -> Result<Reply, Halt>
+    requires command { IsCommand database.old.image.realm command.now }
+    requires holds { D.tells → Holds database.old (D.view disk.old) }
+    ensures reply { IfOk result (λ reply. reply ≡ (outcome (place_of database.old) command.now moment).reply) }
+    ensures place { OnOk result (place_of database.new ≡ place_after (Does command.now) (place_of database.old) moment) }
+    ensures holds { D.tells → OnOk result (Holds database.new (D.view disk.new)) }
+    ensures moments { D.tells → LeavesOnly (D.view disk.old) (D.view disk.new) (RecoversEither (place_of database.old) (place_after (Does command.now) (place_of database.old) moment)) }
+    ensures same { D.loans disk.new ≡ D.loans disk.old }
+    ensures later { D.faults disk.old ≤ D.faults disk.new }
+    ensures cause { result ≡ Err Halt.DiskFault → Rose (D.faults disk.old) (D.faults disk.new) }
+{
+    match plan_local(alloc, database, command, moment) {
+        Ok(Planned::Answer(reply)) => Ok(reply),
+        Ok(Planned::Change(op)) => commit(alloc, database, disk, op, moment),
+        Err(Stop::Refused(refusal)) => Ok(Reply::Refused(refusal)),
+        Err(Stop::Halt(halt)) => Err(halt),
+    }
+}

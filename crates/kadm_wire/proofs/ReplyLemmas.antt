@@ -1,0 +1,32 @@
+-- Texts that are written piece by piece.
+use Rattle.std.proofs.Common.{◌≡◌, ℕ, ◌-◌, ◌^◌, false, List, [], ◌∷◌, ◌++◌, codes, length, map, refl, sym, ap, ◌∙◌, append_assoc, append-nil, arith}
+use Rattle.std.specs.Fmt.{decimal, padded_integral, char_count, format_spec}
+use Rattle.std.specs.List.{flat_map}
+use Rattle.std.proofs.Math.Nat.{sub-zero}
+use Rattle.std.proofs.lemmas.List.Folds.{flat_map-map}
+use Rattle.kadm_wire.specs.Flags.{row_of}
+use Rattle.kadm_wire.specs.Replies.{six_digits, flag_text, flag_texts}
+use Rattle.kadm_wire.specs.declared.flags.Flag.{Flag}
+
+-- six digits are written with zeros in front
+pub padded_six : (n : ℕ) → padded_integral (format_spec 32 0 4 6 (2 ^ 64 - 1)) false [] (decimal n) ≡ six_digits n
+unfolding padded_integral char_count
+padded_six n = simp (append-nil, sub-zero) refl
+
+-- ---- pieces one behind the other
+
+pub two : (a b out one two' : List ℕ) → one ≡ out ++ a → two' ≡ one ++ b → two' ≡ out ++ (a ++ b)
+two a b out one two' e f = f ∙ ap (λ (t : List ℕ). t ++ b) e ∙ append_assoc out a b
+
+pub flags_two : (flag : Flag) (others flags : List Flag) (out one two' : List ℕ) → flags ≡ flag ∷ others → one ≡ out ++ flag_text (row_of flag)
+    → two' ≡ one ++ flat_map (λ other. 32 ∷ flag_text (row_of other)) others → two' ≡ out ++ flag_texts (map row_of flags)
+unfolding flag_texts
+flags_two flag others flags out one two' is e f =
+    two (flag_text (row_of flag)) (flat_map (λ other. 32 ∷ flag_text (row_of other)) others) out one two' e f
+    ∙ ap (λ (t : List ℕ). out ++ (flag_text (row_of flag) ++ t)) (sym (flat_map-map (λ row. 32 ∷ flag_text row) row_of others))
+    ∙ ap (λ (fs : List Flag). out ++ flag_texts (map row_of fs)) (sym is)
+
+pub flags_none : (flags : List Flag) (out one : List ℕ) → length flags ≡ 0 → one ≡ out ++ codes "none" → one ≡ out ++ flag_texts (map row_of flags)
+unfolding flag_texts
+flags_none [] out one none e = e
+flags_none (flag ∷ flags) out one none e = absurd (omega arith)

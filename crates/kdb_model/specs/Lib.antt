@@ -1,0 +1,8 @@
+pub mod Globs
+pub mod Flags
+pub mod Calls
+pub mod States
+pub mod Changes
+pub mod Refusals
+pub mod Steps
+pub mod Plans

@@ -1,0 +1,53 @@
+//! Copies of states. Only want of memory can refuse one.
+
+ghost use Rattle.std.specs.Prelude.{◌≡◌, IfOk};
+
+use crate::states::State;
+use kdb_base::{Blob, MemoryOut};
+use policy_rules::Policy;
+use princ_record::{Princ, Rows, copy, copy_policy};
+use std::alloc::Global;
+
+fn copy_princs(alloc: Global, princs: &[Princ]) -> Result<Vec<Princ>, MemoryOut>
+    ensures { IfOk result (λ v. v.items ≡ princs.now) }
+{
+    let mut out = Vec::with_capacity(alloc, princs.len())?;
+    for princ in princs {
+        let princ = copy(alloc, princ)?;
+        out.push(princ)?;
+    }
+    Ok(out)
+}
+
+fn copy_policies(alloc: Global, policies: &[Policy]) -> Result<Vec<Policy>, MemoryOut>
+    ensures { IfOk result (λ v. v.items ≡ policies.now) }
+{
+    let mut out = Vec::with_capacity(alloc, policies.len())?;
+    for policy in policies {
+        let policy = copy_policy(alloc, policy)?;
+        out.push(policy)?;
+    }
+    Ok(out)
+}
+
+/// The same rows. They are in order as the others are, so that they are never refused.
+fn copy_rows(alloc: Global, rows: &Rows) -> Result<Rows, MemoryOut>
+    ensures { IfOk result (λ r. r ≡ rows.now) }
+{
+    let princs = copy_princs(alloc, rows.princs())?;
+    let policies = copy_policies(alloc, rows.policies())?;
+    Rows::from_vecs(princs, policies).ok_or(MemoryOut)
+}
+
+/// The same state.
+pub(crate) fn copy_state(alloc: Global, state: &State) -> Result<State, MemoryOut>
+    ensures { IfOk result (λ s. s ≡ state.now) }
+{
+    let realm = Blob::from_bytes(alloc, state.realm.as_slice())?;
+    let rows = copy_rows(alloc, &state.rows)?;
+    Ok(State {
+        realm,
+        rows,
+        point: state.point,
+    })
+}

@@ -1,0 +1,62 @@
+//! What commands answer.
+ghost use Rattle.std.specs.Prelude.{◌≡◌};
+ghost use Rattle.princ_record.specs.Rows.{AreInOrder};
+
+use kdb_base::{Blob, Point, Refusal};
+use princ_record::Princ;
+use std::marker::Model;
+
+/// Names in the order of their bytes, each once.
+#[derive(Debug, Drop)]
+pub struct NameList {
+    items: Vec<Blob>,
+}
+
+impl Model for NameList {
+    ghost use Rattle.std.specs.Prelude.{List, ℕ};
+    ghost use Rattle.princ_record.specs.Rows.{AreInOrder};
+
+    ghost Value = { List (List ℕ) };
+
+    ghost view = { λ n. n.items.items };
+
+    ghost invariant = { λ n. AreInOrder n.items.items };
+}
+
+impl NameList {
+    /// The names of this vector, without a copy.
+    pub fn from_vec(items: Vec<Blob>) -> NameList
+        requires { AreInOrder items.items }
+        ensures { result ≡ items.items }
+    {
+        NameList { items }
+    }
+
+    /// The names as a vector, without a copy.
+    pub fn into_vec(self) -> Vec<Blob>
+        ensures value { result.items ≡ self }
+        ensures order { AreInOrder result.items }
+    {
+        self.items
+    }
+
+    pub fn as_slice(&self) -> &[Blob]
+        ensures value { result.now ≡ self.now }
+        ensures order { AreInOrder result.now }
+    {
+        &self.items
+    }
+}
+
+/// The answer to a command.
+#[derive(Debug, Drop)]
+pub enum Reply {
+    /// A change was made, and this is its point.
+    Done(Point),
+    /// `getprinc`.
+    Shown(Princ),
+    /// `listprincs`.
+    Listed(NameList),
+    /// Nothing was done.
+    Refused(Refusal),
+}

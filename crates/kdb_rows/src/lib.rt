@@ -1,0 +1,12 @@
+//! Whole runs of the program in memory, with their replies from the manual: a test a topic. The crate
+//! has no code of its own.
+#![tactic(auto)]
+
+#[cfg(test)]
+mod databases;
+#[cfg(test)]
+mod faults;
+#[cfg(test)]
+mod lines;
+#[cfg(test)]
+mod runs;

@@ -1,0 +1,35 @@
+use Rattle.std.proofs.Common.{◌≡◌, ◌++◌, length, arith}
+use Rattle.std.proofs.lemmas.List.{length-append}
+use Rattle.kdb_base.specs.Moment.{Moment}
+use Rattle.kdb_base.specs.declared.moments.Point.{Point}
+use Rattle.kdb_format.specs.Lengths.{length-counted, length-zeros}
+use Rattle.kdb_format.specs.Moments.{time, point}
+use Rattle.kdb_format.specs.Numbers.{length-big}
+use Rattle.kdb_format.specs.Spellings.{big, counted, zeros}
+use Rattle.princ_record.specs.Entries.{logged, op_text, kind_of, key_of, row_of}
+use Rattle.princ_record.proofs.laws.entries_have_their_lengths.Goals as goal
+
+length-time : (m : Moment) → length (time m) ≡ 8
+unfolding time
+length-time m = omega (arith, length-append (big 4 m.secs) (big 4 m.usecs), length-big 4 m.secs, length-big 4 m.usecs)
+
+length-point : (p : Point) → length (point p) ≡ 12
+unfolding point
+length-point p = omega (arith, length-append (big 4 p.sno) (time p.time), length-big 4 p.sno, length-time p.time)
+
+pub returns : goal.returns
+unfolding logged op_text
+returns c = λ e.
+    let text = counted (key_of e.op) ++ counted (row_of e.op) in
+    omega (
+      arith,
+      length-append (point e.point) (big 1 (kind_of e.op) ++ (zeros 4 ++ text)),
+      length-append (big 1 (kind_of e.op)) (zeros 4 ++ text),
+      length-append (zeros 4) text,
+      length-append (counted (key_of e.op)) (counted (row_of e.op)),
+      length-point e.point,
+      length-big 1 (kind_of e.op),
+      length-zeros 4,
+      length-counted (key_of e.op),
+      length-counted (row_of e.op),
+    )
