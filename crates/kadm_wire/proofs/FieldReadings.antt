@@ -10,7 +10,7 @@ use Rattle.kadm_wire.specs.declared.options.Setting.{Setting}
 use Rattle.kadm_wire.specs.declared.options.Setting.TheVariants.{Expire, PwExpire, MaxLife, MaxRenewLife}
 use Rattle.kdb_base.specs.declared.outcomes.Field.{Field}
 use Rattle.kdb_model.specs.declared.commands.PrincOptions.{PrincOptions}
-use Rattle.kadm_wire.proofs.ReadingLemmas.{duration_in-spells, spells-duration_in, time_in-spells, spells-time_in}
+use Rattle.kadm_values.proofs.ReadingLemmas.{duration_in-spells, spells-duration_in, time_in-spells, spells-time_in}
 use Rattle.kadm_wire.proofs.ValueLemmas.{field_spelled}
 
 -- ---- one value

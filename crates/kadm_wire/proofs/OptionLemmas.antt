@@ -2,13 +2,13 @@
 use Rattle.std.proofs.Common.{◌≡◌, ℕ, Bool, true, false, List, map, Option, Some, None, option_map, find, count_by, nat_le, sym, ap, ◌∙◌, refl}
 use Rattle.std.specs.List.{list_all}
 use Rattle.std.specs.Str.{bytes_eq}
-use Rattle.kadm_wire.specs.Flags.{flag_change}
+use Rattle.kadm_values.specs.Flags.{flag_change}
 use Rattle.kadm_wire.specs.Arguments.{VerbRow, verb_row, verb_rows, verb_named, opening_among, single_openings, opening_named, or_flag, flag_opening, takes, taken, option_named, opens_with, are_single}
 use Rattle.kadm_wire.specs.declared.verbs.Verb.{Verb}
 use Rattle.kadm_wire.specs.declared.verbs.VerbWord.{VerbWord}
 use Rattle.kadm_wire.specs.declared.options.Opening.{Opening}
 use Rattle.kadm_wire.specs.declared.options.Given.{Given}
-use Rattle.kadm_wire.proofs.FlagLemmas.{find-map}
+use Rattle.kadm_values.proofs.FlagLemmas.{find-map}
 
 verb_of : (r : Option VerbWord) → option_map (λ row. row.verb) r ≡ option_map (λ (row : VerbRow). row.verb) (option_map verb_row r)
 verb_of None = refl

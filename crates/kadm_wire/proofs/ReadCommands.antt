@@ -6,10 +6,10 @@ use Rattle.std.proofs.lemmas.Bool.{and_parts, and_from}
 use Rattle.std.proofs.lemmas.List.Sums.{AllPass-from_list_all}
 use Rattle.std.proofs.lemmas.Option.{cond_some}
 use Rattle.kadm_wire.specs.Arguments.{Shape, opening_among, opening_word, single_openings, or_flag, flag_opening, opening_named, takes, taken, option_named, SpellsOptions}
-use Rattle.kadm_wire.specs.Durations.{SpellsDuration}
-use Rattle.kadm_wire.specs.Flags.{FlagRow, flag_rows, flag_named, signed_bit, flag_change}
+use Rattle.kadm_values.specs.Durations.{SpellsDuration}
+use Rattle.kadm_values.specs.Flags.{FlagRow, flag_rows, flag_named, signed_bit, flag_change}
 use Rattle.kadm_wire.specs.Lines.{IsOn, SpellsCommand, Gives, IsReading}
-use Rattle.kadm_wire.specs.Times.{SpellsTime}
+use Rattle.kadm_values.specs.Times.{SpellsTime}
 use Rattle.kadm_wire.specs.Values.{SpellsValue, SpellsField, SpellsFields, flag_of}
 use Rattle.kadm_wire.specs.declared.lines.Reading.{Reading}
 use Rattle.kadm_wire.specs.declared.lines.Reading.TheVariants.{Says}

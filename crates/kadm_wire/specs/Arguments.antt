@@ -2,7 +2,7 @@
 use Rattle.std.specs.Prelude.{ℕ, ◌≡◌, ◌⊎◌, Bool, true, false, not, ◌==◌, ◌||◌, ◌&&◌, nat_le, List, [], ◌∷◌, ◌++◌, codes, length, count_by, find, Option, Some, None, option_map, if◌then◌else◌}
 use Rattle.std.specs.List.{list_all, list_any}
 use Rattle.std.specs.Str.{bytes_eq}
-use Rattle.kadm_wire.specs.Flags.{flag_change}
+use Rattle.kadm_values.specs.Flags.{flag_change}
 use Rattle.kadm_wire.specs.declared.verbs.Verb.{Verb}
 use Rattle.kadm_wire.specs.declared.verbs.Verb.TheVariants.{AddPrinc, ModPrinc, DelPrinc, GetPrinc, ListPrincs}
 use Rattle.kadm_wire.specs.declared.verbs.VerbWord.{VerbWord}

@@ -1,17 +1,11 @@
 pub mod Arguments
-pub mod Calendar
-pub mod Durations
-pub mod Flags
 pub mod Judged
 pub mod LineReadings
 pub mod Lines
-pub mod Numbers
-pub mod Readings
 pub mod Reads
 pub mod Replies
 pub mod Split
 pub mod Splitting
 pub mod Steps
-pub mod Times
 pub mod Values
 pub mod Words

@@ -4,7 +4,7 @@ use Rattle.std.specs.List.{filter_map}
 use Rattle.std.specs.Option.{option_or, option_and_then}
 use Rattle.kadm_wire.specs.Arguments.{Shape, verb_named, is_whole}
 use Rattle.kadm_wire.specs.Lines.{longest_line, is_glob_word, whole_glob}
-use Rattle.kadm_wire.specs.Readings.{duration_in, time_in}
+use Rattle.kadm_values.specs.Readings.{duration_in, time_in}
 use Rattle.kadm_wire.specs.Splitting.{words_from}
 use Rattle.kadm_wire.specs.Steps.{Parts, parts_from}
 use Rattle.kadm_wire.specs.Values.{field_of, value_given, flag_of}

@@ -2,8 +2,8 @@
 use Rattle.std.specs.Prelude.{ℕ, ◌-◌, ◌==◌, List, [], ◌∷◌, ◌++◌, codes, length, replicate, Option, Some, None, unwrap_or, if◌then◌else◌}
 use Rattle.std.specs.Fmt.{decimal}
 use Rattle.std.specs.List.{flat_map}
-use Rattle.kadm_wire.specs.Calendar.{civil_text_at}
-use Rattle.kadm_wire.specs.Flags.{FlagRow, set_flags}
+use Rattle.kadm_values.specs.Calendar.{civil_text_at}
+use Rattle.kadm_values.specs.Flags.{FlagRow, set_flags}
 use Rattle.kdb_base.specs.Outcomes.{field_word}
 use Rattle.kdb_base.specs.declared.keys.Etype.{Etype}
 use Rattle.kdb_base.specs.declared.keys.Etype.TheVariants.{Aes128, Aes256}

@@ -3,8 +3,8 @@ use Rattle.std.specs.Prelude.{ℕ, ◌≡◌, ◌⊎◌, List, [], ◌∷◌, Op
 use Rattle.std.specs.List.{filter_map}
 use Rattle.std.specs.Str.{bytes_eq}
 use Rattle.kadm_wire.specs.Arguments.{setting_word}
-use Rattle.kadm_wire.specs.Durations.{SpellsDuration}
-use Rattle.kadm_wire.specs.Times.{SpellsTime}
+use Rattle.kadm_values.specs.Durations.{SpellsDuration}
+use Rattle.kadm_values.specs.Times.{SpellsTime}
 use Rattle.kadm_wire.specs.declared.options.Given.{Given}
 use Rattle.kadm_wire.specs.declared.options.Given.TheVariants.{Flag, NoKey, Force, Value}
 use Rattle.kadm_wire.specs.declared.options.Setting.{Setting}

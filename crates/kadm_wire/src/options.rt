@@ -5,9 +5,9 @@ ghost use Rattle.std.specs.List.{list_all, list_any};
 ghost use Rattle.std.specs.Str.{bytes_eq};
 ghost use Rattle.kadm_wire.specs.Arguments.{are_single, has_needed, is_dashes, is_signed, opening_named, opening_of, opening_word, opens_with, option_named, setting_word, single_openings, takes};
 
-use crate::bytes::is_same;
-use crate::flags::read_flag;
 use crate::verbs::{Verb, has_fields, is_addprinc, is_delprinc};
+use kadm_values::bytes::is_same;
+use kadm_values::flags::read_flag;
 use kdb_base::Blob;
 use kdb_model::FlagChange;
 

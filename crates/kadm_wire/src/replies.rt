@@ -3,11 +3,11 @@
 ghost use Rattle.std.specs.Prelude.{List, ℕ, ◌≡◌, ◌++◌, ◌∷◌, [], codes, IfOk, OnOk, map, string_bytes};
 ghost use Rattle.std.specs.Fmt.{decimal};
 ghost use Rattle.std.specs.List.{flat_map};
-ghost use Rattle.kadm_wire.specs.Flags.{row_of, set_flags};
+ghost use Rattle.kadm_values.specs.Flags.{row_of, set_flags};
 ghost use Rattle.kadm_wire.specs.Replies.{data_line, done_text, etype_text, field_line, flag_text, flag_texts, key_line, keys_text, lives_text, names_text, policy_text, refusal_text, reply_text, rest_text, salt_text, shown_text, six_digits, time_text, times_text};
 
-use crate::flags::{Flag, flags_in};
-use crate::times::print_time;
+use kadm_values::flags::{Flag, flags_in};
+use kadm_values::times::print_time;
 use kdb_base::{Blob, Etype, Field, MemoryOut, Point, Refusal, Salt};
 use kdb_model::Reply;
 use princ_record::{KeyItem, Princ};

@@ -5,10 +5,10 @@ ghost use Rattle.std.specs.List.{filter_map};
 ghost use Rattle.kadm_wire.specs.Judged.{AreFields, IsJudged};
 ghost use Rattle.kadm_wire.specs.Values.{AreReadable, IsFirstBad, SpellsField, SpellsFields, SpellsValue, field_of, flag_of, value_given, value_in};
 
-use crate::bytes::is_same;
-use crate::durations::read_duration;
 use crate::options::{Given, Setting, setting_word};
-use crate::times::read_time;
+use kadm_values::bytes::is_same;
+use kadm_values::durations::read_duration;
+use kadm_values::times::read_time;
 use kdb_base::{Field, MemoryOut};
 use kdb_model::{FlagChange, FlagChanges, PrincOptions};
 use std::alloc::Global;

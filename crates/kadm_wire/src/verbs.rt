@@ -4,7 +4,7 @@ ghost use Rattle.std.specs.Prelude.{◌≡◌, find, map, option_map};
 ghost use Rattle.std.specs.Str.{bytes_eq};
 ghost use Rattle.kadm_wire.specs.Arguments.{is_addprinc, is_delprinc, has_fields, verb_named, verb_row, verb_rows};
 
-use crate::bytes::is_same;
+use kadm_values::bytes::is_same;
 
 /// A command, whichever of its words is used.
 #[derive(Clone, Copy, Debug)]

@@ -14,4 +14,4 @@ pub use fails::Fails;
 pub use keys::{Etype, PlainKey, Salt};
 pub use moments::{Point, Time, order_points};
 pub use outcomes::{Field, Halt, MemoryOut, Refusal, Status, Stop};
-pub use versions::{Activation, Activations, AuxKey, AuxList};
+pub use versions::{Activation, Activations, AuxKey, AuxList, Master, Masters};

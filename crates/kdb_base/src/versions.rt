@@ -1,10 +1,12 @@
-//! What is kept by the version of a master key: when it becomes active, and the auxiliary keys.
-ghost use Rattle.std.specs.Prelude.{◌≡◌, map};
+//! What is kept by the version of a master key: when it becomes active, the key itself, and the
+//! auxiliary keys.
+ghost use Rattle.std.specs.Prelude.{◌≡◌, [], map};
 ghost use Rattle.kdb_base.specs.Versions.{AreRising};
 
 use crate::blobs::Blob;
-use crate::keys::Etype;
+use crate::keys::{Etype, PlainKey};
 use std::marker::Model;
+use std::mem;
 
 /// From when on a version of the master key may be active, in seconds since 1970.
 #[derive(Clone, Copy, Debug, PartialEq, Eq)]
@@ -46,6 +48,16 @@ impl Activations {
         ensures rising { AreRising (map (λ x. x.version) result.items) }
     {
         self.items
+    }
+
+    /// The activations as a vector, without a copy. An empty list stays.
+    pub fn take(&mut self) -> Vec<Activation>
+        ensures value { result.items ≡ self.old }
+        ensures rising { AreRising (map (λ x. x.version) result.items) }
+        ensures empty { self.new ≡ [] }
+    {
+        let alloc = *self.items.allocator();
+        mem::replace(&mut self.items, Vec::new(alloc))
     }
 
     pub fn as_slice(&self) -> &[Activation]
@@ -102,6 +114,56 @@ impl AuxList {
     }
 
     pub fn as_slice(&self) -> &[AuxKey]
+        ensures value { result.now ≡ self.now }
+        ensures rising { AreRising (map (λ x. x.version) result.now) }
+    {
+        &self.items
+    }
+}
+
+/// A master key and its version.
+#[derive(Clone, Copy, PartialEq, Eq)]
+pub struct Master {
+    pub version: u16,
+    pub key: PlainKey,
+}
+
+/// Master keys by rising versions.
+#[derive(Drop)]
+pub struct Masters {
+    items: Vec<Master>,
+}
+
+impl Model for Masters {
+    ghost use Rattle.kdb_base.specs.declared.versions.Master.{Master};
+    ghost use Rattle.std.specs.Prelude.{List, map};
+    ghost use Rattle.kdb_base.specs.Versions.{AreRising};
+
+    ghost Value = { List Master };
+
+    ghost view = { λ m. m.items.items };
+
+    ghost invariant = { λ m. AreRising (map (λ x. x.version) m.items.items) };
+}
+
+impl Masters {
+    /// The keys of this vector, without a copy.
+    pub fn from_vec(items: Vec<Master>) -> Masters
+        requires { AreRising (map (λ x. x.version) items.items) }
+        ensures { result ≡ items.items }
+    {
+        Masters { items }
+    }
+
+    /// The keys as a vector, without a copy.
+    pub fn into_vec(self) -> Vec<Master>
+        ensures value { result.items ≡ self }
+        ensures rising { AreRising (map (λ x. x.version) result.items) }
+    {
+        self.items
+    }
+
+    pub fn as_slice(&self) -> &[Master]
         ensures value { result.now ≡ self.now }
         ensures rising { AreRising (map (λ x. x.version) result.now) }
     {

@@ -1,6 +1,6 @@
 use Rattle.std.proofs.Common.{◌≡◌, ◌++◌, ◌∷◌, drop}
 use Rattle.std.specs.List.{flat_map}
-use Rattle.kadm_wire.specs.Flags.{row_of}
+use Rattle.kadm_values.specs.Flags.{row_of}
 use Rattle.kadm_wire.specs.Replies.{flag_text}
 use Rattle.kadm_wire.proofs.replies.push_behind.Given as goal
 

@@ -1,0 +1,6 @@
+pub mod CalendarLemmas
+pub mod DurationLemmas
+pub mod FlagLemmas
+pub mod NumberLemmas
+pub mod ReadingLemmas
+pub mod TimeLemmas

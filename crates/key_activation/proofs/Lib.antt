@@ -1,0 +1,5 @@
+mod Calls
+mod Edits
+mod Latest
+mod Order
+mod Single
