@@ -3,11 +3,15 @@
 //! where it can be: an object in memory tells it, an adapter over a real thing does not.
 #![tactic(auto)]
 
+pub mod chacha;
 pub mod clocks;
 pub mod entropies;
 pub mod sinks;
 pub mod sources;
+#[cfg(test)]
+mod tests;
 
+pub use chacha::{ChaChaEntropy, SeededEntropy};
 pub use clocks::{Clock, MemoryClock, SystemClock};
 pub use entropies::{DrawFailed, Entropy, ZeroEntropy};
 pub use sinks::{MemorySink, Sink, WriteFailed, WriterSink};
