@@ -11,3 +11,5 @@ pub mod Shape
 pub mod Patterns
 pub mod Found
 pub mod Equal
+pub mod Realms
+pub mod RealmNames

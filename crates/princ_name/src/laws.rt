@@ -1,10 +1,14 @@
 //! Laws of the words of names. They do no work.
 
-ghost use Rattle.std.specs.Prelude.{List, ℕ, ◌≡◌, ◌↔◌, true, None, Ok, Err};
+ghost use Rattle.std.specs.Prelude.{List, ℕ, ◌≡◌, ◌≢◌, ◌≤◌, ◌↔◌, ◌++◌, ◌∷◌, [], true, None, Ok, Err, length};
+ghost use Rattle.std.specs.List.{list_all};
 ghost use Rattle.princ_name.specs.Answers.{IsRefusedAt};
+ghost use Rattle.princ_name.specs.Bytes.{can_stand};
 ghost use Rattle.princ_name.specs.Faults.{first_fault};
-ghost use Rattle.princ_name.specs.Names.{NameParts, IsName, printed};
+ghost use Rattle.princ_name.specs.Names.{NameParts, IsName, printed, printed_parts};
 ghost use Rattle.princ_name.specs.Readings.{is_name, own_name_in};
+ghost use Rattle.princ_name.specs.RealmNames.{name_in};
+ghost use Rattle.princ_name.specs.Realms.{IsRealm};
 ghost use Rattle.princ_name.specs.Spelling.{Spells};
 
 /// A word spells one name at most.
@@ -41,4 +45,12 @@ pub fn own_name_is_spelled()
         → (own_name_in word given ≡ Ok name) ↔ (Spells word given name × IsName name × (name.realm ≡ given)) }
     ensures refusal { (word given : List ℕ) (place : ℕ)
         → (own_name_in word given ≡ Err place) ↔ IsRefusedAt word given place }
+{}
+
+/// A realm of a database prints as it is, so a name in it prints as its components do, an `@` and the
+/// realm; and components of few and short enough bytes of names are those of a name in every realm.
+pub fn realms_print_as_they_are()
+    ensures prints { (parts : List (List ℕ)) (realm : List ℕ) → IsRealm realm → printed (name_in parts realm) ≡ printed_parts parts ++ 64 ∷ realm }
+    ensures names { (parts : List (List ℕ)) (realm : List ℕ) → IsRealm realm → parts ≢ [] → length parts ≤ 16 → list_all (list_all can_stand) parts ≡ true
+        → length (printed_parts parts) ≤ 190 → IsName (name_in parts realm) }
 {}

@@ -11,6 +11,7 @@ mod parts;
 pub mod patterns;
 pub mod printing;
 mod reading;
+pub mod realms;
 #[cfg(test)]
 mod tests;
 mod whole;
@@ -20,3 +21,4 @@ pub use names::{Name, parse_name, parse_own_name};
 pub use parts::Part;
 pub use patterns::{Hits, Pattern};
 pub use printing::print_name;
+pub use realms::{Realm, is_realm};

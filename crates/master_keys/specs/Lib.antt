@@ -1,0 +1,4 @@
+pub mod Faults
+pub mod Wrapping
+pub mod Chain
+pub mod First

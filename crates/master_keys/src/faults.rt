@@ -1,0 +1,59 @@
+ghost use Rattle.std.specs.Prelude.{◌≡◌};
+ghost use Rattle.master_keys.specs.Faults.{chain_fault, unopened_by};
+
+use krb_profile::UnsealFault;
+use std::alloc::AllocFailed;
+use thiserror::Error;
+
+/// Why master keys are not opened.
+#[derive(Clone, Copy, Debug, PartialEq, Eq, Error)]
+pub enum ChainFault {
+    /// There is no master key of the version that was asked for.
+    #[error("no master key of version {version}")]
+    UnknownMaster { version: u16 },
+    /// The key in hand is not the master key.
+    #[error("wrong master key")]
+    StashWrong,
+    #[error("out of memory")]
+    MemoryOut,
+}
+
+/// Why something is not opened by the key in hand.
+#[derive(Clone, Copy, Debug, PartialEq, Eq)]
+pub(crate) enum Unopened {
+    /// The key does not open it.
+    Wrong,
+    MemoryOut,
+}
+
+impl<T: Drop> From<AllocFailed<T>> for Unopened {
+    ghost use Rattle.master_keys.specs.declared.faults.Unopened.TheVariants as unopened;
+
+    ghost from_gives = { λ _ e. e ≡ unopened.MemoryOut };
+
+    fn from(_: AllocFailed<T>) -> Unopened {
+        Unopened::MemoryOut
+    }
+}
+
+impl From<UnsealFault> for Unopened {
+    ghost from_gives = { λ fault e. e ≡ unopened_by fault };
+
+    fn from(fault: UnsealFault) -> Unopened {
+        match fault {
+            UnsealFault::Short | UnsealFault::BadTag => Unopened::Wrong,
+            UnsealFault::MemoryOut => Unopened::MemoryOut,
+        }
+    }
+}
+
+impl From<Unopened> for ChainFault {
+    ghost from_gives = { λ fault e. e ≡ chain_fault fault };
+
+    fn from(fault: Unopened) -> ChainFault {
+        match fault {
+            Unopened::Wrong => ChainFault::StashWrong,
+            Unopened::MemoryOut => ChainFault::MemoryOut,
+        }
+    }
+}

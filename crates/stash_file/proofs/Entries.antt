@@ -1,0 +1,156 @@
+-- The entries that are written are pieces, and tell the keys that they are written for.
+use Rattle.std.proofs.Common.{◌≡◌, ℕ, ◌+◌, ◌%◌, ◌^◌, ◌<◌, ◌≤◌, Bool, true, false, cond, eqb, List, [], ◌∷◌, ◌++◌, length, Some, refl, sym, ap, subst, ◌∙◌, arith, inl, append_assoc}
+use Rattle.std.specs.Prelude.{IsTrue, codes, map, option_map, reverse}
+use Rattle.std.specs.Option.{option_to_list}
+use Rattle.std.specs.List.{All, flat_map}
+use Rattle.std.proofs.Math.Nat.{mod-lt}
+use Rattle.std.proofs.lemmas.Bool.{eqb-true, eq-eqb}
+use Rattle.std.proofs.lemmas.List.{append-nil, flat_map_more, length-append, map-append, reverse-append, reverse-reverse}
+use Rattle.std.proofs.lemmas.List.Elements.{All-append, All-from_recursion}
+use Rattle.kdb_base.specs.Etypes.{etype_of, key_len, number_of}
+use Rattle.kdb_base.specs.declared.keys.Etype.{Etype}
+use Rattle.kdb_base.specs.declared.keys.Etype.TheVariants.{Aes128, Aes256}
+use Rattle.kdb_base.specs.declared.versions.Master.{Master}
+use Rattle.kdb_format.specs.Laws.{big_field}
+use Rattle.kdb_format.specs.Lengths.{length-counted}
+use Rattle.kdb_format.specs.Numbers.{length-big}
+use Rattle.kdb_format.specs.Readings.{big_at}
+use Rattle.kdb_format.specs.Spellings.{big}
+use Rattle.stash_file.specs.Pieces.{Piece, IsPiece, entry_text, has_length, is_master, key_of_piece, piece_text, stash_key, type_of, unless_zero, version_from, version_of}
+use Rattle.stash_file.specs.Written.{entry_of, piece_of, stash_keys}
+use Rattle.stash_file.specs.Stashes.{IsStash, with_version}
+use Rattle.stash_file.specs.declared.keys.StashKey.{StashKey}
+
+pub written_length : (realm : List ℕ) (secs : ℕ) (m : Master) → length (entry_text (entry_of realm secs m) ++ big 4 m.version) ≡ 27 + length realm + length m.key.bytes
+unfolding entry_text
+written_length realm secs m = simp (length-append, length-counted, length-big) (omega arith)
+
+small_number : (t : Etype) → number_of t < 2 ^ 16
+small_number Aes128 = omega arith
+small_number Aes256 = omega arith
+
+short_key : (t : Etype) → key_len t ≤ 32
+short_key Aes128 = omega arith
+short_key Aes256 = omega arith
+
+key_fits : (realm : List ℕ) (secs : ℕ) (m : Master) → length m.key.bytes ≡ key_len m.key.etype → IsTrue (has_length (type_of (entry_of realm secs m)) m.key.bytes)
+unfolding is_master
+key_fits realm secs m len = by_type m.key.etype len
+  where
+    by_type : (t : Etype) → length m.key.bytes ≡ key_len t → IsTrue (has_length (type_of (record (entry_of realm secs m) { key_type = number_of t })) m.key.bytes)
+    by_type Aes128 e = eq-eqb _ _ e
+    by_type Aes256 e = eq-eqb _ _ e
+
+pub written_fits : (realm : List ℕ) (secs : ℕ) (m : Master) → length realm ≤ 64 → secs < 2 ^ 32 → length m.key.bytes ≡ key_len m.key.etype → IsPiece (piece_of realm secs m)
+written_fits realm secs m short lt len =
+    let small = small_number m.key.etype in
+    let few = short_key m.key.etype in
+    let byte : m.version % 256 < 256 = mod-lt m.version (omega arith) in
+    record {
+      entry = record {
+        realm = omega arith;
+        count = omega arith;
+        components = All-from_recursion (λ (text : List ℕ). length text < 2 ^ 16) (codes "K" ∷ codes "M" ∷ []) (omega arith, (omega arith, tt));
+        name_type = omega arith;
+        time = lt;
+        version = byte;
+        key_type = small;
+        key = omega arith;
+        fits = key_fits realm secs m len;
+      };
+      most = omega (arith, written_length realm secs m);
+    }
+
+-- the 32-bit version, whatever it is
+version_there : (v : ℕ) → v < 2 ^ 32 → version_from (v % 256) (big 4 v) ≡ v
+unfolding version_from
+version_there v lt =
+    let read : big_at 4 (big 4 v) ≡ Some (v, []) = ap (big_at 4) (sym (append-nil (big 4 v))) ∙ (big_field 4).again v [] lt in
+    ap (unless_zero (v % 256)) read ∙ by_test (eqb v 0) refl
+  where
+    by_test : (b : Bool) → eqb v 0 ≡ b → cond b (v % 256) v ≡ v
+    by_test true e = let zero : v ≡ 0 = eqb-true v 0 e in rw zero refl
+    by_test false e = refl
+
+pub written_key : (realm : List ℕ) (secs : ℕ) (m : Master) → m.version < 2 ^ 32 → key_of_piece (piece_of realm secs m) ≡ record { version = m.version; key = m.key } ∷ []
+unfolding key_of_piece is_master
+written_key realm secs m lt = by_type m.key.etype
+  where
+    by_type : (t : Etype)
+        → option_to_list (option_map (λ (u : Etype). stash_key (version_of (entry_of realm secs m) (big 4 m.version)) u m.key.bytes) (etype_of (number_of t)))
+        ≡ stash_key m.version t m.key.bytes ∷ []
+    by_type Aes128 = ap (λ (v : ℕ). stash_key v Aes128 m.key.bytes ∷ []) (version_there m.version lt)
+    by_type Aes256 = ap (λ (v : ℕ). stash_key v Aes256 m.key.bytes ∷ []) (version_there m.version lt)
+
+-- a master key as a stash has it
+abbrev key_of : Master → StashKey
+key_of m = record { version = m.version; key = m.key }
+
+-- these keys were written so far
+pub record IsWritten (realm : List ℕ) (secs : ℕ) (out : List ℕ) (masters : List Master) : Type 0 where
+  pub text : out ≡ with_version (flat_map piece_text (map (piece_of realm secs) masters))
+  pub each : All IsPiece (map (piece_of realm secs) masters)
+  pub told : flat_map key_of_piece (map (piece_of realm secs) masters) ≡ map key_of masters
+
+pub nothing_written : (realm : List ℕ) (secs : ℕ) → IsWritten realm secs (with_version []) []
+nothing_written realm secs = record { text = refl; each = All-from_recursion IsPiece [] tt; told = refl }
+
+pub one_more_written : (realm : List ℕ) (secs : ℕ) (out new : List ℕ) (masters : List Master) (m : Master) → IsWritten realm secs out masters
+    → new ≡ out ++ piece_text (piece_of realm secs m) → IsPiece (piece_of realm secs m) → key_of_piece (piece_of realm secs m) ≡ key_of m ∷ []
+    → IsWritten realm secs new (masters ++ m ∷ [])
+one_more_written realm secs out new masters m before text fits told =
+    let one : List Piece = piece_of realm secs m ∷ [] in
+    let before_it = map (piece_of realm secs) masters in
+    let pieces : map (piece_of realm secs) (masters ++ m ∷ []) ≡ before_it ++ one = map-append (piece_of realm secs) masters (m ∷ []) in
+    record {
+      text =
+          text
+          ∙ ap (λ (o : List ℕ). o ++ piece_text (piece_of realm secs m)) before.text
+          ∙ ap with_version (flat_map_more piece_text [] before_it (piece_of realm secs m))
+          ∙ ap (λ (ps : List Piece). with_version (flat_map piece_text ps)) (sym pieces);
+      each = subst (All IsPiece) (sym pieces) (All-append IsPiece before_it one before.each (All-from_recursion IsPiece one (fits, tt)));
+      told =
+          ap (flat_map key_of_piece) pieces
+          ∙ sym (flat_map_more key_of_piece [] before_it (piece_of realm secs m))
+          ∙ ap (λ (ks : List StashKey). ks ++ key_of_piece (piece_of realm secs m)) before.told
+          ∙ ap (λ (ks : List StashKey). map key_of masters ++ ks) told
+          ∙ sym (map-append key_of masters (m ∷ []));
+    }
+
+pub all_written : (realm : List ℕ) (secs : ℕ) (out : List ℕ) (masters : List Master) → IsWritten realm secs out (reverse masters) → IsStash out (stash_keys masters)
+unfolding stash_keys
+all_written realm secs out masters f = record {
+  pieces = map (piece_of realm secs) (reverse masters);
+  end = [];
+  each = f.each;
+  ended = inl refl;
+  spelled = f.text ∙ ap with_version (sym (append-nil (flat_map piece_text (map (piece_of realm secs) (reverse masters)))));
+  told = sym f.told;
+}
+
+-- the masters from the end down to the rest were written so far
+pub record IsPartWritten (realm : List ℕ) (secs : ℕ) (out : List ℕ) (masters rest : List Master) : Type 0 where
+  pub done : List Master
+  pub whole : masters ≡ rest ++ reverse done
+  pub written : IsWritten realm secs out done
+
+pub none_written : (realm : List ℕ) (secs : ℕ) (masters : List Master) → IsPartWritten realm secs (with_version []) masters masters
+none_written realm secs masters = record { done = []; whole = sym (append-nil masters); written = nothing_written realm secs }
+
+pub last_written : (realm : List ℕ) (secs : ℕ) (out new : List ℕ) (masters rest older : List Master) (m : Master) → IsPartWritten realm secs out masters rest → rest ≡ older ++ m ∷ []
+    → new ≡ out ++ piece_text (piece_of realm secs m) → IsPiece (piece_of realm secs m) → key_of_piece (piece_of realm secs m) ≡ key_of m ∷ []
+    → IsPartWritten realm secs new masters older
+last_written realm secs out new masters rest older m before last text fits told = record {
+  done = before.done ++ m ∷ [];
+  whole =
+      before.whole
+      ∙ ap (λ (ms : List Master). ms ++ reverse before.done) last
+      ∙ append_assoc older (m ∷ []) (reverse before.done)
+      ∙ ap (λ (ms : List Master). older ++ ms) (sym (reverse-append before.done (m ∷ [])));
+  written = one_more_written realm secs out new before.done m before.written text fits told;
+}
+
+pub rest_written : (realm : List ℕ) (secs : ℕ) (out : List ℕ) (masters rest : List Master) → IsPartWritten realm secs out masters rest → rest ≡ [] → IsWritten realm secs out (reverse masters)
+rest_written realm secs out masters rest f none =
+    let whole : masters ≡ reverse f.done = f.whole ∙ ap (λ (ms : List Master). ms ++ reverse f.done) none in
+    subst (IsWritten realm secs out) (sym (reverse-reverse f.done) ∙ ap reverse (sym whole)) f.written

@@ -1,0 +1,5 @@
+pub mod Pieces
+pub mod Stashes
+pub mod Written
+pub mod Answers
+pub mod Parsing

@@ -1,0 +1,20 @@
+//! Laws of stashes. They do no work.
+
+ghost use Rattle.std.specs.Prelude.{◌≡◌, ℕ, List};
+ghost use Rattle.stash_file.specs.Stashes.{IsStash, IsBadAt};
+ghost use Rattle.stash_file.specs.declared.keys.StashKey.{StashKey};
+
+/// A stash has one list of keys.
+pub fn stash_has_one_list_of_keys()
+    ensures { (text : List ℕ) (a b : List StashKey) → IsStash text a → IsStash text b → a ≡ b }
+{}
+
+/// A stash is bad nowhere.
+pub fn stash_is_bad_nowhere()
+    ensures { (text : List ℕ) (keys : List StashKey) (place : ℕ) → IsStash text keys → IsBadAt text place → ⊥ }
+{}
+
+/// A text that is no stash is bad at one place.
+pub fn bad_text_has_one_place()
+    ensures { (text : List ℕ) (a b : ℕ) → IsBadAt text a → IsBadAt text b → a ≡ b }
+{}

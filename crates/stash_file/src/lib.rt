@@ -1,0 +1,18 @@
+//! The stash: a file in MIT's keytab format that holds the master keys, by which a database is opened
+//! without a password.
+#![tactic(auto)]
+
+pub mod faults;
+pub mod keys;
+pub mod laws;
+mod pieces;
+pub mod reading;
+pub mod writing;
+
+pub use faults::StashFault;
+pub use keys::{StashKey, StashList};
+pub use reading::read_stash;
+pub use writing::write_stash;
+
+#[cfg(test)]
+mod tests;
