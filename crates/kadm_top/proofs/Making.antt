@@ -16,7 +16,7 @@ use Rattle.kdb_disk.proofs.Runs.{at_end, kept, started, weaken}
 use Rattle.kdb_control.specs.Force.{in_force}
 use Rattle.kdb_control.specs.declared.force.Force.{Force}
 use Rattle.kdb_control.specs.declared.force.Force.TheVariants.{Nothing, Is, Broken}
-use Rattle.kdb_store.specs.Images.{is_realm}
+use Rattle.princ_name.specs.Realms.{is_realm}
 use Rattle.kdb_store.specs.Places.{recovers}
 use Rattle.kdb_store.specs.Moments.{Creates, Destroys}
 use Rattle.kdb_store.specs.Stores.{AnswersMade, AnswersEnded, IsChosen, RefusesEnd}

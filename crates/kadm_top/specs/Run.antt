@@ -13,7 +13,7 @@ use Rattle.kdb_disk.specs.Moments.{Keeps}
 use Rattle.kdb_control.specs.Force.{in_force}
 use Rattle.kdb_control.specs.declared.force.Force.{Force}
 use Rattle.kdb_control.specs.declared.force.Force.TheVariants.{Nothing, Is, Broken}
-use Rattle.kdb_store.specs.Images.{is_realm}
+use Rattle.princ_name.specs.Realms.{is_realm}
 use Rattle.kdb_store.specs.Places.{Place, recovers}
 use Rattle.kdb_store.specs.Moments.{IsLike, Creates, Destroys}
 use Rattle.kdb_store.specs.Steps.{created}

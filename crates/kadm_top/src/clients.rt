@@ -1,6 +1,6 @@
 ghost use Rattle.std.specs.Prelude.{◌≡◌, IfOk};
 ghost use Rattle.princ_record.specs.PrintedNames.{IsPrinted};
-ghost use Rattle.kdb_store.specs.Images.{IsRealm};
+ghost use Rattle.princ_name.specs.Realms.{IsRealm};
 ghost use Rattle.kadm_top.specs.Steps.{local_client};
 
 use kdb_base::{Blob, MemoryOut};

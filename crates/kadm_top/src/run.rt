@@ -10,7 +10,7 @@ ghost use Rattle.kdb_ports.specs.Told.{after_told, IsSpent};
 ghost use Rattle.kdb_disk.specs.Moments.{Keeps, LeavesOnly};
 ghost use Rattle.kdb_control.specs.Force.{in_force};
 ghost use Rattle.kdb_control.specs.declared.force.Force.TheVariants.{Nothing};
-ghost use Rattle.kdb_store.specs.Images.{is_realm};
+ghost use Rattle.princ_name.specs.Realms.{is_realm};
 ghost use Rattle.kdb_store.specs.Moments.{Creates};
 ghost use Rattle.kdb_store.specs.Stores.{AnswersMade};
 ghost use Rattle.kdb_store.specs.Places.{Holds, place_of, recovers};
@@ -33,7 +33,8 @@ use kdb_base::{Blob, Field, Point, Refusal, Status, Stop, Time};
 use kdb_disk::Disk;
 use kdb_model::Reply;
 use kdb_ports::{Clock, Entropy, Sink, Source};
-use kdb_store::{Opened, create_files, destroy_files, is_realm, open_files};
+use kdb_store::{Opened, create_files, destroy_files, open_files};
+use princ_name::is_realm;
 use princ_record::Rows;
 use std::alloc::Global;
 

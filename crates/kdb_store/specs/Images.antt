@@ -4,20 +4,10 @@ use Rattle.std.specs.List.{list_all}
 use Rattle.kdb_format.specs.Readings.{Reading, ◌>>=◌, ◌>>◌, done, checked, literal_at, counted_at, whole}
 use Rattle.kdb_format.specs.Spellings.{counted, counted_list}
 use Rattle.kdb_format.specs.Moments.{point_at, point, IsPoint}
+use Rattle.princ_name.specs.Realms.{is_realm, IsRealm}
 use Rattle.princ_record.specs.Rows.{AreRows}
 use Rattle.kdb_store.specs.StoredRows.{row, rows_at, stored}
 use Rattle.kdb_store.specs.declared.image.Image.{Image}
-
--- letters, digits, `.` and `-`
-abbrev pub is_realm_byte : ℕ → Bool
-is_realm_byte b = (nat_le 97 b && nat_le b 122) || (nat_le 65 b && nat_le b 90) || (nat_le 48 b && nat_le b 57) || nat_eq b 46 || nat_eq b 45
-
--- 1 to 64 such bytes
-abbrev pub is_realm : List ℕ → Bool
-is_realm bytes = nat_le 1 (length bytes) && nat_le (length bytes) 64 && list_all is_realm_byte bytes
-
-abbrev pub IsRealm : List ℕ → Type 0
-IsRealm bytes = IsTrue (is_realm bytes)
 
 -- `KDBI`, and format 1 in two bytes
 unfoldable pub magic : List ℕ

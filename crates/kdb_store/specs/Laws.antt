@@ -18,17 +18,11 @@ use Rattle.princ_record.specs.Princs.{princ_at, princ, IsPrinc, princ_field}
 use Rattle.princ_record.specs.Rows.{RowLists, AreRows, princ_keys, policy_keys, rises_from, in_order, rises}
 use Rattle.princ_record.specs.declared.princs.Princ.{Princ as Principal}
 use Rattle.kdb_store.specs.StoredRows.{kind_of, record_text, IsStored, long_princ_at, long_policy_at, princ_row_at, policy_row_at, row_of, row_at, row, stored, princs_of, policies_of, lists_of, is_parted, are_in_order, are_rows, rows_at}
-use Rattle.kdb_store.specs.Images.{is_realm, is_realm_byte, IsRealm, magic, ending, image_at, image, IsImage}
+use Rattle.princ_name.specs.Realms.{is_realm, IsRealm, realm_length}
+use Rattle.kdb_store.specs.Images.{magic, ending, image_at, image, IsImage}
 use Rattle.kdb_store.specs.declared.stored.StoredRow.{StoredRow}
 use Rattle.kdb_store.specs.declared.stored.StoredRow.TheVariants.{Princ, Policy}
 use Rattle.kdb_store.specs.declared.image.Image.{Image}
-
--- ---- realms
-
-pub realm_length : (realm : List ℕ) → IsRealm realm → length realm ≤ 64
-realm_length realm is =
-    let front = and_parts (nat_le 1 (length realm) && nat_le (length realm) 64) (list_all is_realm_byte realm) is in
-    leb-true (length realm) 64 (and_parts (nat_le 1 (length realm)) (nat_le (length realm) 64) front.0).1
 
 -- ---- one row
 

@@ -5,17 +5,18 @@ ghost use Rattle.kdb_format.specs.Moments.{IsPoint};
 ghost use Rattle.kdb_format.specs.Readings.{literal_at, checked, counted_at};
 ghost use Rattle.kdb_format.specs.Spellings.{counted_list};
 ghost use Rattle.kdb_store.specs.StoredRows.{row, stored};
-ghost use Rattle.kdb_store.specs.Images.{image_at, image, image_in, IsImage, is_realm, magic, ending};
+ghost use Rattle.princ_name.specs.Realms.{is_realm};
+ghost use Rattle.kdb_store.specs.Images.{image_at, image, image_in, IsImage, magic, ending};
 ghost use Rattle.kdb_store.specs.Laws.{image_field};
 ghost use Rattle.kdb_store.specs.Leaving.{left};
 ghost use Rattle.kdb_store.specs.Steps.{with_begun};
 
-use crate::realm::{Realm, is_realm};
 use crate::stored::{count_left, push_left, read_rows, rows_len};
 use kdb_base::{MemoryOut, Point};
 use kdb_format::moments::{push_point, read_point};
 use kdb_format::writing::{push_bytes, push_counted, push_u32};
 use kdb_format::{Format, FormatFault, Malformed, Reader};
+use princ_name::{Realm, is_realm};
 use princ_record::laws::dropping_is_leaving_out;
 use princ_record::{Begun, Rows};
 use std::alloc::Global;
@@ -93,7 +94,7 @@ fn push_rows(
 }
 
 // The file of an image with this point, and with the rows but for those of these keys.
-#[tactic(auto, unfolding(crate::specs::Images::image), using(crate::specs::Laws::realm_length))]
+#[tactic(auto, unfolding(crate::specs::Images::image), using(princ_name::specs::Realms::realm_length))]
 fn push_image(
     out: &mut Vec<u8>,
     value: &Image,

@@ -10,14 +10,12 @@ pub mod laws;
 pub mod lending;
 pub mod opened;
 mod putting;
-pub mod realm;
 pub mod store;
 mod stored;
 
 pub use files::{create_files, destroy_files, open_files};
 pub use image::{Image, ImageFormat};
 pub use opened::Opened;
-pub use realm::{Realm, is_realm};
 pub use store::Store;
 
 #[cfg(test)]

@@ -12,7 +12,7 @@ ghost use Rattle.kdb_control.specs.Force.{in_force};
 ghost use Rattle.princ_record.specs.Effects.{effect, IsRoom};
 ghost use Rattle.princ_record.specs.Entries.{IsOp};
 ghost use Rattle.princ_record.specs.Undoing.{IsNewName};
-ghost use Rattle.kdb_store.specs.Images.{IsRealm};
+ghost use Rattle.princ_name.specs.Realms.{IsRealm};
 ghost use Rattle.kdb_store.specs.Places.{place_of, Holds};
 ghost use Rattle.kdb_store.specs.Steps.{committed, created, entry_length, first_choice, next_choice};
 ghost use Rattle.kdb_store.specs.Stores.{Answers, AnswersMade, disk_after, answer_of, returned};

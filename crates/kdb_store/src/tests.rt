@@ -8,6 +8,7 @@ use crate::image::image_text;
 use kdb_base::{Blob, Fails, Point, Refusal, Stop, Time};
 use kdb_disk::{Disk, MemoryDisk, Pick};
 use kdb_format::{FormatFault, read_whole};
+use princ_name::is_realm;
 use princ_record::names::is_printed;
 use princ_record::{Op, Princ, Rows, decode, encoded_len};
 use std::alloc::Global;

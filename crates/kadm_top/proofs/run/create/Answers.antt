@@ -1,6 +1,6 @@
 use Rattle.std.proofs.Common.{◌≡◌, ◌∙◌, ap, sym, subst, true}
 use Rattle.kdb_disk.specs.Moments.{LeavesOnly}
-use Rattle.kdb_store.specs.Images.{is_realm}
+use Rattle.princ_name.specs.Realms.{is_realm}
 use Rattle.kadm_top.specs.Run.{Opening, RunLeaves, run_end}
 use Rattle.kadm_top.proofs.Making.{good_realm}
 use Rattle.kadm_top.proofs.run.create.Goals as goal
