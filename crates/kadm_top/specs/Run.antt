@@ -74,9 +74,9 @@ pub record RunEnd : Type 0 where
 abbrev pub refusal_line : Refusal → List ℕ
 refusal_line refusal = reply_text (Refused refusal)
 
--- a database that is made has no rows; its control slot says that a log is to hold 1000 entries in blocks of 2048 bytes
+-- a database that is made has no rows and no stash; its control slot says that a log is to hold 1000 entries in blocks of 2048 bytes
 abbrev pub made : List ℕ → Moment → Place
-made realm moment = created realm (record { princs = []; policies = [] }) (record { sno = 1; time = moment }) 1000 2048
+made realm moment = created realm (record { princs = []; policies = [] }) (record { sno = 1; time = moment }) 1000 2048 None
 
 abbrev pub end_of : Ending → RunEnd
 end_of end = record { out = end.out; refused = end.refused; found = Some (Ok end.place); moments = Some end.moments }

@@ -45,7 +45,7 @@ outcome place command moment = step (state_of place) (call_of place command mome
 
 -- the place with the rows and the point of a state
 abbrev pub place_at : State → Place → Place
-place_at s place = record { realm = place.realm; point = s.point; rows = s.rows; base = place.base; size = place.size; block = place.block }
+place_at s place = record { realm = place.realm; point = s.point; rows = s.rows; base = place.base; size = place.size; block = place.block; stash = place.stash }
 
 -- a skipped line has no reply
 unfoldable pub reply_to : Asked → Place → Moment → Option Reply

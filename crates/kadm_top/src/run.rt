@@ -168,7 +168,7 @@ fn first_point(moment: Time) -> Point
     }
 }
 
-/// Makes the files of a database of this realm, without a row.
+/// Makes the files of a database of this realm, without a row and without a stash.
 fn make_files<D: Disk>(alloc: Global, realm: &Blob, disk: &mut D, moment: Time) -> Result<(), Stop>
     requires { is_realm realm.now ≡ true }
     ensures answer { D.tells → AnswersMade result (in_force ((D.view disk.old).seen 0)) }
@@ -181,7 +181,16 @@ fn make_files<D: Disk>(alloc: Global, realm: &Blob, disk: &mut D, moment: Time) 
 {
     let rows = no_rows(alloc);
     let base = first_point(moment);
-    match create_files(alloc, disk, realm.as_slice(), rows, base, LOG_SIZE, BLOCK) {
+    match create_files(
+        alloc,
+        disk,
+        realm.as_slice(),
+        rows,
+        base,
+        LOG_SIZE,
+        BLOCK,
+        None,
+    ) {
         Ok(_) => Ok(()),
         Err(stop) => Err(stop),
     }

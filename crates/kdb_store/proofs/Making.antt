@@ -1,13 +1,13 @@
 -- Runs that open, make or end a database.
-use Rattle.std.proofs.Common.{◌≡◌, ◌≢◌, ℕ, ◌≤◌, inl, inr, ⊎_elim, Err, sym, ◌∙◌, ap, arith}
+use Rattle.std.proofs.Common.{◌≡◌, ◌≢◌, ℕ, ◌≤◌, inl, inr, ⊎_elim, List, Option, Some, None, Err, sym, ◌∙◌, ap, arith}
 use Rattle.kdb_base.specs.declared.outcomes.Refusal.{Refusal}
 use Rattle.kdb_base.specs.declared.outcomes.Refusal.TheVariants.{NotADatabase, Damaged}
 use Rattle.kdb_base.specs.declared.outcomes.Stop.{Stop}
 use Rattle.kdb_base.specs.declared.outcomes.Stop.TheVariants.{Refused, Halt}
 use Rattle.kdb_disk.specs.Files.{Files}
-use Rattle.kdb_disk.specs.View.{View}
-use Rattle.kdb_disk.specs.Moments.{LeavesOnly, IsSettled}
-use Rattle.kdb_disk.proofs.Runs.{weaken}
+use Rattle.kdb_disk.specs.View.{View, IsAfter}
+use Rattle.kdb_disk.specs.Moments.{LeavesOnly, IsSettled, Differs, Replaced}
+use Rattle.kdb_disk.proofs.Runs.{weaken, started, then_on}
 use Rattle.kdb_control.specs.Choice.{Choice}
 use Rattle.kdb_control.specs.Force.{in_force}
 use Rattle.kdb_control.specs.declared.force.Force.{Force}
@@ -15,9 +15,11 @@ use Rattle.kdb_control.specs.declared.force.Force.TheVariants.{Nothing, Is, Brok
 use Rattle.kdb_control.specs.Moments.{HasInForce, Erases}
 use Rattle.kdb_store.specs.Images.{image_in}
 use Rattle.kdb_store.specs.Places.{found_by, found_in}
-use Rattle.kdb_store.specs.Moments.{HasFound, Destroys, RecoversToNone}
+use Rattle.kdb_store.specs.Moments.{HasNone, HasFound, HasStash, FindsEither, Destroys, RecoversToNone}
+use Rattle.kdb_store.specs.Steps.{first_stash}
+use Rattle.kdb_store.specs.declared.opened.Opened.{Opened}
 use Rattle.kdb_store.specs.Stores.{Answers, FindsImage, Chooses, RefusesEnd}
-use Rattle.kdb_store.proofs.Finding.{found_alike, found_none, found_damaged}
+use Rattle.kdb_store.proofs.Finding.{found_alike, found_none, found_damaged, control_spare, still_found, stash_of_one, stash_of_none}
 
 -- ---- opening
 
@@ -43,14 +45,42 @@ no_image (Halt halt) files choice file force same found = tt
 pub settled_nothing : {v : View} → IsSettled v → in_force (v.seen 0) ≡ Nothing → HasFound (Err NotADatabase) v
 settled_nothing {v} settled nothing c now = found_none c (ap (λ (files : Files). in_force (files 0)) (settled.only c now) ∙ nothing)
 
+-- a stash is written while nothing is in force
+pub nothing_still : {old new : View} (file : ℕ) → 1 ≤ file → HasInForce Nothing old → LeavesOnly old new (IsAfter (Differs file) old) → LeavesOnly old new HasNone
+nothing_still file one nothing run = weaken run (λ c from. still_found file Nothing (Err NotADatabase) c one tt nothing (λ d now. found_none d (nothing d now)) from)
+
+pub nothing_yet : (v : View) → HasInForce Nothing v → LeavesOnly v v HasNone
+nothing_yet v nothing = started v HasNone (λ c now. found_none c (nothing c now))
+
+-- the stash that was written, or none, is the one that a first choice names
+pub stash_stands : {old new : View} (choice : Choice) (stash : Option (List ℕ)) (bytes : List ℕ) → stash ≡ Some bytes → choice.stash ≡ first_stash stash → Replaced 5 bytes old new → HasStash choice stash new
+stash_stands choice stash bytes some is replaced c now =
+    let here : choice.stash ≡ 5 = is ∙ ap first_stash some in
+    stash_of_one choice c (λ none. absurd (omega (arith, here, none))) ∙ ap (λ (g : ℕ). Some (c g)) here ∙ ap Some (replaced.durable c now) ∙ sym some
+
+pub no_stash : (v : View) (choice : Choice) (stash : Option (List ℕ)) → stash ≡ None → choice.stash ≡ first_stash stash → HasStash choice stash v
+no_stash v choice stash none is c now = stash_of_none choice c (is ∙ ap first_stash none) ∙ sym none
+
+-- and its file is behind those of the images
+pub first_behind : (choice : Choice) (stash : Option (List ℕ)) → choice.stash ≡ first_stash stash → choice.stash ≢ 0 → 5 ≤ choice.stash
+first_behind choice (Some bytes) is some = omega (arith, is)
+first_behind choice None is some = absurd (some is)
+
+-- nothing is in force while it is written
+pub none_yet : {old new : View} (after : Opened) → LeavesOnly old new HasNone → LeavesOnly old new (FindsEither (Err NotADatabase) after)
+none_yet after run = weaken run (λ c none. inl none)
+
+-- the stash is written, and then the first image put into force
+pub first_made : {old mid new : View} (after : Opened) → LeavesOnly old mid HasNone → LeavesOnly mid new (FindsEither (Err NotADatabase) after) → LeavesOnly old new (FindsEither (Err NotADatabase) after)
+first_made {old} {mid} {new} after first next = then_on {P = FindsEither (Err NotADatabase) after} (none_yet after first) next (λ c either. either)
+
 -- ---- ending
 
 -- the slots are closed, and the files cut
 pub erased_all : {old new : View} (control : Choice) → 1 ≤ control.image → HasInForce (Is control) old → LeavesOnly old new (Erases control old) → LeavesOnly old new (Destroys old)
 erased_all {old} control low has run = weaken {P = Destroys old} run (λ c either. ⊎_elim
     (λ l.
-    let apart : control.image ≢ 0 = λ e. absurd (omega (arith, low, e)) in
-    inl (record { before = l.before; was = l.was; same = found_alike c l.before 0 (Is control) (apart, apart) l.here (has l.before l.was) (λ g ne _. l.others g ne) }))
+    inl (record { before = l.before; was = l.was; same = found_alike c l.before 0 (Is control) (control_spare control low) l.here (has l.before l.was) (λ g ne _. l.others g ne) }))
     (λ none. inr (found_none c none.is))
     either)
 

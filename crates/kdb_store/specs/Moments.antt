@@ -1,12 +1,13 @@
 -- What a crash may leave while a database is made, changed or ended.
-use Rattle.std.specs.Prelude.{ℕ, ◌≡◌, ◌≢◌, ◌⊎◌, Result, Ok, Err}
+use Rattle.std.specs.Prelude.{ℕ, ◌≡◌, ◌≢◌, ◌⊎◌, List, Option, Result, Ok, Err}
 use Rattle.kdb_base.specs.declared.outcomes.Refusal.{Refusal}
 use Rattle.kdb_base.specs.declared.outcomes.Refusal.TheVariants.{NotADatabase}
-use Rattle.kdb_disk.specs.Files.{Files}
+use Rattle.kdb_disk.specs.Files.{Files, with_file}
 use Rattle.kdb_disk.specs.View.{View}
+use Rattle.kdb_control.specs.Choice.{Choice}
 use Rattle.kdb_control.specs.declared.force.Force.{Force}
 use Rattle.kdb_control.specs.declared.force.Force.TheVariants.{Nothing, Is, Broken}
-use Rattle.kdb_store.specs.Places.{Place, found_in, recovers}
+use Rattle.kdb_store.specs.Places.{Place, stash_in, found_by, found_in, recovers}
 use Rattle.kdb_store.specs.declared.opened.Opened.{Opened}
 
 -- the files stand for no database
@@ -35,9 +36,9 @@ Creates old made files = IsLike old files ⊎ (HasNone files ⊎ (recovers files
 abbrev pub Destroys : View → Files → Type 0
 Destroys old files = IsLike old files ⊎ HasNone files
 
--- what is in force names another file than this one
+-- what is in force names other files than this one, for its image and for its stash
 abbrev pub IsSpare : ℕ → Force → Type 0
-IsSpare file (Is choice) = (choice.image ≢ 0) × (choice.image ≢ file)
+IsSpare file (Is choice) = (choice.image ≢ 0) × ((choice.image ≢ file) × (choice.stash ≢ 0 → choice.stash ≢ file))
 IsSpare file Nothing = Unit {0}
 IsSpare file (Broken place) = Unit {0}
 
@@ -48,3 +49,11 @@ HasFound found now = (c : Files) → now.images c → found_in c ≡ found
 -- what was found before is found still, or this
 abbrev pub FindsEither : Result Opened Refusal → Opened → Files → Type 0
 FindsEither before after files = (found_in files ≡ before) ⊎ (found_in files ≡ Ok after)
+
+-- whatever a crash leaves has this stash in the file that the choice names
+abbrev pub HasStash : Choice → Option (List ℕ) → View → Type 0
+HasStash choice stash now = (c : Files) → now.images c → stash_in choice c ≡ stash
+
+-- whatever a crash leaves would be found to be this, were the choice in force and this the content of the file
+abbrev pub WouldFind : Choice → ℕ → List ℕ → Opened → View → Type 0
+WouldFind choice file content opened now = (c : Files) → now.images c → found_by (Is choice) (with_file file content c) ≡ Ok opened

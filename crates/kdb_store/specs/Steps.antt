@@ -1,5 +1,5 @@
 -- What a change does to a place.
-use Rattle.std.specs.Prelude.{ℕ, ◌+◌, ◌-◌, List, Some}
+use Rattle.std.specs.Prelude.{ℕ, ◌+◌, ◌-◌, List, Option, Some, None, nat_eq, if◌then◌else◌}
 use Rattle.kdb_base.specs.Moment.{Moment}
 use Rattle.kdb_base.specs.declared.moments.Point.{Point}
 use Rattle.kdb_control.specs.Choice.{Choice}
@@ -27,20 +27,46 @@ committed op time place = record {
   base = place.base;
   size = place.size;
   block = place.block;
+  stash = place.stash;
 }
 
 -- the place of a database that was made anew
-abbrev pub created : List ℕ → RowLists → Point → ℕ → ℕ → Place
-created realm rows base size block = record { realm = realm; point = base; rows = rows; base = base; size = size; block = block }
+abbrev pub created : List ℕ → RowLists → Point → ℕ → ℕ → Option (List ℕ) → Place
+created realm rows base size block stash = record { realm = realm; point = base; rows = rows; base = base; size = size; block = block; stash = stash }
+
+-- the place with these bytes as its stash
+abbrev pub restashed : List ℕ → Place → Place
+restashed bytes place = record {
+  realm = place.realm;
+  point = place.point;
+  rows = place.rows;
+  base = place.base;
+  size = place.size;
+  block = place.block;
+  stash = Some bytes;
+}
+
+-- the stash file of a database that was made anew: the first of the two, or 0 for none
+abbrev pub first_stash : Option (List ℕ) → ℕ
+first_stash (Some bytes) = 5
+first_stash None = 0
 
 -- the choice of files of a database that was made anew: its image in the first of the image files, its log in the first of
--- the log files, and no stash
-abbrev pub first_choice : Point → ℕ → ℕ → Choice
-first_choice base size block = record { turn = 0; image = 1; log = 3; stash = 0; size = size; block = block; base = base }
+-- the log files, and its stash, where it has one, in the first of the stash files
+abbrev pub first_choice : Point → ℕ → ℕ → Option (List ℕ) → Choice
+first_choice base size block stash = record { turn = 0; image = 1; log = 3; stash = first_stash stash; size = size; block = block; base = base }
 
 -- the choice of files that comes next: the next turn, the image in the other image file, and all else the same
 abbrev pub next_choice : Choice → Choice
 next_choice c = record { turn = turn_after c.turn; image = 3 - c.image; log = c.log; stash = c.stash; size = c.size; block = c.block; base = c.base }
+
+-- the stash file that is not in force: the first of the two where there is no stash
+unfoldable pub spare_stash : ℕ → ℕ
+spare_stash file = if nat_eq file 5 then 6 else 5
+
+-- the choice of files after a change of the stash: the next turn, the stash in the spare stash file, and all else the same
+abbrev pub stash_choice : Choice → Choice
+stash_choice c = record { turn = turn_after c.turn; image = c.image; log = c.log; stash = spare_stash c.stash; size = c.size; block = c.block; base = c.base }
 
 -- the image after a change
 abbrev pub changed : Op → Point → Image → Image
@@ -52,4 +78,8 @@ with_begun begun point i = record { realm = i.realm; point = point; rows = finis
 
 -- what the files hold after a change
 abbrev pub after_change : Op → Point → Opened → Opened
-after_change op point o = record { control = next_choice o.control; image = changed op point o.image }
+after_change op point o = record { control = next_choice o.control; image = changed op point o.image; stash = o.stash }
+
+-- and after a change of the stash
+abbrev pub after_stash : List ℕ → Opened → Opened
+after_stash bytes o = record { control = stash_choice o.control; image = o.image; stash = Some bytes }

@@ -1,5 +1,5 @@
 //! A change of the rows: begun in memory, written into the spare image file, put into force, and finished.
-ghost use Rattle.std.specs.Prelude.{◌≡◌, ◌≤◌, IfOk, OnOk, OnErr, Result, Ok, Err, Some};
+ghost use Rattle.std.specs.Prelude.{◌≡◌, ◌≤◌, ℕ, List, Option, IfOk, OnOk, OnErr, Result, Ok, Err, Some};
 ghost use Rattle.kdb_base.specs.Causes.{Rose};
 ghost use Rattle.kdb_base.specs.declared.moments.Point.{Point};
 ghost use Rattle.kdb_base.specs.declared.outcomes.Refusal.{Refusal};
@@ -14,11 +14,11 @@ ghost use Rattle.princ_record.specs.Undoing.{IsNewName};
 ghost use Rattle.kdb_store.specs.declared.opened.Opened.{Opened as OpenedFiles};
 ghost use Rattle.kdb_store.specs.Places.{Holds};
 ghost use Rattle.kdb_store.specs.Steps.{next_choice, with_begun, after_change};
-ghost use Rattle.kdb_store.specs.Moments.{IsSpare, HasFound, FindsEither};
+ghost use Rattle.kdb_store.specs.Moments.{IsSpare, HasFound, HasStash, FindsEither};
 
 use crate::image::{Image, changed_text};
 use crate::opened::Opened;
-use crate::putting::put_into_force;
+use crate::putting::{image_file, put_into_force};
 use kdb_base::{Halt, Point};
 use kdb_control::Control;
 use kdb_disk::Disk;
@@ -28,6 +28,7 @@ use std::alloc::Global;
 // The choice of files that comes next.
 fn next_control(now: &Control) -> Control
     ensures value { result ≡ next_choice now.now }
+    ensures low { 1 ≤ result.image }
     ensures spare { IsSpare result.image (Is now.now) }
 {
     Control {
@@ -53,8 +54,8 @@ fn write_next<D: Disk>(
 ) -> Result<Control, Halt>
     requires { D.tells → HasInForce (Is now.now) (D.view disk.old) }
     ensures next { IfOk result (λ next. next ≡ next_choice now.now) }
-    ensures holds { D.tells → OnOk result (Holds (record { control = next_choice now.now; image = with_begun begun.now point.now image.now }) (D.view disk.new)) }
-    ensures moments { D.tells → (before : Result OpenedFiles Refusal) → HasFound before (D.view disk.old) → LeavesOnly (D.view disk.old) (D.view disk.new) (FindsEither before (record { control = next_choice now.now; image = with_begun begun.now point.now image.now })) }
+    ensures holds { D.tells → (stash : Option (List ℕ)) → HasStash now.now stash (D.view disk.old) → OnOk result (Holds (record { control = next_choice now.now; image = with_begun begun.now point.now image.now; stash = stash }) (D.view disk.new)) }
+    ensures moments { D.tells → (before : Result OpenedFiles Refusal) (stash : Option (List ℕ)) → HasFound before (D.view disk.old) → HasStash now.now stash (D.view disk.old) → LeavesOnly (D.view disk.old) (D.view disk.new) (FindsEither before (record { control = next_choice now.now; image = with_begun begun.now point.now image.now; stash = stash })) }
     ensures memory { result ≡ Err MemoryOut → disk.new ≡ disk.old }
     ensures same { D.loans disk.new ≡ D.loans disk.old }
     ensures later { D.faults disk.old ≤ D.faults disk.new }
@@ -63,7 +64,8 @@ fn write_next<D: Disk>(
     match changed_text(alloc, image, point, begun) {
         Ok(text) => {
             let next = next_control(now);
-            match put_into_force(disk, Some(now), &next, &text) {
+            let file = image_file(&next);
+            match put_into_force(disk, Some(now), &next, file, &text) {
                 Ok(()) => Ok(next),
                 Err(_) => Err(Halt::DiskFault),
             }
@@ -74,7 +76,7 @@ fn write_next<D: Disk>(
 
 // Does in memory what is in force.
 fn finish(opened: &mut Opened, next: Control, point: Point, begun: Begun)
-    ensures { opened.new ≡ record { control = next; image = with_begun begun point opened.old.image } }
+    ensures { opened.new ≡ record { control = next; image = with_begun begun point opened.old.image; stash = opened.old.stash } }
 {
     opened.control = next;
     opened.image.point = point;

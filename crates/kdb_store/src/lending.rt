@@ -8,11 +8,12 @@ ghost use Rattle.princ_record.specs.Effects.{effect, IsRoom};
 ghost use Rattle.princ_record.specs.Entries.{IsOp};
 ghost use Rattle.princ_record.specs.Undoing.{IsNewName};
 ghost use Rattle.kdb_store.specs.Places.{place_of, Holds};
-ghost use Rattle.kdb_store.specs.Steps.{committed, next_choice};
+ghost use Rattle.kdb_store.specs.Steps.{committed, next_choice, restashed, stash_choice};
 ghost use Rattle.kdb_store.specs.Moments.{RecoversEither};
 
 use crate::changing::change;
 use crate::opened::Opened;
+use crate::stashing::restash;
 use kdb_base::{Halt, Point, Time};
 use kdb_disk::Disk;
 use princ_record::Op;
@@ -51,6 +52,34 @@ impl Opened {
         let point = Point { sno, time };
         match change(alloc, disk, self, op, Point { sno, time }) {
             Ok(()) => Ok(point),
+            Err(halt) => Err(halt),
+        }
+    }
+
+    /// Makes these bytes the stash, in place of what was the stash or of none. No change of the rows is
+    /// made. Memory is taken before the first device call.
+    ///
+    /// At each moment a crash leaves the place before or the one with the new stash. After `DiskFault`
+    /// the disk is to be opened again.
+    pub fn put_stash<D: Disk>(
+        &mut self,
+        alloc: Global,
+        disk: &mut D,
+        bytes: &[u8],
+    ) -> Result<(), Halt>
+        requires holds { D.tells → Holds self.old (D.view disk.old) }
+        ensures place { OnOk result (place_of self.new ≡ restashed bytes.now (place_of self.old)) }
+        ensures control { OnOk result (self.new.control ≡ stash_choice self.old.control) }
+        ensures holds { D.tells → OnOk result (Holds self.new (D.view disk.new)) }
+        ensures moments { D.tells → LeavesOnly (D.view disk.old) (D.view disk.new) (RecoversEither (place_of self.old) (restashed bytes.now (place_of self.old))) }
+        ensures err { OnErr result (self.new ≡ self.old) }
+        ensures memory { result ≡ Err Halt.MemoryOut → disk.new ≡ disk.old }
+        ensures same { D.loans disk.new ≡ D.loans disk.old }
+        ensures later { D.faults disk.old ≤ D.faults disk.new }
+        ensures cause { result ≡ Err Halt.DiskFault → Rose (D.faults disk.old) (D.faults disk.new) }
+    {
+        match restash(alloc, disk, self, bytes) {
+            Ok(()) => Ok(()),
             Err(halt) => Err(halt),
         }
     }

@@ -1,18 +1,21 @@
-ghost use Rattle.std.specs.Prelude.{◌≡◌, ◌≢◌, ◌≤◌, ◌↔◌, ◌-◌, Contains, IfSome, IsTrue, None, Some};
+ghost use Rattle.std.specs.Prelude.{◌≡◌, ◌≢◌, ◌≤◌, ◌↔◌, ◌-◌, Contains, IfSome, IsTrue, None, Some, option_map};
 ghost use Rattle.std.specs.List.{All};
 ghost use Rattle.princ_record.specs.Entries.{IsOp};
 ghost use Rattle.kdb_store.specs.Steps.{entry_length};
 
 use crate::image::Image;
+use kdb_base::Blob;
 use kdb_control::Control;
 use policy_rules::Policy;
 use princ_record::{Op, Princ, Rows, encoded_len};
 
-/// What the files of a disk hold: the choice of files in force, and the image that it names.
-#[derive(Debug, Drop)]
+/// What the files of a disk hold: the choice of files in force, and the image and the stash that it
+/// names. It cannot be printed, since the bytes of a stash open a database without a password.
+#[derive(Drop)]
 pub struct Opened {
     pub control: Control,
     pub image: Image,
+    pub stash: Option<Blob>,
 }
 
 // How many bytes the entry of a change has in a log: its key and its row, and what stands before them.
@@ -63,6 +66,16 @@ impl Opened {
         ensures none { result ≡ None → All (λ p. p.name ≢ key.now) self.now.image.rows.policies }
     {
         self.image.rows.policy(key)
+    }
+
+    /// The bytes of the stash, where there is one.
+    pub fn stash(&self) -> Option<&[u8]>
+        ensures { option_map (λ b. b.now) result ≡ self.now.stash }
+    {
+        match &self.stash {
+            Some(stash) => Some(stash.as_slice()),
+            None => None,
+        }
     }
 
     /// The principals and the policies, in the order of their keys.

@@ -1,5 +1,5 @@
 //! A database over a disk that it holds.
-ghost use Rattle.std.specs.Prelude.{◌≡◌, ◌≢◌, ◌≤◌, ◌<◌, ◌-◌, ◌↔◌, ◌&&◌, ℕ, [], false, true, nat_le, IfOk, IfSome, OnOk, OnErr, IsTrue, None, Some, Ok, Err};
+ghost use Rattle.std.specs.Prelude.{◌≡◌, ◌≢◌, ◌≤◌, ◌<◌, ◌-◌, ◌↔◌, ◌&&◌, ℕ, [], false, true, nat_le, IfOk, IfSome, OnOk, OnErr, IsTrue, None, Some, Ok, Err, option_map};
 ghost use Rattle.std.specs.List.{All, Contains};
 ghost use Rattle.kdb_base.specs.Causes.{Rose, HasCause};
 ghost use Rattle.kdb_base.specs.Moments.{micros};
@@ -14,13 +14,14 @@ ghost use Rattle.princ_record.specs.Entries.{IsOp};
 ghost use Rattle.princ_record.specs.Undoing.{IsNewName};
 ghost use Rattle.princ_name.specs.Realms.{IsRealm};
 ghost use Rattle.kdb_store.specs.Places.{place_of, Holds};
-ghost use Rattle.kdb_store.specs.Steps.{committed, created, entry_length, first_choice, next_choice};
+ghost use Rattle.kdb_store.specs.Steps.{committed, created, entry_length, first_choice, next_choice, restashed, stash_choice};
 ghost use Rattle.kdb_store.specs.Stores.{Answers, AnswersMade, disk_after, answer_of, returned};
 ghost use Rattle.kdb_store.specs.Moments.{RecoversEither, RecoversToNone, Creates, Destroys};
 
 use crate::changing::change;
 use crate::files::{create_files, end_opened, open_files};
 use crate::opened::Opened;
+use crate::stashing::restash;
 use kdb_base::{Halt, Point, Stop, Time};
 use kdb_disk::{Disk, DiskFailed};
 use policy_rules::Policy;
@@ -62,7 +63,8 @@ impl<D: Disk + Drop> Store<D> {
         }
     }
 
-    /// Makes a database of these rows on the disk: see [`crate::files::create_files`].
+    /// Makes a database of these rows on the disk, with this stash or none: see
+    /// [`crate::files::create_files`].
     pub fn create(
         alloc: Global,
         disk: D,
@@ -71,16 +73,17 @@ impl<D: Disk + Drop> Store<D> {
         base: Point,
         size: u32,
         block: u32,
+        stash: Option<&[u8]>,
     ) -> Result<Store<D>, (D, Stop)>
         requires realm { IsRealm realm.now }
         requires size { nat_le 2 size && nat_le size 10000 ≡ true }
         requires block { nat_le 2048 block && nat_le block 10240 ≡ true }
         ensures answer { D.tells → AnswersMade (answer_of result) (in_force ((D.view disk).seen 0)) }
-        ensures place { IfOk result (λ store. place_of store.opened ≡ created realm.now rows base size block) }
-        ensures control { IfOk result (λ store. store.opened.control ≡ first_choice base size block) }
+        ensures place { IfOk result (λ store. place_of store.opened ≡ created realm.now rows base size block (option_map (λ s. s.now) stash.entry)) }
+        ensures control { IfOk result (λ store. store.opened.control ≡ first_choice base size block (option_map (λ s. s.now) stash.entry)) }
         ensures holds { D.tells → IfOk result (λ store. Holds store.opened (D.view store.disk)) }
         ensures whole { IfOk result (λ store. store.broken ≡ false) }
-        ensures moments { D.tells → LeavesOnly (D.view disk) (D.view (disk_after result)) (Creates (D.view disk) (created realm.now rows base size block)) }
+        ensures moments { D.tells → LeavesOnly (D.view disk) (D.view (disk_after result)) (Creates (D.view disk) (created realm.now rows base size block (option_map (λ s. s.now) stash.entry))) }
         ensures refused { D.tells → (refusal : Refusal) → answer_of result ≡ Err (Refused refusal) → Keeps (D.view disk) (D.view (disk_after result)) }
         ensures there { D.tells → in_force ((D.view disk).seen 0) ≢ Nothing → Keeps (D.view disk) (D.view (disk_after result)) }
         ensures memory { answer_of result ≡ Err (Halts Halt.MemoryOut) → disk_after result ≡ disk }
@@ -89,7 +92,7 @@ impl<D: Disk + Drop> Store<D> {
         ensures cause { answer_of result ≡ Err (Halts Halt.DiskFault) → Rose (D.faults disk) (D.faults (disk_after result)) }
     {
         let mut disk = disk;
-        match create_files(alloc, &mut disk, realm, rows, base, size, block) {
+        match create_files(alloc, &mut disk, realm, rows, base, size, block, stash) {
             Ok(opened) => Ok(Store::over(alloc, disk, opened)),
             Err(stop) => Err((disk, stop)),
         }
@@ -162,6 +165,34 @@ impl<D: Disk + Drop> Store<D> {
         }
     }
 
+    /// Makes these bytes the stash, in place of what was the stash or of none. No change of the rows is
+    /// made. Memory is taken before the first device call.
+    ///
+    /// At each moment a crash leaves the place before or the one with the new stash.
+    pub fn put_stash(&mut self, bytes: &[u8]) -> Result<(), Halt>
+        requires holds { D.tells → Holds self.old.opened (D.view self.old.disk) }
+        requires whole { self.old.broken ≡ false }
+        ensures place { OnOk result (place_of self.new.opened ≡ restashed bytes.now (place_of self.old.opened)) }
+        ensures control { OnOk result (self.new.opened.control ≡ stash_choice self.old.opened.control) }
+        ensures holds { D.tells → OnOk result (Holds self.new.opened (D.view self.new.disk)) }
+        ensures moments { D.tells → LeavesOnly (D.view self.old.disk) (D.view self.new.disk) (RecoversEither (place_of self.old.opened) (restashed bytes.now (place_of self.old.opened))) }
+        ensures err { OnErr result (self.new.opened ≡ self.old.opened) }
+        ensures memory { result ≡ Err Halt.MemoryOut → self.new ≡ self.old }
+        ensures broken { (self.new.broken ≡ true) ↔ (result ≡ Err Halt.DiskFault) }
+        ensures same { D.loans self.new.disk ≡ D.loans self.old.disk }
+        ensures later { D.faults self.old.disk ≤ D.faults self.new.disk }
+        ensures cause { result ≡ Err Halt.DiskFault → Rose (D.faults self.old.disk) (D.faults self.new.disk) }
+    {
+        match restash(self.alloc, &mut self.disk, &mut self.opened, bytes) {
+            Ok(()) => Ok(()),
+            Err(Halt::MemoryOut) => Err(Halt::MemoryOut),
+            Err(Halt::DiskFault) => {
+                self.broken = true;
+                Err(Halt::DiskFault)
+            }
+        }
+    }
+
     /// Ends the database and gives the disk back: its slots are closed, the older one first, and then all
     /// other files are cut to nothing. It takes no memory.
     pub fn destroy(self) -> Result<D, (D, DiskFailed)>
@@ -214,6 +245,13 @@ impl<D: Disk + Drop> Store<D> {
         ensures { result ≡ (self.now.opened.control.base, self.now.opened.image.point) }
     {
         (self.opened.control.base, self.opened.image.point)
+    }
+
+    /// The bytes of the stash, where there is one.
+    pub fn stash(&self) -> Option<&[u8]>
+        ensures { option_map (λ b. b.now) result ≡ self.now.opened.stash }
+    {
+        self.opened.stash()
     }
 
     pub fn realm(&self) -> &[u8]

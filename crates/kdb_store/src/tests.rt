@@ -5,7 +5,7 @@ ghost use Rattle.kdb_store.specs.Places.{Holds};
 
 use super::*;
 use crate::image::image_text;
-use kdb_base::{Blob, Fails, Point, Refusal, Stop, Time};
+use kdb_base::{Blob, Fails, Halt, Point, Refusal, Stop, Time};
 use kdb_disk::{Disk, MemoryDisk, Pick};
 use kdb_format::{FormatFault, read_whole};
 use princ_name::is_realm;
@@ -68,15 +68,24 @@ fn no_rows(alloc: Global) -> Result<Rows, Fail> {
     }
 }
 
-// Makes a database without rows.
-fn create_on(alloc: Global, disk: &mut MemoryDisk) -> Result<Opened, Fail>
+// Makes a database without rows, with this stash or none.
+fn create_on(alloc: Global, disk: &mut MemoryDisk, stash: Option<&[u8]>) -> Result<Opened, Fail>
     ensures holds { IfOk result (λ opened. Holds opened (⟦<MemoryDisk as Disk>⟧.view disk.new)) }
     ensures point { IfOk result (λ opened. opened.image.point ≡ record { sno = 1; time = record { secs = 1700000000; usecs = 0 } }) }
 {
     if !is_realm(REALM) {
         return Err(Fail::from(Unexpected));
     }
-    match create_files(alloc, disk, REALM, no_rows(alloc)?, base(), 1000, 2048) {
+    match create_files(
+        alloc,
+        disk,
+        REALM,
+        no_rows(alloc)?,
+        base(),
+        1000,
+        2048,
+        stash,
+    ) {
         Ok(opened) => Ok(opened),
         Err(stop) => Err(Fail::from(stop)),
     }
@@ -149,7 +158,16 @@ fn create_again(alloc: Global, disk: MemoryDisk) -> Result<MemoryDisk, Fail> {
     if !is_realm(REALM) {
         return Err(Fail::from(Unexpected));
     }
-    match Store::create(alloc, disk, REALM, no_rows(alloc)?, base(), 1000, 2048) {
+    match Store::create(
+        alloc,
+        disk,
+        REALM,
+        no_rows(alloc)?,
+        base(),
+        1000,
+        2048,
+        None,
+    ) {
         Err((disk, Stop::Refused(Refusal::AlreadyThere))) => Ok(disk),
         _ => Err(Fail::from(Unexpected)),
     }
@@ -213,7 +231,7 @@ fn check_stops(
 fn a_database_is_made_changed_and_ended(rt: HostRuntime) -> Result<(), Fail> {
     let alloc = rt.alloc();
     let mut disk = MemoryDisk::new(alloc, Fails::none(alloc))?;
-    let mut opened = create_on(alloc, &mut disk)?;
+    let mut opened = create_on(alloc, &mut disk, None)?;
     let made = disk.calls();
     let rest = disk.bytes(0).strip_prefix(&FIRST_SLOT);
     assert_eq!(rt; rest.map(|zeros| zeros.len()), Some(34));
@@ -238,6 +256,70 @@ fn a_database_is_made_changed_and_ended(rt: HostRuntime) -> Result<(), Fail> {
     check_stops(&rt, alloc, &disk, put, dropped, with_alice, without)?;
     check_stops(&rt, alloc, &disk, dropped, refused, without, without)?;
     check_stops(&rt, alloc, &disk, refused, ended, without, None)
+}
+
+const FIRST_STASH: &[u8] = &[1, 2, 3];
+
+const SECOND_STASH: &[u8] = &[4, 5, 6, 7];
+
+// Makes a database with the first stash.
+fn create_stashed(alloc: Global, fails: Fails) -> Result<MemoryDisk, Fail> {
+    let mut disk = MemoryDisk::new(alloc, fails)?;
+    create_on(alloc, &mut disk, Some(FIRST_STASH))?;
+    Ok(disk)
+}
+
+// Opens it, and puts the second stash in place of the first, as far as the disk does not fail.
+fn restash_on(alloc: Global, disk: MemoryDisk) -> Result<MemoryDisk, Fail> {
+    let mut store = match Store::recover(alloc, disk) {
+        Ok(store) => store,
+        Err((disk, Stop::Halt(Halt::DiskFault))) => return Ok(disk),
+        Err((_, stop)) => return Err(Fail::from(stop)),
+    };
+    if store.stash() != Some(FIRST_STASH) {
+        return Err(Fail::from(Unexpected));
+    }
+    match store.put_stash(SECOND_STASH) {
+        Ok(()) if store.stash() == Some(SECOND_STASH) => Ok(store.into_disk()),
+        Err(Halt::DiskFault) if store.broken() => Ok(store.into_disk()),
+        _ => Err(Fail::from(Unexpected)),
+    }
+}
+
+// Whether the files of a disk hold the second stash, where they hold one of the two.
+fn is_restashed(alloc: Global, disk: MemoryDisk) -> Result<bool, Fail> {
+    let store = match Store::recover(alloc, disk) {
+        Ok(store) => store,
+        Err((_, stop)) => return Err(Fail::from(stop)),
+    };
+    let restashed = store.stash() == Some(SECOND_STASH);
+    if !restashed && store.stash() != Some(FIRST_STASH) {
+        return Err(Fail::from(Unexpected));
+    }
+    Ok(restashed)
+}
+
+#[test]
+fn a_stash_is_kept_and_replaced(rt: HostRuntime) -> Result<(), Fail> {
+    let alloc = rt.alloc();
+    let disk = create_stashed(alloc, Fails::none(alloc))?;
+    let made = disk.calls();
+    assert_eq!(rt; disk.bytes(5), FIRST_STASH);
+    assert_eq!(rt; disk.bytes(6).len(), 0);
+    let disk = restash_on(alloc, disk)?;
+    let put = disk.calls();
+    assert_eq!(rt; disk.bytes(5), FIRST_STASH);
+    assert_eq!(rt; disk.bytes(6), SECOND_STASH);
+    for call in made..put {
+        assert!(rt; call < disk.calls());
+        is_restashed(alloc, disk.image_at(alloc, call, Pick::Noise)?)?;
+        let mut calls = Vec::new(alloc);
+        calls.push(call)?;
+        let failing = create_stashed(alloc, Fails::from_vec(calls))?;
+        is_restashed(alloc, restash_on(alloc, failing)?)?;
+    }
+    assert!(rt; is_restashed(alloc, disk)?);
+    Ok(())
 }
 
 // The serial 1, and then a number of rows and the rows.

@@ -1,5 +1,5 @@
 use Rattle.std.proofs.Common.{◌∙◌, sym, subst}
-use Rattle.std.specs.Prelude.{Result, Ok, OnOk}
+use Rattle.std.specs.Prelude.{Result, None, Ok, OnOk}
 use Rattle.kdb_base.specs.declared.outcomes.Stop.{Stop}
 use Rattle.kdb_disk.specs.Moments.{LeavesOnly}
 use Rattle.kdb_store.specs.Places.{Place}
@@ -17,11 +17,11 @@ returns-clause-stands g c = λ told.
     elim c.match-create_files.branch [
       | in-Ok w ↦ subst P (sym w.result-is)
           (opened_stands (c.create_files.ensures.holds told w.in-Ok.field-0 w.in-Ok.is)
-          (c.create_files.ensures.place w.in-Ok.field-0 w.in-Ok.is ∙ (λ i. created (c.as_slice.ensures i) (c.no_rows-rows.ensures i) (c.first_point-base.ensures i) 1000 2048)))
+          (c.create_files.ensures.place w.in-Ok.field-0 w.in-Ok.is ∙ (λ i. created (c.as_slice.ensures i) (c.no_rows-rows.ensures i) (c.first_point-base.ensures i) 1000 2048 None)))
       | in-Err w ↦ subst P (sym w.result-is) tt
     ]
 
 pub returns-clause-moments : goal.returns-clause-moments
 returns-clause-moments g c = λ told.
     subst (λ (p : Place). LeavesOnly (g.D.Disk.view c.args.disk.now) (g.D.Disk.view c.create_files.new.disk) (Creates (g.D.Disk.view c.args.disk.now) p))
-    (λ i. created (c.as_slice.ensures i) (c.no_rows-rows.ensures i) (c.first_point-base.ensures i) 1000 2048) (c.create_files.ensures.moments told)
+    (λ i. created (c.as_slice.ensures i) (c.no_rows-rows.ensures i) (c.first_point-base.ensures i) 1000 2048 None) (c.create_files.ensures.moments told)

@@ -1,7 +1,7 @@
 use Rattle.std.proofs.Common.{◌≡◌, ◌≢◌, ◌-◌, ◌∙◌, sym, ap, ℕ, arith}
 use Rattle.kdb_control.specs.Choice.{Choice, in_ranges}
 use Rattle.kdb_control.specs.Force.{turn_after}
-use Rattle.kdb_store.proofs.Ranges.{image_low, image_high, next_in_ranges}
+use Rattle.kdb_store.proofs.Ranges.{image_low, image_high, stash_low, next_in_ranges}
 use Rattle.kdb_store.proofs.changing.next_control.Goals as goal
 
 pub overflow_sub-result : goal.overflow_sub-result
@@ -21,4 +21,14 @@ returns-clause-spare c =
     let high = image_high i.turn i.image i.log i.stash i.size i.block c.now.invariant in
     let apart : c.args.now.now.image ≢ 0 = λ e. absurd (omega (arith, low, same, e)) in
     let other : c.args.now.now.image ≢ 3 - i.image = λ e. absurd (omega (arith, low, high, same, e)) in
-    (apart, other)
+    let stash : c.args.now.now.stash ≡ i.stash = ap (λ (x : Choice). x.stash) (sym c.now.view_is) in
+    let behind : c.args.now.now.stash ≢ 0 → c.args.now.now.stash ≢ 3 - i.image = λ some e.
+    let far = stash_low i.turn i.image i.log i.stash i.size i.block c.now.invariant (λ none. some (stash ∙ none)) in
+    absurd (omega (arith, far, stash, low, e)) in
+    (apart, (other, behind))
+
+pub returns-clause-low : goal.returns-clause-low
+returns-clause-low c =
+    let i = c.now.inside in
+    let high = image_high i.turn i.image i.log i.stash i.size i.block c.now.invariant in
+    omega (arith, high)
