@@ -1,0 +1,11 @@
+pub mod Texts
+pub mod Letters
+pub mod Patterns
+pub mod Restrictions
+pub mod Rules
+pub mod Decisions
+pub mod Restricting
+pub mod Joining
+pub mod Taking
+pub mod Reading
+pub mod Answers

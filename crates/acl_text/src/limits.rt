@@ -1,0 +1,264 @@
+//! What restrictions put in force.
+
+ghost use Rattle.std.specs.Prelude.{◌≡◌, IfOk, OnErr, OnOk, is_some, option_map, true, unwrap_or};
+ghost use Rattle.acl_text.specs.Restricting.{counted_from, lesser, names_policy, restricted};
+ghost use Rattle.acl_text.specs.Restrictions.{bits_of, limits_by, limits_of, policy_in, policy_of, seconds_in, seconds_of, with_flag};
+
+use crate::restrictions::{Restriction, Setting, are_single, read_restrictions, same_setting};
+use kdb_base::{Blob, MemoryOut, Time};
+use std::alloc::Global;
+
+/// The restrictions of a line. No bit is forced both on and off.
+#[derive(Debug, Drop)]
+pub struct Limits {
+    /// Attribute bits that are forced on.
+    pub set: u32,
+    /// Attribute bits that are forced off.
+    pub clear: u32,
+    /// The policy that is forced, or `Some(None)` where it is taken away.
+    pub policy: Option<Option<Blob>>,
+    /// How long the principal lives at most, in seconds from the moment of the change on.
+    pub expire: Option<u32>,
+    /// How long its password serves at most, in seconds from the moment of the change on.
+    pub pw_expire: Option<u32>,
+    /// The longest life of a ticket, in seconds.
+    pub max_life: Option<u32>,
+    /// The longest life of a ticket with its renewals, in seconds.
+    pub max_renew: Option<u32>,
+}
+
+/// The fields of a principal that addprinc or modprinc is to write.
+#[derive(Debug, Drop)]
+pub struct Wanted {
+    /// Attribute bits.
+    pub attributes: u32,
+    /// The name of the policy.
+    pub policy: Option<Blob>,
+    /// When the principal expires, in seconds since 1970; 0 for never.
+    pub expire: u32,
+    /// When its password expires, in seconds since 1970; 0 for never.
+    pub pw_expire: u32,
+    /// The longest life of a ticket, in seconds; 0 is endless.
+    pub max_life: u32,
+    /// The longest life of a ticket with its renewals, in seconds; 0 is endless.
+    pub max_renew: u32,
+}
+
+// The bits that are forced on, and those that are forced off.
+#[derive(Clone, Copy, Debug)]
+struct Bits {
+    set: u32,
+    clear: u32,
+}
+
+// The bits with one more flag, which counts for more than those before it.
+#[tactic(auto, unfolding(crate::specs::Restrictions::with_flag))]
+fn with_flag(bits: &Bits, restriction: &Restriction) -> Bits
+    ensures { result ≡ with_flag bits.now restriction.now }
+{
+    match restriction {
+        Restriction::Flag(true, bit) => Bits {
+            set: bits.set | *bit,
+            clear: bits.clear & !*bit,
+        },
+        Restriction::Flag(false, bit) => Bits {
+            set: bits.set & !*bit,
+            clear: bits.clear | *bit,
+        },
+        Restriction::ClearPolicy => *bits,
+        Restriction::Policy(_) => *bits,
+        Restriction::Seconds(_, _) => *bits,
+    }
+}
+
+#[tactic(auto, unfolding(crate::specs::Restrictions::bits_of))]
+fn bits_of(restrictions: &[Restriction]) -> Bits
+    ensures { result ≡ bits_of restrictions.now }
+{
+    let mut bits = Bits { set: 0, clear: 0 };
+    for restriction in restrictions {
+        let next = with_flag(&bits, restriction);
+        bits = next;
+    }
+    bits
+}
+
+fn policy_of(alloc: Global, restriction: &Restriction) -> Result<Option<Option<Blob>>, MemoryOut>
+    ensures { IfOk result (λ policy. policy ≡ policy_of restriction.now) }
+{
+    match restriction {
+        Restriction::Flag(_, _) => Ok(None),
+        Restriction::ClearPolicy => Ok(Some(None)),
+        Restriction::Policy(name) => {
+            let name = Blob::from_bytes(alloc, name.as_slice())?;
+            Ok(Some(Some(name)))
+        }
+        Restriction::Seconds(_, _) => Ok(None),
+    }
+}
+
+// The policy, where one is named or taken away.
+#[tactic(auto, unfolding(crate::specs::Restrictions::policy_in))]
+fn find_policy(
+    alloc: Global,
+    restrictions: &[Restriction],
+) -> Result<Option<Option<Blob>>, MemoryOut>
+    ensures { IfOk result (λ policy. policy ≡ policy_in restrictions.now) }
+{
+    for restriction in restrictions {
+        match policy_of(alloc, restriction)? {
+            Some(policy) => return Ok(Some(policy)),
+            None => {}
+        }
+    }
+    Ok(None)
+}
+
+fn seconds_of(wanted: Setting, restriction: &Restriction) -> Option<u32>
+    ensures { result ≡ seconds_of wanted restriction.now }
+{
+    match restriction {
+        Restriction::Flag(_, _) => None,
+        Restriction::ClearPolicy => None,
+        Restriction::Policy(_) => None,
+        Restriction::Seconds(setting, seconds) => {
+            if same_setting(wanted, *setting) {
+                Some(*seconds)
+            } else {
+                None
+            }
+        }
+    }
+}
+
+// The duration of a setting.
+#[tactic(auto, unfolding(crate::specs::Restrictions::seconds_in))]
+fn find_seconds(setting: Setting, restrictions: &[Restriction]) -> Option<u32>
+    ensures { result ≡ seconds_in setting restrictions.now }
+{
+    for restriction in restrictions {
+        match seconds_of(setting, restriction) {
+            Some(seconds) => return Some(seconds),
+            None => {}
+        }
+    }
+    None
+}
+
+#[tactic(auto, unfolding(crate::specs::Restrictions::limits_of))]
+fn limits_of(alloc: Global, restrictions: &[Restriction]) -> Result<Limits, MemoryOut>
+    ensures { IfOk result (λ limits. limits ≡ limits_of restrictions.now) }
+{
+    let bits = bits_of(restrictions);
+    let policy = find_policy(alloc, restrictions)?;
+    Ok(Limits {
+        set: bits.set,
+        clear: bits.clear,
+        policy,
+        expire: find_seconds(Setting::Expire, restrictions),
+        pw_expire: find_seconds(Setting::PwExpire, restrictions),
+        max_life: find_seconds(Setting::MaxLife, restrictions),
+        max_renew: find_seconds(Setting::MaxRenewLife, restrictions),
+    })
+}
+
+/// The restrictions of at least one word, of which each setting has one at most.
+#[tactic(auto, unfolding(crate::specs::Restrictions::limits_by))]
+pub(crate) fn read_limits(alloc: Global, words: &[Blob]) -> Result<Option<Limits>, MemoryOut>
+    ensures { IfOk result (λ limits. limits ≡ limits_by words.now) }
+{
+    match read_restrictions(alloc, words)? {
+        Some(restrictions) => {
+            if !are_single(&restrictions) {
+                return Ok(None);
+            }
+            let limits = limits_of(alloc, &restrictions)?;
+            Ok(Some(limits))
+        }
+        None => Ok(None),
+    }
+}
+
+// The lesser of a time, of which 0 is endless, and a stated one.
+fn lesser(own: u32, stated: Option<u32>) -> u32
+    ensures { result ≡ lesser own stated }
+{
+    match stated {
+        Some(stated) => {
+            if own == 0 || stated < own {
+                stated
+            } else {
+                own
+            }
+        }
+        None => own,
+    }
+}
+
+// A duration from a moment on, at most the greatest time.
+fn counted_from(secs: u32, duration: Option<u32>) -> Option<u32>
+    ensures { result ≡ option_map (counted_from secs) duration }
+{
+    match duration {
+        Some(duration) => Some(secs.saturating_add(duration)),
+        None => None,
+    }
+}
+
+fn copy_policy(alloc: Global, policy: &Option<Blob>) -> Result<Option<Blob>, MemoryOut>
+    ensures copy { IfOk result (λ copy. copy ≡ policy.now) }
+    ensures memory { OnErr result (is_some policy.now ≡ true) }
+{
+    match policy {
+        Some(name) => {
+            let name = Blob::from_bytes(alloc, name.as_slice())?;
+            Ok(Some(name))
+        }
+        None => Ok(None),
+    }
+}
+
+// Puts the policy in force.
+fn restrict_policy(alloc: Global, limits: &Limits, wanted: &mut Wanted) -> Result<(), MemoryOut>
+    ensures ok { OnOk result (wanted.new ≡ record wanted.old { policy = unwrap_or limits.now.policy wanted.old.policy }) }
+    ensures kept { OnErr result (wanted.new ≡ wanted.old) }
+    ensures memory { OnErr result (names_policy limits.now.policy ≡ true) }
+{
+    match &limits.policy {
+        Some(policy) => {
+            let policy = copy_policy(alloc, policy)?;
+            wanted.policy = policy;
+            Ok(())
+        }
+        None => Ok(()),
+    }
+}
+
+#[tactic(auto, unfolding(crate::specs::Restricting::restricted))]
+fn restrict_numbers(limits: &Limits, secs: u32, wanted: &mut Wanted)
+    ensures { wanted.new ≡ record (restricted limits.now secs wanted.old) { policy = wanted.old.policy } }
+{
+    wanted.attributes = (wanted.attributes | limits.set) & !limits.clear;
+    wanted.expire = lesser(wanted.expire, counted_from(secs, limits.expire));
+    wanted.pw_expire = lesser(wanted.pw_expire, counted_from(secs, limits.pw_expire));
+    wanted.max_life = lesser(wanted.max_life, limits.max_life);
+    wanted.max_renew = lesser(wanted.max_renew, limits.max_renew);
+}
+
+/// Puts restrictions in force on the fields of a change that is made at this moment. Only want of memory
+/// for the name of a policy refuses it, and then the fields stay as they are.
+#[tactic(auto, unfolding(crate::specs::Restricting::restricted))]
+pub fn restrict(
+    alloc: Global,
+    limits: &Limits,
+    wanted: &mut Wanted,
+    moment: Time,
+) -> Result<(), MemoryOut>
+    ensures ok { OnOk result (wanted.new ≡ restricted limits.now moment.secs wanted.old) }
+    ensures kept { OnErr result (wanted.new ≡ wanted.old) }
+    ensures memory { OnErr result (names_policy limits.now.policy ≡ true) }
+{
+    restrict_policy(alloc, limits, wanted)?;
+    restrict_numbers(limits, moment.secs(), wanted);
+    Ok(())
+}
