@@ -11,8 +11,8 @@ pub enum ChainFault {
     /// There is no master key of the version that was asked for.
     #[error("no master key of version {version}")]
     UnknownMaster { version: u16 },
-    /// The key in hand is not the master key.
-    #[error("wrong master key")]
+    /// The key in hand does not open it, or it is nothing that a master key opens.
+    #[error("not opened by this master key")]
     StashWrong,
     #[error("out of memory")]
     MemoryOut,
