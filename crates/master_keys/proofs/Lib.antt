@@ -3,4 +3,7 @@ pub mod FirstRecord
 pub mod SideBySide
 pub mod Chains
 pub mod Errors
+pub mod Rewrapped
+pub mod Live
+pub mod Added
 pub mod RealmPrints

@@ -2,14 +2,20 @@
 //! master key opens all of them.
 #![tactic(auto)]
 
+mod adding;
 mod faults;
 mod first;
 mod opening;
+mod purging;
+mod rewrapping;
 mod wrapping;
 
+pub use adding::add;
 pub use faults::ChainFault;
 pub use first::new_chain;
 pub use opening::open_with;
+pub use purging::purge;
+pub use rewrapping::rewrap;
 pub use wrapping::{unwrap, wrap};
 
 #[cfg(test)]

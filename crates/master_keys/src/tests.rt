@@ -1,3 +1,6 @@
+ghost use Rattle.std.specs.Prelude.{◌≡◌, ◌∷◌, [], IfOk, length};
+ghost use Rattle.master_keys.specs.Chain.{IsChain};
+
 use super::*;
 use kdb_base::{AuxKey, AuxList, Etype, Masters, PlainKey, Salt};
 use princ_record::{KeyItem, Keys, Princ};
@@ -52,7 +55,10 @@ fn fault(rt: &HostRuntime, entry: &Princ, version: u16, key: &PlainKey) -> Optio
     open_with(rt.alloc(), entry, version, key).err()
 }
 
-fn first(rt: &HostRuntime, key: &PlainKey) -> Result<(Princ, Masters), Fail> {
+fn first(rt: &HostRuntime, key: &PlainKey) -> Result<(Princ, Masters), Fail>
+    ensures masters { IfOk result (λ both. both.1 ≡ record { version = 1; key = key.now } ∷ []) }
+    ensures chain { IfOk result (λ both. IsChain both.0 both.1) }
+{
     Ok(new_chain(rt.alloc(), b"R", key, 1700000000, &[5; 16])?)
 }
 
@@ -100,7 +106,9 @@ fn no_aux(rt: &HostRuntime) -> AuxList {
 }
 
 /// Versions 2 and 1.
-fn two_versions(rt: &HostRuntime, newest: &PlainKey, older: &PlainKey) -> Result<Princ, Fail> {
+fn two_versions(rt: &HostRuntime, newest: &PlainKey, older: &PlainKey) -> Result<Princ, Fail>
+    ensures { IfOk result (λ p. length p.keys ≡ 2) }
+{
     let (mut entry, _) = first(rt, older)?;
     entry.mkvno = 2;
     entry.keys = Keys::from_vec(vec![in rt.alloc();
@@ -137,5 +145,51 @@ fn either_key_opens_two_versions(rt: HostRuntime) -> Result<(), Fail> {
         fault(&rt, &entry, 2, &newest),
         Some(ChainFault::StashWrong)
     );
+    Ok(())
+}
+
+/// Bytes for confounders.
+fn random<const N: usize>() -> [u8; N] {
+    [8; N]
+}
+
+#[test]
+fn a_key_is_added_and_the_old_one_purged(rt: HostRuntime) -> Result<(), Fail> {
+    let older = key_of(Etype::Aes128, 1);
+    let newest = key_of(Etype::Aes256, 2);
+    let (entry, masters) = first(&rt, &older)?;
+    let (entry, masters) = add(rt.alloc(), &entry, &masters, &newest, &random())?;
+    for (version, key) in [(1, older), (2, newest)] {
+        let opened = open_with(rt.alloc(), &entry, version, &key)?;
+        assert!(rt;
+            matches!(opened.as_slice(), [a, b] if a.version == 1 && a.key == older && b.version == 2 && b.key == newest)
+        );
+    }
+    let (entry, _) = purge(rt.alloc(), &entry, &masters, &[1])?;
+    let opened = open_with(rt.alloc(), &entry, 2, &newest)?;
+    assert!(rt; matches!(opened.as_slice(), [a] if a.version == 2 && a.key == newest));
+    assert_eq!(rt;
+        fault(&rt, &entry, 1, &older),
+        Some(ChainFault::UnknownMaster { version: 1 })
+    );
+    Ok(())
+}
+
+#[test]
+fn two_keys_are_wrapped_anew(rt: HostRuntime) -> Result<(), Fail> {
+    let one = key_of(Etype::Aes128, 1);
+    let old = key_of(Etype::Aes256, 2);
+    let fresh = key_of(Etype::Aes256, 3);
+    let princ = two_versions(&rt, &old, &one)?;
+    let rewrapped = rewrap(rt.alloc(), &princ, &old, 7, &fresh, &random())?;
+    assert!(rt; rewrapped.mkvno == 7 && rewrapped.keys.as_slice().len() == 2);
+    for (item, key) in rewrapped.keys.as_slice().iter().zip([old, one]) {
+        let wrapped = item.wrapped.as_slice();
+        assert!(rt; unwrap(rt.alloc(), &fresh, item.etype, wrapped)? == key);
+        let fault = unwrap(rt.alloc(), &old, item.etype, wrapped).err();
+        assert_eq!(rt; fault, Some(ChainFault::StashWrong));
+    }
+    let fault = rewrap(rt.alloc(), &princ, &one, 7, &fresh, &random()).err();
+    assert_eq!(rt; fault, Some(ChainFault::StashWrong));
     Ok(())
 }

@@ -1,0 +1,9 @@
+pub mod Again
+pub mod Blanks
+pub mod Digits
+pub mod Going
+pub mod Judging
+pub mod Led
+pub mod Orders
+pub mod Parts
+pub mod Spelled

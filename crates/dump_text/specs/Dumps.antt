@@ -1,0 +1,60 @@
+-- A dump: a whole database as text. Its first line says what it is, and its last line how many rows stand
+-- before it. Each line ends with a line feed, and one space stands between words.
+use Rattle.std.specs.Prelude.{ℕ, ◌+◌, ◌-◌, List, ◌++◌, codes, length, replicate}
+use Rattle.std.specs.Fmt.{decimal}
+use Rattle.std.specs.List.{flat_map}
+use Rattle.hex.specs.Hex.{encode_lower}
+use Rattle.kdb_base.specs.declared.moments.Point.{Point}
+use Rattle.policy_rules.specs.Rules.{Rules}
+use Rattle.princ_record.specs.Policies.{policy}
+use Rattle.princ_record.specs.Princs.{princ}
+use Rattle.princ_record.specs.Rows.{RowLists}
+use Rattle.princ_record.specs.declared.princs.Princ.{Princ}
+
+abbrev pub line_feed : List ℕ
+line_feed = codes "\n"
+
+-- six digits
+abbrev pub six_digits : ℕ → List ℕ
+six_digits n = replicate (6 - length (decimal n)) 48 ++ decimal n
+
+-- ---- lines, without the line feeds that end them
+
+unfoldable pub title : List ℕ
+title = codes "kdb dump 1"
+
+unfoldable pub realm_line : List ℕ → List ℕ
+realm_line realm = codes "realm " ++ realm
+
+-- a serial, and the time with six digits of microseconds
+unfoldable pub point_line : Point → List ℕ
+point_line point = codes "point " ++ (decimal point.sno ++ (codes " " ++ (decimal point.time.secs ++ (codes "." ++ six_digits point.time.usecs))))
+
+-- the record's spelling in hexadecimal
+unfoldable pub princ_line : Princ → List ℕ
+princ_line p = codes "princ " ++ encode_lower (princ p)
+
+unfoldable pub policy_line : Rules → List ℕ
+policy_line p = codes "policy " ++ encode_lower (policy p)
+
+unfoldable pub end_line : ℕ → List ℕ
+end_line count = codes "end " ++ decimal count
+
+-- ---- texts
+
+abbrev pub ended : List ℕ → List ℕ
+ended line = line ++ line_feed
+
+-- what stands before the rows
+unfoldable pub head_text : List ℕ → Point → List ℕ
+head_text realm point = ended title ++ (ended (realm_line realm) ++ ended (point_line point))
+
+-- the principals, and then the policies
+unfoldable pub rows_text : RowLists → List ℕ
+rows_text rows = flat_map (λ p. ended (princ_line p)) rows.princs ++ flat_map (λ p. ended (policy_line p)) rows.policies
+
+abbrev pub row_count : RowLists → ℕ
+row_count rows = length rows.princs + length rows.policies
+
+unfoldable pub dump_text : List ℕ → Point → RowLists → List ℕ
+dump_text realm point rows = head_text realm point ++ (rows_text rows ++ ended (end_line (row_count rows)))

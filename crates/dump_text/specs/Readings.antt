@@ -1,0 +1,78 @@
+-- What the lines of a dump say.
+use Rattle.std.specs.Prelude.{ℕ, ◌+◌, ◌-◌, ◌*◌, ◌==◌, ◌&&◌, Bool, List, [], ◌∷◌, codes, length, take, drop, Option, Some, None, option_and_then, Result, Ok, Err, nat_le, nat_lt, fold, if◌then◌else◌}
+use Rattle.std.specs.Str.{bytes_eq}
+use Rattle.hex.specs.Hex.{decode_of, encode_lower}
+use Rattle.hex.specs.declared.error.FromHexError.{FromHexError}
+use Rattle.kdb_base.specs.Moment.{Moment}
+use Rattle.kdb_base.specs.declared.moments.Point.{Point}
+use Rattle.kdb_format.specs.Readings.{whole}
+use Rattle.policy_rules.specs.Rules.{Rules}
+use Rattle.princ_name.specs.Realms.{is_realm}
+use Rattle.princ_record.specs.Policies.{policy_at}
+use Rattle.princ_record.specs.Princs.{princ_at}
+use Rattle.princ_record.specs.declared.princs.Princ.{Princ}
+use Rattle.dump_text.specs.Dumps.{point_line}
+
+-- what stands behind this word
+unfoldable pub behind : List ℕ → List ℕ → Option (List ℕ)
+behind word line = if bytes_eq (take (length word) line) word then Some (drop (length word) line) else None
+
+-- ---- the realm
+
+unfoldable pub realm_of : List ℕ → Option (List ℕ)
+realm_of text = if is_realm text then Some text else None
+
+unfoldable pub realm_in : List ℕ → Option (List ℕ)
+realm_in line = option_and_then realm_of (behind (codes "realm ") line)
+
+-- ---- the point: its numbers are read loosely, and a line that is not written so is refused
+
+-- the number before one more digit, and the number with it
+abbrev pub with_digit : ℕ → ℕ → ℕ
+with_digit number byte = 10 * number + (byte - 48)
+
+unfoldable pub number_of : List ℕ → ℕ
+number_of text = fold with_digit 0 text
+
+-- the bytes before the first blank, and those behind it
+unfoldable pub before_blank : List ℕ → List ℕ
+before_blank [] = []
+before_blank (b ∷ text) = if b == 32 then [] else b ∷ before_blank text
+
+unfoldable pub behind_blank : List ℕ → List ℕ
+behind_blank [] = []
+behind_blank (b ∷ text) = if b == 32 then text else behind_blank text
+
+-- the last six digits are microseconds, and a dot stands before them
+unfoldable pub near_time : List ℕ → Moment
+near_time text = record { secs = number_of (take (length text - 7) text); usecs = number_of (drop (length text - 6) text) }
+
+unfoldable pub near_point : List ℕ → Point
+near_point text = record { sno = number_of (before_blank text); time = near_time (behind_blank text) }
+
+abbrev pub is_point : Point → Bool
+is_point point = nat_lt point.sno 4294967296 && (nat_lt point.time.secs 4294967296 && nat_lt point.time.usecs 1000000)
+
+-- the point that is written so
+unfoldable pub written_so : List ℕ → Point → Option Point
+written_so line point = if is_point point && bytes_eq (point_line point) line then Some point else None
+
+unfoldable pub point_in : List ℕ → Option Point
+point_in line = option_and_then (λ text. written_so line (near_point text)) (behind (codes "point ") line)
+
+-- ---- rows
+
+abbrev pub bytes_or_none : Result (List ℕ) FromHexError → Option (List ℕ)
+bytes_or_none (Ok bytes) = Some bytes
+bytes_or_none (Err e) = None
+
+-- the bytes that are written so in lower case
+unfoldable pub hex_of : List ℕ → Option (List ℕ)
+hex_of text = option_and_then (λ bytes. if bytes_eq (encode_lower bytes) text then Some bytes else None) (bytes_or_none (decode_of text))
+
+-- the principal of at most 8000 bytes
+unfoldable pub princ_of : List ℕ → Option Princ
+princ_of text = option_and_then (λ bytes. if nat_le (length bytes) 8000 then whole princ_at bytes else None) (hex_of text)
+
+unfoldable pub policy_of : List ℕ → Option Rules
+policy_of text = option_and_then (λ bytes. whole policy_at bytes) (hex_of text)

@@ -1,0 +1,244 @@
+//! A dump, written to a sink through a buffer.
+ghost use Rattle.std.specs.Prelude.{◌≡◌, ◌≢◌, ◌≤◌, ◌++◌, [], ℕ, Err, IfOk, OnErr, OnOk};
+ghost use Rattle.std.specs.List.{All, flat_map};
+ghost use Rattle.kdb_base.specs.Causes.{HasCause, Rose};
+ghost use Rattle.kdb_ports.specs.Told.{after_told};
+ghost use Rattle.princ_record.specs.Entries.{IsRow};
+ghost use Rattle.princ_record.specs.Princs.{IsPrinc};
+ghost use Rattle.dump_text.specs.Dumps.{dump_text, end_line, ended, head_text, policy_line, princ_line, row_count, rows_text};
+ghost use Rattle.dump_text.specs.Parts.{Holds, SaidPart};
+
+use crate::lines::{push_end, push_head, push_policy, push_princ};
+use crate::stops::{DumpStop, WriteStop};
+use kdb_base::{MemoryOut, Point};
+use kdb_ports::{Sink, WriteFailed};
+use policy_rules::Policy;
+use princ_record::{Princ, Rows};
+use std::alloc::Global;
+
+/// So many bytes are written at once, but for the last ones.
+const PAGE: usize = 65536;
+
+/// What the buffer holds at most: a page, and a line behind it.
+const ROOM: usize = 81600;
+
+/// Writes all of the bytes.
+fn write_whole<K: Sink>(sink: &mut K, bytes: &[u8]) -> Result<(), WriteFailed>
+    ensures ok { OnOk result (K.taken sink.new ≡ after_told (K.taken sink.old) bytes.now) }
+    ensures err { OnErr result (SaidPart bytes.now (K.taken sink.old) (K.taken sink.new)) }
+    ensures cause { HasCause (K.faults sink.old) (K.faults sink.new) result }
+{
+    let mut at = 0;
+    while at < bytes.len() {
+        at += sink.write(&bytes[at..])?;
+    }
+    Ok(())
+}
+
+/// Writes what is held, once it is a page.
+fn pass_on<K: Sink>(sink: &mut K, out: &mut Vec<u8>) -> Result<(), WriteFailed>
+    ensures ok { OnOk result (Holds out.old.items (K.taken sink.old) (K.taken sink.new) out.new.items) }
+    ensures err { OnErr result (SaidPart out.old.items (K.taken sink.old) (K.taken sink.new)) }
+    ensures cause { HasCause (K.faults sink.old) (K.faults sink.new) result }
+{
+    if out.len() < PAGE {
+        return Ok(());
+    }
+    write_whole(sink, out)?;
+    out.clear();
+    Ok(())
+}
+
+/// Writes the line of a principal.
+fn write_princ<K: Sink>(
+    alloc: Global,
+    princ: &Princ,
+    sink: &mut K,
+    out: &mut Vec<u8>,
+) -> Result<(), WriteStop>
+    requires { IsPrinc princ.now }
+    ensures ok { OnOk result (Holds (out.old.items ++ ended (princ_line princ.now)) (K.taken sink.old) (K.taken sink.new) out.new.items) }
+    ensures err { OnErr result (SaidPart (out.old.items ++ ended (princ_line princ.now)) (K.taken sink.old) (K.taken sink.new)) }
+    ensures later { K.faults sink.old ≤ K.faults sink.new }
+    ensures fault { result ≡ Err WriteStop.WriteFault → Rose (K.faults sink.old) (K.faults sink.new) }
+{
+    match push_princ(alloc, out, princ) {
+        Ok(()) => match pass_on(sink, out) {
+            Ok(()) => Ok(()),
+            Err(_) => Err(WriteStop::WriteFault),
+        },
+        Err(_) => Err(WriteStop::MemoryOut),
+    }
+}
+
+/// Writes the line of a policy.
+fn write_policy<K: Sink>(
+    alloc: Global,
+    policy: &Policy,
+    sink: &mut K,
+    out: &mut Vec<u8>,
+) -> Result<(), WriteStop>
+    ensures ok { OnOk result (Holds (out.old.items ++ ended (policy_line policy.now)) (K.taken sink.old) (K.taken sink.new) out.new.items) }
+    ensures err { OnErr result (SaidPart (out.old.items ++ ended (policy_line policy.now)) (K.taken sink.old) (K.taken sink.new)) }
+    ensures later { K.faults sink.old ≤ K.faults sink.new }
+    ensures fault { result ≡ Err WriteStop.WriteFault → Rose (K.faults sink.old) (K.faults sink.new) }
+{
+    match push_policy(alloc, out, policy) {
+        Ok(()) => match pass_on(sink, out) {
+            Ok(()) => Ok(()),
+            Err(_) => Err(WriteStop::WriteFault),
+        },
+        Err(_) => Err(WriteStop::MemoryOut),
+    }
+}
+
+/// Writes the lines of principals.
+fn write_princs<K: Sink>(
+    alloc: Global,
+    princs: &[Princ],
+    sink: &mut K,
+    out: &mut Vec<u8>,
+) -> Result<(), WriteStop>
+    requires { All IsRow princs.now }
+    ensures ok { OnOk result (Holds (out.old.items ++ flat_map (λ p. ended (princ_line p)) princs.now) (K.taken sink.old) (K.taken sink.new) out.new.items) }
+    ensures err { OnErr result (SaidPart (out.old.items ++ flat_map (λ p. ended (princ_line p)) princs.now) (K.taken sink.old) (K.taken sink.new)) }
+    ensures later { K.faults sink.old ≤ K.faults sink.new }
+    ensures fault { result ≡ Err WriteStop.WriteFault → Rose (K.faults sink.old) (K.faults sink.new) }
+{
+    for princ in princs {
+        match write_princ(alloc, princ, sink, out) {
+            Ok(()) => {}
+            Err(stop) => return Err(stop),
+        }
+    }
+    Ok(())
+}
+
+/// Writes the lines of policies.
+fn write_policies<K: Sink>(
+    alloc: Global,
+    policies: &[Policy],
+    sink: &mut K,
+    out: &mut Vec<u8>,
+) -> Result<(), WriteStop>
+    ensures ok { OnOk result (Holds (out.old.items ++ flat_map (λ p. ended (policy_line p)) policies.now) (K.taken sink.old) (K.taken sink.new) out.new.items) }
+    ensures err { OnErr result (SaidPart (out.old.items ++ flat_map (λ p. ended (policy_line p)) policies.now) (K.taken sink.old) (K.taken sink.new)) }
+    ensures later { K.faults sink.old ≤ K.faults sink.new }
+    ensures fault { result ≡ Err WriteStop.WriteFault → Rose (K.faults sink.old) (K.faults sink.new) }
+{
+    for policy in policies {
+        match write_policy(alloc, policy, sink, out) {
+            Ok(()) => {}
+            Err(stop) => return Err(stop),
+        }
+    }
+    Ok(())
+}
+
+/// Writes the lines of the rows.
+#[tactic(auto, unfolding(crate::specs::Dumps::rows_text))]
+fn write_rows<K: Sink>(
+    alloc: Global,
+    rows: &Rows,
+    sink: &mut K,
+    out: &mut Vec<u8>,
+) -> Result<(), WriteStop>
+    ensures ok { OnOk result (Holds (out.old.items ++ rows_text rows.now) (K.taken sink.old) (K.taken sink.new) out.new.items) }
+    ensures err { OnErr result (SaidPart (out.old.items ++ rows_text rows.now) (K.taken sink.old) (K.taken sink.new)) }
+    ensures later { K.faults sink.old ≤ K.faults sink.new }
+    ensures fault { result ≡ Err WriteStop.WriteFault → Rose (K.faults sink.old) (K.faults sink.new) }
+{
+    match write_princs(alloc, rows.princs(), sink, out) {
+        Ok(()) => match write_policies(alloc, rows.policies(), sink, out) {
+            Ok(()) => Ok(()),
+            Err(stop) => Err(stop),
+        },
+        Err(stop) => Err(stop),
+    }
+}
+
+/// Writes the last line, and all that is held.
+fn write_end<K: Sink>(
+    alloc: Global,
+    count: usize,
+    sink: &mut K,
+    out: &mut Vec<u8>,
+) -> Result<(), WriteStop>
+    ensures ok { OnOk result (K.taken sink.new ≡ after_told (K.taken sink.old) (out.old.items ++ ended (end_line count))) }
+    ensures err { OnErr result (SaidPart (out.old.items ++ ended (end_line count)) (K.taken sink.old) (K.taken sink.new)) }
+    ensures later { K.faults sink.old ≤ K.faults sink.new }
+    ensures fault { result ≡ Err WriteStop.WriteFault → Rose (K.faults sink.old) (K.faults sink.new) }
+{
+    match push_end(alloc, out, count) {
+        Ok(()) => match write_whole(sink, out) {
+            Ok(()) => Ok(()),
+            Err(_) => Err(WriteStop::WriteFault),
+        },
+        Err(_) => Err(WriteStop::MemoryOut),
+    }
+}
+
+/// Takes the buffer, and puts into it what stands before the rows.
+fn begin(alloc: Global, realm: &[u8], point: &Point) -> Result<Vec<u8>, MemoryOut>
+    ensures { IfOk result (λ out. out.items ≡ head_text realm.now point.now) }
+{
+    let mut out = Vec::with_capacity(alloc, ROOM)?;
+    push_head(alloc, &mut out, realm, point)?;
+    Ok(out)
+}
+
+/// How many rows there are.
+fn count_rows(rows: &Rows) -> usize
+    ensures { result ≡ row_count rows.now }
+{
+    rows.princs().len() + rows.policies().len()
+}
+
+/// Writes the rows and the last line behind what is held.
+fn write_body<K: Sink>(
+    alloc: Global,
+    rows: &Rows,
+    sink: &mut K,
+    out: &mut Vec<u8>,
+) -> Result<(), WriteStop>
+    ensures ok { OnOk result (K.taken sink.new ≡ after_told (K.taken sink.old) (out.old.items ++ (rows_text rows.now ++ ended (end_line (row_count rows.now))))) }
+    ensures err { OnErr result (SaidPart (out.old.items ++ (rows_text rows.now ++ ended (end_line (row_count rows.now)))) (K.taken sink.old) (K.taken sink.new)) }
+    ensures later { K.faults sink.old ≤ K.faults sink.new }
+    ensures fault { result ≡ Err WriteStop.WriteFault → Rose (K.faults sink.old) (K.faults sink.new) }
+{
+    let count = count_rows(rows);
+    match write_rows(alloc, rows, sink, out) {
+        Ok(()) => match write_end(alloc, count, sink, out) {
+            Ok(()) => Ok(()),
+            Err(stop) => Err(stop),
+        },
+        Err(stop) => Err(stop),
+    }
+}
+
+/// Writes the dump of a database, line by line through a buffer of some 64 KB. After an error the sink has
+/// taken a front of it. WriteFault where the sink failed; only want of memory can refuse it otherwise.
+#[tactic(auto, unfolding(crate::specs::Dumps::dump_text))]
+pub fn write_dump<K: Sink>(
+    alloc: Global,
+    realm: &[u8],
+    point: Point,
+    rows: &Rows,
+    sink: &mut K,
+) -> Result<(), DumpStop>
+    // The sink took the dump, and nothing else.
+    ensures ok { OnOk result (K.taken sink.new ≡ after_told (K.taken sink.old) (dump_text realm.now point rows.now)) }
+    // The sink took a front of the dump, and nothing else.
+    ensures err { OnErr result (SaidPart (dump_text realm.now point rows.now) (K.taken sink.old) (K.taken sink.new)) }
+    ensures later { K.faults sink.old ≤ K.faults sink.new }
+    ensures fault { result ≡ Err DumpStop.WriteFault → Rose (K.faults sink.old) (K.faults sink.new) }
+    ensures not_bad { (line : ℕ) → result ≢ Err (DumpStop.DumpBad line) }
+{
+    match begin(alloc, realm, &point) {
+        Ok(mut out) => match write_body(alloc, rows, sink, &mut out) {
+            Ok(()) => Ok(()),
+            Err(stop) => Err(DumpStop::from(stop)),
+        },
+        Err(_) => Err(DumpStop::MemoryOut),
+    }
+}

@@ -1,0 +1,150 @@
+//! A record's keys, wrapped anew under another master key.
+
+ghost use Rattle.std.specs.Prelude.{◌≡◌, ◌≢◌, ℕ, ◌+◌, ◌*◌, ◌≤◌, Err, IfErr, IfOk, length};
+ghost use Rattle.std.specs.List.{All, AllZip};
+ghost use Rattle.master_keys.specs.Rewrapping.{HoldNotAll, Holds, HoldsOne, IsRewrapped, confounder, with_key, with_keys};
+
+use crate::faults::{ChainFault, Unopened};
+use crate::wrapping::{open_key, wrap};
+use kdb_base::{Blob, MemoryOut, PlainKey, Salt};
+use princ_record::{KeyItem, Keys, Princ, copy};
+use std::alloc::Global;
+
+/// The bytes of a confounder.
+const CONFOUNDER_LEN: usize = 16;
+
+/// The confounder of a place, where those of the places before it stand in front.
+#[tactic(auto, unfolding(crate::specs::Rewrapping::confounder))]
+pub(crate) fn confounder(random: &[u8], place: usize) -> [u8; 16]
+    requires { 16 * (place + 1) ≤ length random.now }
+    ensures { result ≡ confounder random.now place }
+{
+    let mut bytes = [0; 16];
+    bytes.copy_from_slice(&random[CONFOUNDER_LEN * place..CONFOUNDER_LEN * (place + 1)]);
+    bytes
+}
+
+/// The same salt.
+fn copy_salt(alloc: Global, salt: &Salt) -> Result<Salt, MemoryOut>
+    ensures { IfOk result (λ x. x ≡ salt.now) }
+{
+    match salt {
+        Salt::Normal => Ok(Salt::Normal),
+        Salt::Special(bytes) => {
+            let bytes = Blob::from_bytes(alloc, bytes.as_slice())?;
+            Ok(Salt::Special(bytes))
+        }
+    }
+}
+
+/// The item with this key in it, wrapped under a master key.
+#[tactic(auto, unfolding(crate::specs::Rewrapping::with_key))]
+fn wrap_item(
+    alloc: Global,
+    master: &PlainKey,
+    confounder: &[u8; 16],
+    item: &KeyItem,
+    key: &PlainKey,
+) -> Result<KeyItem, MemoryOut>
+    requires { item.now.etype ≡ key.now.etype }
+    ensures item { IfOk result (λ x. x ≡ with_key master.now confounder.now item.now key.now) }
+    ensures holds { IfOk result (λ x. Holds master.now x key.now) }
+{
+    let salt = copy_salt(alloc, &item.salt)?;
+    let wrapped = wrap(alloc, master, key, confounder)?;
+    Ok(KeyItem {
+        kvno: item.kvno,
+        etype: item.etype,
+        salt,
+        wrapped,
+    })
+}
+
+/// The items with these keys in them, wrapped under a master key with the confounders from a place on.
+pub(crate) fn wrap_items(
+    alloc: Global,
+    master: &PlainKey,
+    random: &[u8],
+    place: usize,
+    items: &[KeyItem],
+    keys: &[PlainKey],
+) -> Result<Vec<KeyItem>, MemoryOut>
+    requires types { AllZip (λ item key. item.etype ≡ key.etype) items.now keys.now }
+    requires random { 16 * (place + length items.now) ≤ length random.now }
+    ensures items { IfOk result (λ v. v.items ≡ with_keys master.now random.now place items.now keys.now) }
+    ensures holds { IfOk result (λ v. AllZip (Holds master.now) v.items keys.now) }
+{
+    let mut out = Vec::with_capacity(alloc, items.len())?;
+    for (at, item) in items.iter().enumerate() {
+        let confounder = confounder(random, place + at);
+        let item = wrap_item(alloc, master, &confounder, item, &keys[at])?;
+        out.push(item)?;
+    }
+    Ok(out)
+}
+
+/// The keys that the items hold under a master key.
+fn open_keys(alloc: Global, master: &PlainKey, items: &[KeyItem]) -> Result<Vec<PlainKey>, Unopened>
+    ensures ok { IfOk result (λ keys. AllZip (Holds master.now) items.now keys.items) }
+    ensures wrong { result ≡ Err Unopened.Wrong → HoldNotAll master.now items.now }
+{
+    let mut keys = Vec::new(alloc);
+    for item in items {
+        match open_key(alloc, master, item.etype, item.wrapped.as_slice()) {
+            Ok(key) => keys.push(key)?,
+            Err(fault) => return Err(fault),
+        }
+    }
+    Ok(keys)
+}
+
+/// The record with these keys under the master key of this version.
+pub(crate) fn with_master(
+    alloc: Global,
+    princ: &Princ,
+    version: u16,
+    keys: Vec<KeyItem>,
+) -> Result<Princ, MemoryOut>
+    ensures { IfOk result (λ p. p ≡ record princ.now { mkvno = version; keys = keys.items }) }
+{
+    let mut copied = copy(alloc, princ)?;
+    copied.mkvno = version;
+    copied.keys = Keys::from_vec(keys);
+    Ok(copied)
+}
+
+/// The record with each of its keys wrapped anew, under the master key `fresh` of this version in place of
+/// `old`. The first 16 bytes of `random` are the first key's confounder, the next 16 the second's, and so on.
+///
+/// # Errors
+///
+/// `StashWrong` where some key does not unwrap under `old`, and `MemoryOut` where memory is wanted and not
+/// given.
+pub fn rewrap(
+    alloc: Global,
+    princ: &Princ,
+    old: &PlainKey,
+    version: u16,
+    fresh: &PlainKey,
+    random: &[u8; 512],
+) -> Result<Princ, ChainFault>
+    requires { length princ.now.keys ≤ 32 }
+    ensures ok { IfOk result (λ p. IsRewrapped princ.now old.now version fresh.now random.now p) }
+    // Where each key unwraps, only memory can be wanted.
+    ensures complete { All (HoldsOne old.now) princ.now.keys → IfErr result (λ fault. fault ≡ ChainFault.MemoryOut) }
+    ensures wrong { result ≡ Err ChainFault.StashWrong → HoldNotAll old.now princ.now.keys }
+    ensures known { (asked : ℕ) → result ≢ Err (ChainFault.UnknownMaster asked) }
+{
+    let items = princ.keys.as_slice();
+    let keys = match open_keys(alloc, old, items) {
+        Ok(keys) => keys,
+        Err(fault) => return Err(ChainFault::from(fault)),
+    };
+    let Ok(keys) = wrap_items(alloc, fresh, random, 0, items, &keys) else {
+        return Err(ChainFault::MemoryOut);
+    };
+    match with_master(alloc, princ, version, keys) {
+        Ok(rewrapped) => Ok(rewrapped),
+        Err(MemoryOut) => Err(ChainFault::MemoryOut),
+    }
+}

@@ -1,0 +1,13 @@
+//! The log of the last changes of a database, on a disk that may crash at any moment. A replica that
+//! knows an earlier point is answered from it.
+#![tactic(auto)]
+
+mod bodies;
+pub mod log;
+mod slots;
+mod writes;
+
+pub use log::Log;
+
+#[cfg(test)]
+mod tests;

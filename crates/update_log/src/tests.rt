@@ -1,0 +1,186 @@
+ghost use Rattle.std.specs.Prelude.{◌≡◌, ◌≢◌, ◌≤◌, ◌+◌, IfOk, OnOk, None, length};
+ghost use Rattle.princ_record.specs.Entries.{IsOp, logged};
+ghost use Rattle.princ_record.specs.PrintedNames.{IsPrinted};
+ghost use Rattle.update_log.specs.Moments.{HasLog};
+
+use super::*;
+use kdb_base::{Blob, Fails, Halt, Point, Time};
+use kdb_disk::{Disk, MemoryDisk, Pick};
+use princ_record::laws::entries_have_their_lengths;
+use princ_record::names::is_printed;
+use princ_record::{Entry, Op};
+use std::alloc::Global;
+use std::test::*;
+
+// The slot of the base marker: an open gate, the serial 1, 1700000000 seconds (6553f100 in
+// hexadecimal) and no microseconds, the kind 0, four zero bytes, an empty key and an empty row.
+const MARKER: [u8; 22] = [
+    0xa5, 0, 0, 0, 1, 0x65, 0x53, 0xf1, 0, 0, 0, 0, 0, 0, 0, 0, 0, 0, 0, 0, 0, 0,
+];
+
+// Another answer than the one that was to come.
+#[derive(Debug, Drop)]
+struct Unexpected;
+
+fn base() -> Point {
+    Point {
+        sno: 1,
+        time: Time::new(1_700_000_000, 0),
+    }
+}
+
+// A printed name.
+#[tactic(auto, using(princ_record::specs::PrintedNames::test_printed))]
+fn printed(alloc: Global) -> Result<Blob, Fail>
+    ensures printed { IfOk result IsPrinted }
+    ensures short { IfOk result (λ name. length name ≤ 255) }
+{
+    let name = Blob::from_bytes(alloc, b"alice@EXAMPLE.ORG")?;
+    if !is_printed(name.as_slice()) || name.len() > 255 {
+        return Err(Fail::from(Unexpected));
+    }
+    Ok(name)
+}
+
+// A log of two entries in file 3.
+fn make_on(alloc: Global, disk: &mut MemoryDisk) -> Result<Log, Fail>
+    ensures log { IfOk result (λ log. HasLog log (⟦<MemoryDisk as Disk>⟧.view disk.new)) }
+    ensures block { IfOk result (λ log. log.block ≡ 2048) }
+{
+    match Log::make(alloc, disk, 3, base(), 2, 2048, None) {
+        Ok(log) => Ok(log),
+        Err(halt) => Err(Fail::from(halt)),
+    }
+}
+
+// The entry that drops a principal, behind the last one and at its time.
+#[tactic(auto, unfolding(princ_record::specs::Entries::key_of, princ_record::specs::Entries::row_of))]
+fn next_entry(alloc: Global, last: &Point) -> Result<Entry, Fail>
+    ensures point { IfOk result (λ e. e.point ≡ record { sno = last.now.sno + 1; time = last.now.time }) }
+    ensures change { IfOk result (λ e. e.op ≢ None) }
+    ensures fits { IfOk result (λ e. IsOp e.op) }
+    ensures short { IfOk result (λ e. length (logged e) ≤ 2047) }
+{
+    entries_have_their_lengths();
+    if last.sno == u32::MAX {
+        return Err(Fail::from(Unexpected));
+    }
+    let name = printed(alloc)?;
+    Ok(Entry {
+        point: Point {
+            sno: last.sno + 1,
+            time: last.time,
+        },
+        op: Some(Op::DropPrinc(name)),
+    })
+}
+
+// Prepares and commits the next entry.
+fn append(alloc: Global, disk: &mut MemoryDisk, log: &mut Log) -> Result<(), Fail>
+    requires log { HasLog log.old (⟦<MemoryDisk as Disk>⟧.view disk.old) }
+    requires block { log.old.block ≡ 2048 }
+    ensures log { OnOk result (HasLog log.new (⟦<MemoryDisk as Disk>⟧.view disk.new)) }
+    ensures block { OnOk result (log.new.block ≡ 2048) }
+{
+    let (_, last) = log.held();
+    let entry = next_entry(alloc, &last)?;
+    match log.prepare(alloc, disk, &entry) {
+        Ok(()) => {}
+        Err(halt) => return Err(Fail::from(halt)),
+    }
+    match log.commit(disk) {
+        Ok(()) => Ok(()),
+        Err(failed) => Err(Fail::from(failed)),
+    }
+}
+
+// Whether the bytes are the slot of the base marker.
+fn is_marker(bytes: &[u8]) -> bool {
+    match bytes.strip_prefix(&MARKER) {
+        Some(zeros) => zeros.len() == 2026 && zeros.iter().all(|b| *b == 0),
+        None => false,
+    }
+}
+
+// A log in which four entries came behind the base marker.
+fn fill(alloc: Global, disk: &mut MemoryDisk) -> Result<Log, Fail> {
+    let mut log = make_on(alloc, disk)?;
+    if !is_marker(disk.bytes(3)) {
+        return Err(Fail::from(Unexpected));
+    }
+    append(alloc, disk, &mut log)?;
+    append(alloc, disk, &mut log)?;
+    append(alloc, disk, &mut log)?;
+    append(alloc, disk, &mut log)?;
+    Ok(log)
+}
+
+// The first and the last serial, and whether those of 3 to 6 are held.
+fn held_in(log: &Log) -> (u32, u32, [bool; 4]) {
+    let (first, last) = log.held();
+    let held = [
+        log.entry(3).is_some(),
+        log.entry(4).is_some(),
+        log.entry(5).is_some(),
+        log.entry(6).is_some(),
+    ];
+    (first.sno, last.sno, held)
+}
+
+#[test]
+fn a_log_holds_its_last_entries(rt: HostRuntime) -> Result<(), Fail> {
+    let alloc = rt.alloc();
+    let mut disk = MemoryDisk::new(alloc, Fails::none(alloc))?;
+    let log = fill(alloc, &mut disk)?;
+    assert_eq!(rt; disk.bytes(3).len(), 6144);
+    assert_eq!(rt; held_in(&log), (4, 5, [false, true, true, false]));
+    Ok(())
+}
+
+// Prepares the next entry, where the disk fails.
+fn prepare_in_vain(alloc: Global, disk: &mut MemoryDisk, log: &mut Log) -> Result<(), Fail>
+    requires log { HasLog log.old (⟦<MemoryDisk as Disk>⟧.view disk.old) }
+    requires block { log.old.block ≡ 2048 }
+{
+    let (_, last) = log.held();
+    let entry = next_entry(alloc, &last)?;
+    match log.prepare(alloc, disk, &entry) {
+        Err(Halt::DiskFault) => Ok(()),
+        _ => Err(Fail::from(Unexpected)),
+    }
+}
+
+// Makes a log, and prepares an entry of it in vain.
+fn stop_preparing(alloc: Global, disk: &mut MemoryDisk) -> Result<(), Fail> {
+    let mut log = make_on(alloc, disk)?;
+    prepare_in_vain(alloc, disk, &mut log)
+}
+
+// Whether the base marker stands in each image inside this call.
+fn keeps_marker(alloc: Global, disk: &MemoryDisk, call: u64) -> Result<bool, Fail> {
+    if call >= disk.calls() {
+        return Ok(false);
+    }
+    for pick in [Pick::Written, Pick::Old, Pick::Noise] {
+        let image = disk.image_at(alloc, call, pick)?;
+        match image.bytes(3).get(..2048) {
+            Some(slot) if is_marker(slot) => {}
+            _ => return Ok(false),
+        }
+    }
+    Ok(true)
+}
+
+// A log is made in nine calls. Then the file is synced and its length is asked for, the slot is begun
+// in two calls, and the body is written: that call fails.
+#[test]
+fn an_entry_is_prepared_in_vain(rt: HostRuntime) -> Result<(), Fail> {
+    let alloc = rt.alloc();
+    let fails = Fails::from_vec(vec![in alloc; 13u64]?);
+    let mut disk = MemoryDisk::new(alloc, fails)?;
+    stop_preparing(alloc, &mut disk)?;
+    for call in 9..14 {
+        assert!(rt; keeps_marker(alloc, &disk, call)?, "inside call {call}");
+    }
+    Ok(())
+}
