@@ -1,5 +1,4 @@
 pub mod TextLemmas
-pub mod PatternLemmas
 pub mod TargetLemmas
 pub mod RestrictionLemmas
 pub mod RuleLemmas

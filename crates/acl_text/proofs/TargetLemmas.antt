@@ -4,9 +4,10 @@ use Rattle.std.specs.Str.{bytes_eq}
 use Rattle.std.proofs.lemmas.Bool.{and_parts, and_from, and_right}
 use Rattle.std.proofs.lemmas.List.{drop_all}
 use Rattle.std.proofs.lemmas.Slice.Eq.{bytes_eq-Decides}
-use Rattle.acl_text.specs.Patterns.{meant, meant_target, part_matches, parts_match, pattern_matches, realm_of}
+use Rattle.acl_text.specs.Patterns.{meant, meant_target, part_matches, parts_match, pattern_matches}
+use Rattle.princ_name.specs.Kinds.{is_any}
 use Rattle.princ_name.specs.Names.{NameParts}
-use Rattle.princ_name.specs.Patterns.{Matches, MatchesPart, MatchesParts}
+use Rattle.princ_name.specs.Patterns.{Matches, MatchesPart, MatchesParts, realm_of}
 use Rattle.princ_name.specs.Shape.{PatternShape, Every, Parts}
 use Rattle.princ_name.specs.declared.parts.Part.{Part}
 use Rattle.princ_name.proofs.Matching.{AtPlace, at_place}
@@ -82,7 +83,7 @@ every_target f client name (Parts parts realm) is = absurd (cc)
 
 -- ---- the test of patterns
 
-matched_part : (b : Bool) (part : Part) (text : List ℕ) → part.wild ≡ b → (b || bytes_eq part.text text) ≡ true → MatchesPart part text
+matched_part : (b : Bool) (part : Part) (text : List ℕ) → is_any part ≡ b → (b || bytes_eq part.text text) ≡ true → MatchesPart part text
 matched_part true part text is h = inl is
 matched_part false part text is h = inr ((bytes_eq-Decides part.text text).0 h)
 
@@ -92,7 +93,7 @@ or_true false b is = is
 
 part_tested : (part : Part) (text : List ℕ) → MatchesPart part text → part_matches part text ≡ true
 part_tested part text (inl wild) = ap (λ (b : Bool). b || bytes_eq part.text text) wild
-part_tested part text (inr same) = or_true part.wild (bytes_eq part.text text) ((bytes_eq-Decides part.text text).1 same)
+part_tested part text (inr same) = or_true (is_any part) (bytes_eq part.text text) ((bytes_eq-Decides part.text text).1 same)
 
 parts_matched : (parts : List Part) (texts : List (List ℕ)) → parts_match parts texts ≡ true → MatchesParts parts texts
 unfolding parts_match MatchesParts
@@ -101,7 +102,7 @@ parts_matched [] (text ∷ texts) h = absurd (cc)
 parts_matched (part ∷ parts) [] h = absurd (cc)
 parts_matched (part ∷ parts) (text ∷ texts) h =
     let both = and_parts (part_matches part text) (parts_match parts texts) h in
-    (matched_part part.wild part text refl both.0, parts_matched parts texts both.1)
+    (matched_part (is_any part) part text refl both.0, parts_matched parts texts both.1)
 
 parts_tested : (parts : List Part) (texts : List (List ℕ)) → MatchesParts parts texts → parts_match parts texts ≡ true
 unfolding parts_match MatchesParts
@@ -115,7 +116,7 @@ unfolding pattern_matches Matches
 pattern_matched Every name h = tt
 pattern_matched (Parts parts realm) name h =
     let both = and_parts (parts_match parts name.parts) (part_matches realm name.realm) h in
-    (parts_matched parts name.parts both.0, matched_part realm.wild realm name.realm refl both.1)
+    (parts_matched parts name.parts both.0, matched_part (is_any realm) realm name.realm refl both.1)
 
 pub pattern_tested : (pattern : PatternShape) (name : NameParts) → Matches pattern name → pattern_matches pattern name ≡ true
 unfolding pattern_matches Matches

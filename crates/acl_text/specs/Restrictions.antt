@@ -5,6 +5,7 @@ use Rattle.std.specs.Int.Width.{w32}
 use Rattle.std.specs.List.{filter_map, list_all, slice_get}
 use Rattle.std.specs.Str.{bytes_eq}
 use Rattle.kadm_values.specs.Flags.{flag_change}
+use Rattle.kadm_values.specs.declared.flags.FlagChange.{FlagChange}
 use Rattle.kadm_values.specs.Readings.{duration_in}
 use Rattle.policy_rules.specs.Names.{is_policy_name}
 use Rattle.acl_text.specs.declared.restrictions.Setting.{Setting}
@@ -35,9 +36,9 @@ setting_named word = find (λ setting. bytes_eq (setting_word setting) word) set
 unfoldable pub is_clear_policy : List ℕ → Bool
 is_clear_policy word = bytes_eq word (codes "-clearpolicy")
 
-abbrev pub flag_opening : Option (Bool × ℕ) → Option Opening
+abbrev pub flag_opening : Option FlagChange → Option Opening
 flag_opening None = None
-flag_opening (Some change) = Some (opening.Whole (given.Flag change.0 change.1))
+flag_opening (Some change) = Some (opening.Whole (given.Flag change.set change.bit))
 
 abbrev pub opening_by : Option Setting → List ℕ → Option Opening
 opening_by (Some setting) word = Some (opening.Value setting)

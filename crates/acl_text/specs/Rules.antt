@@ -1,9 +1,10 @@
 -- The rules of a text (kadm5.acl of the MIT Kerberos administration guide).
 use Rattle.std.specs.Prelude.{ℕ, Bool, List, [], ◌∷◌, find, Option, Some, None, is_none, option_and_then, Result, Ok, Err, if◌then◌else◌}
 use Rattle.std.specs.List.{filter_map}
+use Rattle.princ_name.specs.PatternReadings.{pattern_in}
 use Rattle.princ_name.specs.Shape.{PatternShape}
 use Rattle.acl_text.specs.Letters.{are_letters}
-use Rattle.acl_text.specs.Patterns.{pattern_in, target_in}
+use Rattle.acl_text.specs.Patterns.{target_in}
 use Rattle.acl_text.specs.Restrictions.{limits_in}
 use Rattle.acl_text.specs.Texts.{lines_of, said_lines, words_of}
 use Rattle.acl_text.specs.declared.rules.AclLine.{AclLine}

@@ -1,17 +1,12 @@
 //! Laws of the words of rules. They do no work.
 
 ghost use Rattle.std.specs.Prelude.{List, ℕ, ◌≡◌, ◌↔◌, Some, bit_and, true};
-ghost use Rattle.acl_text.specs.Patterns.{pattern_in, pattern_matches};
+ghost use Rattle.acl_text.specs.Patterns.{pattern_matches};
 ghost use Rattle.acl_text.specs.Restrictions.{limits_in};
 ghost use Rattle.acl_text.specs.declared.limits.Limits.{Limits as LimitsShape};
 ghost use Rattle.princ_name.specs.Names.{NameParts};
-ghost use Rattle.princ_name.specs.Patterns.{Matches, SpellsPattern};
+ghost use Rattle.princ_name.specs.Patterns.{Matches};
 ghost use Rattle.princ_name.specs.Shape.{PatternShape};
-
-/// A word has the pattern that it spells, and no other.
-pub fn word_has_its_pattern()
-    ensures { (word given : List ℕ) (pattern : PatternShape) → (pattern_in word given ≡ Some pattern) ↔ SpellsPattern word given pattern }
-{}
 
 /// The test of a pattern passes the names that it matches.
 pub fn pattern_is_tested()

@@ -113,7 +113,7 @@ fn find_opening(word: &[u8]) -> Option<Opening>
                 return Some(Opening::Whole(Restriction::ClearPolicy));
             }
             match read_flag(word) {
-                Some((sets, bit)) => Some(Opening::Whole(Restriction::Flag(sets, bit))),
+                Some(change) => { Some(Opening::Whole(Restriction::Flag(change.set, change.bit))) }
                 None => None,
             }
         }

@@ -12,8 +12,7 @@ ghost use Rattle.princ_name.specs.Patterns.{hits_of};
 use crate::faults::AclFault;
 use crate::letters::{are_letters, grants};
 use crate::limits::{Limits, read_limits};
-use crate::patterns::{Form, hits_of, read_form};
-use crate::targets::{Target, read_target};
+use crate::targets::{is_every, read_pattern, read_target, target_matches};
 use crate::texts::{Line, is_skipped, split_words};
 use kdb_base::{Blob, MemoryOut};
 use princ_name::{Hits, Name, Pattern};
@@ -28,7 +27,7 @@ pub struct AclLine {
     /// The letters of operations.
     pub letters: Blob,
     /// Every principal, where it has none.
-    pub target: Option<Target>,
+    pub target: Option<Pattern>,
     pub limits: Option<Limits>,
 }
 
@@ -55,7 +54,7 @@ struct Front {
 }
 
 impl Front {
-    fn into_rule(self, target: Option<Target>, limits: Option<Limits>) -> AclLine
+    fn into_rule(self, target: Option<Pattern>, limits: Option<Limits>) -> AclLine
         ensures { result ≡ record { number = self.number; client = self.client; letters = self.letters; target = target; limits = limits } }
     {
         AclLine {
@@ -106,13 +105,13 @@ fn read_rule(
     if !are_letters(letters) {
         return Ok(None);
     }
-    match read_form(alloc, client, realm)? {
-        Some(form) => {
-            let hits = hits_of(&form);
+    match read_pattern(alloc, client, realm)? {
+        Some(client) => {
+            let hits = client.hits();
             let letters = Blob::from_bytes(alloc, letters)?;
             let front = Front {
                 number,
-                client: form.pattern,
+                client,
                 letters,
             };
             read_behind(alloc, front, &hits, words, realm)
@@ -212,8 +211,8 @@ fn target_fits(line: &AclLine, hits: &Hits, client: &Name, target: Option<&Name>
 {
     match &line.target {
         Some(pattern) => match target {
-            Some(name) => pattern.matches(hits, client, name),
-            None => pattern.is_every(),
+            Some(name) => target_matches(pattern, hits, client, name),
+            None => is_every(pattern),
         },
         None => true,
     }

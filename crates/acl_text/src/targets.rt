@@ -3,43 +3,43 @@
 ghost use Rattle.std.specs.Prelude.{◌≡◌, ◌<◌, IfOk, IfSome, map};
 ghost use Rattle.std.specs.List.{list_all};
 ghost use Rattle.acl_text.specs.Decisions.{is_every};
-ghost use Rattle.acl_text.specs.Patterns.{are_known, is_known, matched_text, meant, meant_target, named_wildcard, part_matches, parts_match, pattern_matches, target_in, text_at, wildcard_of};
+ghost use Rattle.acl_text.specs.Patterns.{are_known, is_known, matched_text, meant, meant_target, part_matches, parts_match, pattern_matches, target_in, text_at, wildcard_of};
+ghost use Rattle.princ_name.specs.PatternReadings.{pattern_in};
 ghost use Rattle.princ_name.specs.Patterns.{hits_of};
 ghost use Rattle.princ_name.specs.Shape.{PatternShape};
 
-use crate::patterns::{read_form, read_realm};
 use kadm_values::bytes::is_same;
 use kdb_base::{Blob, MemoryOut};
-use princ_name::{Hits, Name, Part, Pattern};
+use princ_name::{Hits, Kind, Name, NameFault, Part, Pattern};
 use std::alloc::Global;
-use std::marker::Model;
 
-// The number, from 0, of the wildcard that a text names.
-#[tactic(auto, unfolding(crate::specs::Patterns::named_wildcard))]
-fn named_wildcard(text: &[u8]) -> Option<usize>
-    ensures value { result ≡ named_wildcard text.now }
-    ensures below { IfSome result (λ number. number < 9) }
+/// The pattern that a word spells in a database of the given realm.
+#[tactic(auto, unfolding(princ_name::specs::PatternReadings::ReadsPattern))]
+pub(crate) fn read_pattern(
+    alloc: Global,
+    word: &[u8],
+    given: &[u8],
+) -> Result<Option<Pattern>, MemoryOut>
+    ensures { IfOk result (λ pattern. pattern ≡ pattern_in word.now given.now) }
 {
-    match text {
-        [star, digit] => {
-            if *star == b'*' && 49 <= *digit && *digit <= 57 {
-                Some((*digit - 49) as usize)
-            } else {
-                None
-            }
-        }
-        _ => None,
+    match Pattern::parse(alloc, word, given) {
+        Ok(pattern) => Ok(Some(pattern)),
+        Err(NameFault::BadName { offset: _ }) => Ok(None),
+        Err(NameFault::MemoryOut) => Err(MemoryOut),
     }
 }
 
+// The number, from 0, of the client's wildcard that a component stands for.
+#[tactic(auto, unfolding(crate::specs::Patterns::wildcard_of))]
 fn wildcard_of(part: &Part) -> Option<usize>
     ensures value { result ≡ wildcard_of part.now }
     ensures below { IfSome result (λ number. number < 9) }
 {
-    if part.wild {
-        return None;
+    match part.kind() {
+        Kind::Text => None,
+        Kind::Any => None,
+        Kind::Wildcard(number) => Some(usize::from(number)),
     }
-    named_wildcard(part.text.as_slice())
 }
 
 // Whether the client's pattern has the wildcard that a component names.
@@ -98,11 +98,11 @@ fn matched_text<'a>(hits: &Hits, client: &'a Name, number: usize) -> &'a [u8]
 fn part_matches(part: &Part, text: &[u8]) -> bool
     ensures { result ≡ part_matches part.now text.now }
 {
-    part.wild || is_same(part.text.as_slice(), text)
+    part.is_any() || is_same(part.text.as_slice(), text)
 }
 
 // Whether a component matches, where the client's wildcards matched these places of its name.
-#[tactic(auto, unfolding(crate::specs::Patterns::meant))]
+#[tactic(auto, unfolding(crate::specs::Patterns::meant, princ_name::specs::Kinds::is_any, princ_name::specs::Kinds::kind_of))]
 fn meant_matches(part: &Part, hits: &Hits, client: &Name, text: &[u8]) -> bool
     ensures { (pattern : PatternShape) → hits.now.at ≡ hits_of pattern → result ≡ part_matches (meant pattern client.now part.now) text.now }
 {
@@ -126,47 +126,25 @@ fn parts_match(parts: &[Part], hits: &Hits, client: &Name, texts: &[Blob]) -> bo
     true
 }
 
-/// The target of a line.
-#[derive(Debug, Drop)]
-pub struct Target {
-    pattern: Pattern,
-    realm: Option<Part>,
+/// Whether a target is `*`.
+pub(crate) fn is_every(target: &Pattern) -> bool
+    ensures { result ≡ is_every target.now }
+{
+    target.parts().is_none()
 }
 
-impl Model for Target {
-    ghost use Rattle.std.specs.Prelude.{◌≡◌};
-    ghost use Rattle.acl_text.specs.Patterns.{realm_of};
-    ghost use Rattle.princ_name.specs.Shape.{PatternShape};
-
-    ghost Value = { PatternShape };
-
-    ghost view = { λ t. t.pattern };
-
-    ghost invariant = { λ t. t.realm ≡ realm_of t.pattern };
-}
-
-impl Target {
-    /// Whether the target is `*`.
-    pub fn is_every(&self) -> bool
-        ensures { result ≡ is_every self.now }
-    {
-        self.pattern.parts().is_none()
-    }
-
-    /// Whether the target matches a name, where the client's wildcards stand at these places of the client.
-    pub fn matches(&self, hits: &Hits, client: &Name, name: &Name) -> bool
-        ensures { (pattern : PatternShape) → hits.now.at ≡ hits_of pattern → result ≡ pattern_matches (meant_target pattern client.now self.now) name.now }
-    {
-        match &self.realm {
-            Some(realm) => match self.pattern.parts() {
-                Some(parts) => {
-                    parts_match(parts, hits, client, name.parts())
-                        && part_matches(realm, name.realm())
-                }
-                None => true,
-            },
+/// Whether a target matches a name, where the client's wildcards stand at these places of the client.
+pub(crate) fn target_matches(target: &Pattern, hits: &Hits, client: &Name, name: &Name) -> bool
+    ensures { (pattern : PatternShape) → hits.now.at ≡ hits_of pattern → result ≡ pattern_matches (meant_target pattern client.now target.now) name.now }
+{
+    match target.realm() {
+        Some(realm) => match target.parts() {
+            Some(parts) => {
+                parts_match(parts, hits, client, name.parts()) && part_matches(realm, name.realm())
+            }
             None => true,
-        }
+        },
+        None => true,
     }
 }
 
@@ -177,19 +155,15 @@ pub(crate) fn read_target(
     word: &[u8],
     given: &[u8],
     hits: &Hits,
-) -> Result<Option<Target>, MemoryOut>
+) -> Result<Option<Pattern>, MemoryOut>
     ensures { (client : PatternShape) → hits.now.at ≡ hits_of client → IfOk result (λ target. target ≡ target_in word.now given.now client) }
 {
-    match read_form(alloc, word, given)? {
-        Some(form) => {
-            if !are_known(&form.pattern, hits) {
+    match read_pattern(alloc, word, given)? {
+        Some(target) => {
+            if !are_known(&target, hits) {
                 return Ok(None);
             }
-            let realm = read_realm(alloc, &form, word, given)?;
-            Ok(Some(Target {
-                pattern: form.pattern,
-                realm,
-            }))
+            Ok(Some(target))
         }
         None => Ok(None),
     }

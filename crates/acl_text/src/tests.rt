@@ -14,16 +14,18 @@ fn read(alloc: Global, text: &[u8]) -> Result<Acl, AclFault> {
     Acl::read(alloc, text, REALM)
 }
 
-const RULES: &[u8] = b"joe/admin ADMCIL */root\n*/admin *\n*/user ci *1\n";
+const RULES: &[u8] = b"joe/admin ADMCIL */root\n*/admin *\n*/user ci *1\n*/text i \\*1\n";
 
 /// A client, an operation's letter, a target, and the line that decides and its answer.
-const DECIDED: [(&[u8], u8, &[u8], u32, bool); 6] = [
+const DECIDED: [(&[u8], u8, &[u8], u32, bool); 8] = [
     (b"joe/admin", b'd', b"x/root", 1, false),
     (b"joe/admin", b'd', b"bob", 2, true),
     (b"joe/admin", b'e', b"bob", 2, false),
     (b"bob/user", b'i', b"bob", 3, true),
     (b"bob/user", b'i', b"carol", 0, false),
     (b"bob/user@OTHER", b'i', b"bob", 0, false),
+    (b"bob/text", b'i', b"bob", 0, false),
+    (b"bob/text", b'i', b"*1", 4, true),
 ];
 
 #[test]
@@ -41,7 +43,7 @@ fn first_line_decides(rt: HostRuntime) -> Result<(), Fail> {
 }
 
 /// Texts, and the number of the line that is bad; 0 where none is.
-const READ: [(&[u8], u32); 24] = [
+const READ: [(&[u8], u32); 29] = [
     (b"", 0),
     (b"\n\njoe a", 0),
     (b"joe Q", 1),
@@ -55,6 +57,11 @@ const READ: [(&[u8], u32); 24] = [
     (b"*/* a *2", 0),
     (b"*/* a *3", 1),
     (b"*/x@* a *2/*0/*12@*1", 0),
+    (b"joe a \\*1", 0),
+    (b"joe a *\\1", 0),
+    (b"\\*/* a *2", 1),
+    (b"\\*/*1 a *1", 1),
+    (b"* a \\*1/*0/*a", 0),
     (b"joe a +needchange", 0),
     (b"joe a * +nonsense", 1),
     (b"joe a * +needchange -needchange", 0),

@@ -49,7 +49,7 @@ times_x-lt : (a : ℕ) → a < 256 → times_x a < 256
 unfolding times_x
 times_x-lt a lt = xor_of_8 (2 * a % 256) (27 * (a / 128)) (omega arith) (omega arith)
 
-times_power-lt : (n a : ℕ) → a < 256 → times_power n a < 256
+pub times_power-lt : (n a : ℕ) → a < 256 → times_power n a < 256
 unfolding times_power
 times_power-lt zero a lt = lt
 times_power-lt (suc n) a lt = times_x-lt _ (times_power-lt n a lt)

@@ -22,7 +22,7 @@ pub add_twice_block : (b k : List ℕ) → IsBlock b → IsBlock k → add_bytes
 add_twice_block b k h g = add_twice b k (h.whole ∙ sym g.whole)
 
 -- the substitutions
-sub-lt : (b : List ℕ) → AreBytes b → AreBytes (map sub_byte b)
+pub sub-lt : (b : List ℕ) → AreBytes b → AreBytes (map sub_byte b)
 sub-lt [] h = tt
 sub-lt (x ∷ xs) h = (sub_byte-lt x h.0, sub-lt xs h.1)
 

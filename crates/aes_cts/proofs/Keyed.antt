@@ -56,11 +56,11 @@ inverse_of stride keys undo held =
     }
 
 -- how many blocks stand before the end
-before_low : (n : ℕ) → 16 ≤ n → 16 * blocks_before_end n + 16 ≤ n
+pub before_low : (n : ℕ) → 16 ≤ n → 16 * blocks_before_end n + 16 ≤ n
 unfolding blocks_before_end
 before_low n low = omega arith
 
-before_high : (n : ℕ) → n ≤ 16 * blocks_before_end n + 32
+pub before_high : (n : ℕ) → n ≤ 16 * blocks_before_end n + 32
 unfolding blocks_before_end
 before_high n = omega arith
 

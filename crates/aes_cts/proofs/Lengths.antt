@@ -44,7 +44,7 @@ length-next_word n bytes low le =
     let four = length-turned n (length bytes / 4) (drop (length bytes - 4) bytes) last in
     length-add_bytes _ (turned n (length bytes / 4) (drop (length bytes - 4) bytes)) (back ∙ sym four) ∙ four
 
-length-expand : (n : ℕ) (key : List ℕ) (more : ℕ) → 1 ≤ n → length key ≡ 4 * n → length (expand n key more) ≡ 4 * n + 4 * more
+pub length-expand : (n : ℕ) (key : List ℕ) (more : ℕ) → 1 ≤ n → length key ≡ 4 * n → length (expand n key more) ≡ 4 * n + 4 * more
 unfolding expand
 length-expand n key zero low h = h ∙ omega arith
 length-expand n key (suc more) low h =

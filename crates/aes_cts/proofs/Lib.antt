@@ -13,3 +13,4 @@ pub mod Inversion
 pub mod Field
 pub mod Mixing
 pub mod Packed
+pub mod OneText

@@ -1,3 +1,4 @@
+pub mod BlockKeys
 pub mod Field
 pub mod Cipher
 pub mod Inverse

@@ -1,6 +1,6 @@
 -- The text of a dump is judged that dump.
 use Rattle.std.proofs.Common.{◌≡◌, ℕ, zero, suc, ◌+◌, ◌-◌, ◌/◌, ◌%◌, ◌<◌, ◌≤◌, ◌==◌, Bool, true, false, ◌&&◌, if◌then◌else◌, List, [], ◌∷◌, ◌++◌, codes, length, take, drop, replicate, slice_index, Some, None, refl, sym, ap, ◌∙◌, append_assoc, append-nil, arith}
-use Rattle.std.specs.Prelude.{Result, Ok, Err, nat_le, nat_lt, option_and_then}
+use Rattle.std.specs.Prelude.{Result, Ok, Err, Option, nat_le, nat_lt, option_and_then, option_map}
 use Rattle.std.specs.Char.{is_ascii_digit}
 use Rattle.std.specs.Fmt.{decimal}
 use Rattle.std.specs.List.{AllByRecursion, flat_map, fold, list_all}
@@ -12,23 +12,29 @@ use Rattle.std.proofs.lemmas.List.Elements.{recursion_from_All}
 use Rattle.std.proofs.lemmas.Str.Parse.{IsNumeralModel, numerals_by_fold, tells_all_ascii_digits}
 use Rattle.hex.specs.Hex.{IsBytes, encode_lower, encode_with, hex_digit_value, lower_digits}
 use Rattle.hex.proofs.HexLemmas.{IsDigits-lower_digits, decode_of-encode_lower}
+use Rattle.kdb_base.specs.Limits.{longest_row}
 use Rattle.kdb_base.specs.declared.moments.Point.{Point}
 use Rattle.kdb_format.specs.Moments.{IsPoint}
 use Rattle.kdb_format.specs.Readings.{whole}
 use Rattle.kdb_format.specs.Laws.{whole_again}
 use Rattle.policy_rules.specs.Rules.{Rules}
 use Rattle.princ_name.specs.Realms.{is_realm, is_realm_byte}
-use Rattle.princ_record.specs.Entries.{IsRow, bytes_same}
+use Rattle.princ_record.specs.RowLimits.{IsRow}
+use Rattle.princ_rows.specs.Entries.{bytes_same}
 use Rattle.princ_record.specs.Policies.{policy, policy_at, policy_field, IsPolicy}
 use Rattle.princ_record.specs.Princs.{princ, princ_field}
-use Rattle.princ_record.specs.Rows.{RowLists, AreRows}
+use Rattle.princ_rows.specs.Rows.{RowLists, AreRows}
 use Rattle.princ_record.specs.declared.princs.Princ.{Princ}
-use Rattle.dump_text.specs.Dumps.{ended, title, realm_line, point_line, princ_line, policy_line, end_line, six_digits, head_text, rows_text, row_count, dump_text}
+use Rattle.dump_text.specs.Dumps.{ended, realm_line, point_line, princ_line, policy_line, end_line, six_digits, head_text, rows_text, row_count, dump_text}
 use Rattle.dump_text.specs.Lines.{lacks}
 use Rattle.dump_text.specs.Readings.{behind, realm_of, realm_in, with_digit, number_of, before_blank, behind_blank, near_time, near_point, is_point, written_so, point_in, bytes_or_none, hex_of, princ_of, policy_of}
-use Rattle.dump_text.specs.Judged.{Said, nothing, after, after_title, after_realm, after_point, after_row, after_end, with_princ, with_policy, policy_or_end, princ_or_other, dump_of, judged, judged_from, line_behind, IsDump}
+use Rattle.dump_text.specs.Judged.{Said, nothing, after, after_title, after_realm, after_point, after_row, after_end, with_princ, with_policy, policy_or_end, princ_or_other, dump_of, judged, judged_from, line_behind, IsDump, IsDumpText}
+use Rattle.dump_text.specs.Versions.{stands_in, title}
+use Rattle.dump_text.specs.declared.versions.Version.{Version}
+use Rattle.dump_text.specs.declared.versions.Version.TheVariants.{One, Two}
 use Rattle.dump_text.specs.declared.dumps.Dump.{Dump}
 use Rattle.dump_text.proofs.Judging.{lacks-append, judged-goes, judged-end}
+use Rattle.dump_text.proofs.Stands.{version_again}
 use Rattle.dump_text.proofs.Orders.{fewer_rows, princ_goes, policy_goes}
 
 -- ---- words
@@ -183,9 +189,10 @@ hex_lacks (b ∷ bytes) are =
     let fits : b < 256 = are 0 in
     rw (digit_lacks (b / 16) (omega arith), digit_lacks (b % 16) (omega arith)) (hex_lacks bytes (λ i. are (suc i)))
 
-princ_again : (p : Princ) → IsRow p → IsBytes (princ p) → princ_of (encode_lower (princ p)) ≡ Some p
+princ_again : (v : Version) (p : Princ) → IsRow p → IsBytes (princ p) → stands_in v p ≡ true → princ_of v (encode_lower (princ p)) ≡ Some p
 unfolding princ_of
-princ_again p row are = rw (hex_again (princ p) are, le-leb (length (princ p)) 8000 row.short) (whole_again princ_field p row.fits)
+princ_again v p row are stand =
+    rw (hex_again (princ p) are) (ap (option_and_then (λ (q : Princ). if stands_in v q then Some q else None)) (whole_again princ_field p row.fits) ∙ ap (λ (b : Bool). if b then Some p else None) stand)
 
 policy_again : (p : Rules) → IsPolicy p → IsBytes (policy p) → policy_of (encode_lower (policy p)) ≡ Some p
 unfolding policy_of
@@ -197,28 +204,28 @@ policy_again p row are = ap (option_and_then (λ bytes. whole policy_at bytes)) 
 pub goes : (s t : Said) (n : ℕ) (line rest : List ℕ) → lacks 10 line ≡ true → after s line ≡ Some t → judged_from s n (ended line ++ rest) ≡ judged_from t (line_behind n) rest
 goes s t n line rest clear e = ap (judged_from s n) (append_assoc line (codes "\n") rest) ∙ judged-goes s t n (line_behind n) line rest clear e refl
 
-abbrev at_rows : List ℕ → Point → RowLists → Bool → Said
-at_rows realm point rows over = record { titled = true; realm = Some realm; point = Some point; princs = rows.princs; policies = rows.policies; ended = over }
+abbrev at_rows : Version → List ℕ → Point → RowLists → Bool → Said
+at_rows v realm point rows over = record { titled = Some v; realm = Some realm; point = Some point; princs = rows.princs; policies = rows.policies; ended = over }
 
-after_princ : (realm : List ℕ) (point : Point) (princs : List Princ) (p : Princ) → AreRows (record { princs = princs ++ (p ∷ []); policies = [] }) → IsRow p → IsBytes (princ p)
-    → after (at_rows realm point (record { princs = princs; policies = [] }) false) (princ_line p) ≡ Some (at_rows realm point (record { princs = princs ++ (p ∷ []); policies = [] }) false)
+after_princ : (v : Version) (realm : List ℕ) (point : Point) (princs : List Princ) (p : Princ) → AreRows (record { princs = princs ++ (p ∷ []); policies = [] }) → IsRow p → IsBytes (princ p) → stands_in v p ≡ true
+    → after (at_rows v realm point (record { princs = princs; policies = [] }) false) (princ_line p) ≡ Some (at_rows v realm point (record { princs = princs ++ (p ∷ []); policies = [] }) false)
 unfolding after after_row princ_line
-after_princ realm point princs p good row are =
-    let s : Said = at_rows realm point (record { princs = princs; policies = [] }) false in
-    ap (princ_or_other s (codes "princ " ++ encode_lower (princ p))) (behind_again (codes "princ ") (encode_lower (princ p)))
-    ∙ ap (option_and_then (with_princ s)) (princ_again p row are) ∙ princ_goes s p refl good
+after_princ v realm point princs p good row are stand =
+    let s : Said = at_rows v realm point (record { princs = princs; policies = [] }) false in
+    ap (princ_or_other v s (codes "princ " ++ encode_lower (princ p))) (behind_again (codes "princ ") (encode_lower (princ p)))
+    ∙ ap (option_and_then (with_princ s)) (princ_again v p row are stand) ∙ princ_goes s p refl good
 
 no_princ : (text : List ℕ) → behind (codes "princ ") (codes "policy " ++ text) ≡ None
 unfolding behind
 no_princ text = refl
 
-after_policy : (realm : List ℕ) (point : Point) (princs : List Princ) (policies : List Rules) (p : Rules) → AreRows (record { princs = princs; policies = policies ++ (p ∷ []) }) → IsPolicy p → IsBytes (policy p)
-    → after (at_rows realm point (record { princs = princs; policies = policies }) false) (policy_line p) ≡ Some (at_rows realm point (record { princs = princs; policies = policies ++ (p ∷ []) }) false)
+after_policy : (v : Version) (realm : List ℕ) (point : Point) (princs : List Princ) (policies : List Rules) (p : Rules) → AreRows (record { princs = princs; policies = policies ++ (p ∷ []) }) → IsPolicy p → IsBytes (policy p)
+    → after (at_rows v realm point (record { princs = princs; policies = policies }) false) (policy_line p) ≡ Some (at_rows v realm point (record { princs = princs; policies = policies ++ (p ∷ []) }) false)
 unfolding after after_row policy_line
-after_policy realm point princs policies p good row are =
-    let s : Said = at_rows realm point (record { princs = princs; policies = policies }) false in
+after_policy v realm point princs policies p good row are =
+    let s : Said = at_rows v realm point (record { princs = princs; policies = policies }) false in
     let line : List ℕ = codes "policy " ++ encode_lower (policy p) in
-    ap (princ_or_other s line) (no_princ (encode_lower (policy p)))
+    ap (princ_or_other v s line) (no_princ (encode_lower (policy p)))
     ∙ ap (policy_or_end s line) (behind_again (codes "policy ") (encode_lower (policy p)))
     ∙ ap (option_and_then (with_policy s)) (policy_again p row are) ∙ policy_goes s p good
 
@@ -230,12 +237,12 @@ end_again : (s : Said) → after_end s (end_line (row_count (record { princs = s
 unfolding after_end
 end_again s = rw (bytes_same (end_line (row_count (record { princs = s.princs; policies = s.policies }))) (end_line (row_count (record { princs = s.princs; policies = s.policies }))) refl) refl
 
-pub after_last : (realm : List ℕ) (point : Point) (rows : RowLists) → after (at_rows realm point rows false) (end_line (row_count rows)) ≡ Some (at_rows realm point rows true)
+pub after_last : (v : Version) (realm : List ℕ) (point : Point) (rows : RowLists) → after (at_rows v realm point rows false) (end_line (row_count rows)) ≡ Some (at_rows v realm point rows true)
 unfolding after after_row end_line
-after_last realm point rows =
-    let s : Said = at_rows realm point rows false in
+after_last v realm point rows =
+    let s : Said = at_rows v realm point rows false in
     let text : List ℕ = decimal (row_count rows) in
-    ap (princ_or_other s (codes "end " ++ text)) (no_row text).0 ∙ ap (policy_or_end s (codes "end " ++ text)) (no_row text).1 ∙ end_again s
+    ap (princ_or_other v s (codes "end " ++ text)) (no_row text).0 ∙ ap (policy_or_end s (codes "end " ++ text)) (no_row text).1 ∙ end_again s
 
 princ_line_lacks : (p : Princ) → IsBytes (princ p) → lacks 10 (princ_line p) ≡ true
 unfolding princ_line lacks
@@ -249,92 +256,96 @@ pub end_lacks : (n : ℕ) → n ≤ 100000 → lacks 10 (end_line n) ≡ true
 unfolding end_line lacks
 end_lacks n few = number_lacks 10 n (omega arith) refl
 
-pub title_lacks : lacks 10 title ≡ true
+pub title_lacks : (v : Version) → lacks 10 (title v) ≡ true
 unfolding title lacks
-title_lacks = refl
+title_lacks One = refl
+title_lacks Two = refl
 
 -- ---- texts
 
-princs_again : (realm : List ℕ) (point : Point) (rows : RowLists) (before todo : List Princ) (n : ℕ) (text : List ℕ) (dump : Dump) → AreRows rows → rows.princs ≡ before ++ todo
-    → AllByRecursion IsRow todo → AllByRecursion (λ p. IsBytes (princ p)) todo
-    → ((m : ℕ) → judged_from (at_rows realm point (record { princs = before ++ todo; policies = [] }) false) m text ≡ Ok dump)
-    → judged_from (at_rows realm point (record { princs = before; policies = [] }) false) n (flat_map (λ p. ended (princ_line p)) todo ++ text) ≡ Ok dump
-princs_again realm point rows before [] n text dump good is row are then' =
-    ap (λ (ps : List Princ). judged_from (at_rows realm point (record { princs = ps; policies = [] }) false) n text) (sym (append-nil before)) ∙ then' n
-princs_again realm point rows before (p ∷ todo) n text dump good is row are then' =
+princs_again : (v : Version) (realm : List ℕ) (point : Point) (rows : RowLists) (before todo : List Princ) (n : ℕ) (text : List ℕ) (dump : Dump) → AreRows rows → rows.princs ≡ before ++ todo
+    → AllByRecursion IsRow todo → AllByRecursion (λ p. IsBytes (princ p)) todo → AllByRecursion (λ p. stands_in v p ≡ true) todo
+    → ((m : ℕ) → judged_from (at_rows v realm point (record { princs = before ++ todo; policies = [] }) false) m text ≡ Ok dump)
+    → judged_from (at_rows v realm point (record { princs = before; policies = [] }) false) n (flat_map (λ p. ended (princ_line p)) todo ++ text) ≡ Ok dump
+princs_again v realm point rows before [] n text dump good is row are stand then' =
+    ap (λ (ps : List Princ). judged_from (at_rows v realm point (record { princs = ps; policies = [] }) false) n text) (sym (append-nil before)) ∙ then' n
+princs_again v realm point rows before (p ∷ todo) n text dump good is row are stand then' =
     let more : (before ++ (p ∷ [])) ++ todo ≡ before ++ (p ∷ todo) = append_assoc before (p ∷ []) todo in
     let front : AreRows (record { princs = before ++ (p ∷ []); policies = [] }) =
     fewer_rows rows (length (before ++ (p ∷ []))) 0 (before ++ (p ∷ [])) [] good (sym (ap (take (length (before ++ (p ∷ [])))) (is ∙ sym more) ∙ take_at (before ++ (p ∷ [])) todo (length (before ++ (p ∷ []))) refl)) refl in
-    ap (judged_from (at_rows realm point (record { princs = before; policies = [] }) false) n) (append_assoc (ended (princ_line p)) (flat_map (λ q. ended (princ_line q)) todo) text)
-    ∙ goes (at_rows realm point (record { princs = before; policies = [] }) false) (at_rows realm point (record { princs = before ++ (p ∷ []); policies = [] }) false) n (princ_line p)
-    (flat_map (λ q. ended (princ_line q)) todo ++ text) (princ_line_lacks p are.0) (after_princ realm point before p front row.0 are.0)
-    ∙ princs_again realm point rows (before ++ (p ∷ [])) todo (line_behind n) text dump good (is ∙ sym more) row.1 are.1
-    (λ m. ap (λ (ps : List Princ). judged_from (at_rows realm point (record { princs = ps; policies = [] }) false) m text) more ∙ then' m)
+    ap (judged_from (at_rows v realm point (record { princs = before; policies = [] }) false) n) (append_assoc (ended (princ_line p)) (flat_map (λ q. ended (princ_line q)) todo) text)
+    ∙ goes (at_rows v realm point (record { princs = before; policies = [] }) false) (at_rows v realm point (record { princs = before ++ (p ∷ []); policies = [] }) false) n (princ_line p)
+    (flat_map (λ q. ended (princ_line q)) todo ++ text) (princ_line_lacks p are.0) (after_princ v realm point before p front row.0 are.0 stand.0)
+    ∙ princs_again v realm point rows (before ++ (p ∷ [])) todo (line_behind n) text dump good (is ∙ sym more) row.1 are.1 stand.1
+    (λ m. ap (λ (ps : List Princ). judged_from (at_rows v realm point (record { princs = ps; policies = [] }) false) m text) more ∙ then' m)
 
-policies_again : (realm : List ℕ) (point : Point) (rows : RowLists) (before todo : List Rules) (n : ℕ) (text : List ℕ) (dump : Dump) → AreRows rows → rows.policies ≡ before ++ todo
+policies_again : (v : Version) (realm : List ℕ) (point : Point) (rows : RowLists) (before todo : List Rules) (n : ℕ) (text : List ℕ) (dump : Dump) → AreRows rows → rows.policies ≡ before ++ todo
     → AllByRecursion IsPolicy todo → AllByRecursion (λ p. IsBytes (policy p)) todo
-    → ((m : ℕ) → judged_from (at_rows realm point (record { princs = rows.princs; policies = before ++ todo }) false) m text ≡ Ok dump)
-    → judged_from (at_rows realm point (record { princs = rows.princs; policies = before }) false) n (flat_map (λ p. ended (policy_line p)) todo ++ text) ≡ Ok dump
-policies_again realm point rows before [] n text dump good is row are then' =
-    ap (λ (ps : List Rules). judged_from (at_rows realm point (record { princs = rows.princs; policies = ps }) false) n text) (sym (append-nil before)) ∙ then' n
-policies_again realm point rows before (p ∷ todo) n text dump good is row are then' =
+    → ((m : ℕ) → judged_from (at_rows v realm point (record { princs = rows.princs; policies = before ++ todo }) false) m text ≡ Ok dump)
+    → judged_from (at_rows v realm point (record { princs = rows.princs; policies = before }) false) n (flat_map (λ p. ended (policy_line p)) todo ++ text) ≡ Ok dump
+policies_again v realm point rows before [] n text dump good is row are then' =
+    ap (λ (ps : List Rules). judged_from (at_rows v realm point (record { princs = rows.princs; policies = ps }) false) n text) (sym (append-nil before)) ∙ then' n
+policies_again v realm point rows before (p ∷ todo) n text dump good is row are then' =
     let more : (before ++ (p ∷ [])) ++ todo ≡ before ++ (p ∷ todo) = append_assoc before (p ∷ []) todo in
     let front : AreRows (record { princs = rows.princs; policies = before ++ (p ∷ []) }) =
     fewer_rows rows (length rows.princs) (length (before ++ (p ∷ []))) rows.princs (before ++ (p ∷ [])) good (sym (take_all (length rows.princs) rows.princs (omega arith)))
     (sym (ap (take (length (before ++ (p ∷ [])))) (is ∙ sym more) ∙ take_at (before ++ (p ∷ [])) todo (length (before ++ (p ∷ []))) refl)) in
-    ap (judged_from (at_rows realm point (record { princs = rows.princs; policies = before }) false) n) (append_assoc (ended (policy_line p)) (flat_map (λ q. ended (policy_line q)) todo) text)
-    ∙ goes (at_rows realm point (record { princs = rows.princs; policies = before }) false) (at_rows realm point (record { princs = rows.princs; policies = before ++ (p ∷ []) }) false) n (policy_line p)
-    (flat_map (λ q. ended (policy_line q)) todo ++ text) (policy_line_lacks p are.0) (after_policy realm point rows.princs before p front row.0 are.0)
-    ∙ policies_again realm point rows (before ++ (p ∷ [])) todo (line_behind n) text dump good (is ∙ sym more) row.1 are.1
-    (λ m. ap (λ (ps : List Rules). judged_from (at_rows realm point (record { princs = rows.princs; policies = ps }) false) m text) more ∙ then' m)
+    ap (judged_from (at_rows v realm point (record { princs = rows.princs; policies = before }) false) n) (append_assoc (ended (policy_line p)) (flat_map (λ q. ended (policy_line q)) todo) text)
+    ∙ goes (at_rows v realm point (record { princs = rows.princs; policies = before }) false) (at_rows v realm point (record { princs = rows.princs; policies = before ++ (p ∷ []) }) false) n (policy_line p)
+    (flat_map (λ q. ended (policy_line q)) todo ++ text) (policy_line_lacks p are.0) (after_policy v realm point rows.princs before p front row.0 are.0)
+    ∙ policies_again v realm point rows (before ++ (p ∷ [])) todo (line_behind n) text dump good (is ∙ sym more) row.1 are.1
+    (λ m. ap (λ (ps : List Rules). judged_from (at_rows v realm point (record { princs = rows.princs; policies = ps }) false) m text) more ∙ then' m)
 
-end_judged : (realm : List ℕ) (point : Point) (rows : RowLists) (n : ℕ) → judged_from (at_rows realm point rows true) n [] ≡ Ok (record { realm = realm; point = point; rows = rows })
+end_judged : (v : Version) (realm : List ℕ) (point : Point) (rows : RowLists) (n : ℕ) → judged_from (at_rows v realm point rows true) n [] ≡ Ok (record { realm = realm; point = point; rows = rows })
 unfolding lacks dump_of
-end_judged realm point rows n = judged-end (at_rows realm point rows true) n [] refl
+end_judged v realm point rows n = judged-end (at_rows v realm point rows true) n [] refl
 
-rows_again : (dump : Dump) (n : ℕ) → IsDump dump
-    → judged_from (at_rows dump.realm dump.point (record { princs = []; policies = [] }) false) n (rows_text dump.rows ++ ended (end_line (row_count dump.rows))) ≡ Ok dump
+rows_again : (v : Version) (dump : Dump) (n : ℕ) → IsDump v dump
+    → judged_from (at_rows v dump.realm dump.point (record { princs = []; policies = [] }) false) n (rows_text dump.rows ++ ended (end_line (row_count dump.rows))) ≡ Ok dump
 unfolding rows_text
-rows_again dump n good =
+rows_again v dump n good =
     let rows : RowLists = dump.rows in
     let a : List ℕ = flat_map (λ p. ended (princ_line p)) rows.princs in
     let b : List ℕ = flat_map (λ p. ended (policy_line p)) rows.policies in
     let last : List ℕ = ended (end_line (row_count rows)) in
     let few = good.rows.few in
-    ap (judged_from (at_rows dump.realm dump.point (record { princs = []; policies = [] }) false) n) (append_assoc a b last)
-    ∙ princs_again dump.realm dump.point rows [] rows.princs n (b ++ last) dump good.rows refl (recursion_from_All IsRow rows.princs good.rows.princs) (recursion_from_All (λ p. IsBytes (princ p)) rows.princs good.bytes.princs)
-    (λ m. policies_again dump.realm dump.point rows [] rows.policies m last dump good.rows refl (recursion_from_All IsPolicy rows.policies good.rows.policies) (recursion_from_All (λ p. IsBytes (policy p)) rows.policies good.bytes.policies)
-    (λ k. ap (judged_from (at_rows dump.realm dump.point rows false) k) (sym (append-nil last))
-    ∙ goes (at_rows dump.realm dump.point rows false) (at_rows dump.realm dump.point rows true) k (end_line (row_count rows)) [] (end_lacks (row_count rows) (omega arith)) (after_last dump.realm dump.point rows)
-    ∙ end_judged dump.realm dump.point rows (line_behind k)))
+    ap (judged_from (at_rows v dump.realm dump.point (record { princs = []; policies = [] }) false) n) (append_assoc a b last)
+    ∙ princs_again v dump.realm dump.point rows [] rows.princs n (b ++ last) dump good.rows refl (recursion_from_All IsRow rows.princs good.rows.princs) (recursion_from_All (λ p. IsBytes (princ p)) rows.princs good.bytes.princs) (recursion_from_All (λ p. stands_in v p ≡ true) rows.princs good.bytes.stand)
+    (λ m. policies_again v dump.realm dump.point rows [] rows.policies m last dump good.rows refl (recursion_from_All IsPolicy rows.policies good.rows.policies) (recursion_from_All (λ p. IsBytes (policy p)) rows.policies good.bytes.policies)
+    (λ k. ap (judged_from (at_rows v dump.realm dump.point rows false) k) (sym (append-nil last))
+    ∙ goes (at_rows v dump.realm dump.point rows false) (at_rows v dump.realm dump.point rows true) k (end_line (row_count rows)) [] (end_lacks (row_count rows) (omega arith)) (after_last v dump.realm dump.point rows)
+    ∙ end_judged v dump.realm dump.point rows (line_behind k)))
 
-title_after : after nothing title ≡ Some (record { titled = true; realm = None; point = None; princs = []; policies = []; ended = false })
+title_after : (v : Version) → after nothing (title v) ≡ Some (record { titled = Some v; realm = None; point = None; princs = []; policies = []; ended = false })
 unfolding after after_title
-title_after = rw (bytes_same title title refl) refl
+title_after v = ap (option_map (λ (u : Version). record { titled = Some u; realm = None; point = None; princs = []; policies = []; ended = false })) (version_again v)
 
-realm_after : (realm : List ℕ) → is_realm realm ≡ true → after (record { titled = true; realm = None; point = None; princs = []; policies = []; ended = false }) (realm_line realm)
-    ≡ Some (record { titled = true; realm = Some realm; point = None; princs = []; policies = []; ended = false })
+realm_after : (v : Version) (realm : List ℕ) → is_realm realm ≡ true → after (record { titled = Some v; realm = None; point = None; princs = []; policies = []; ended = false }) (realm_line realm)
+    ≡ Some (record { titled = Some v; realm = Some realm; point = None; princs = []; policies = []; ended = false })
 unfolding after after_realm
-realm_after realm good = rw (realm_again realm good) refl
+realm_after v realm good = rw (realm_again realm good) refl
 
-point_after : (realm : List ℕ) (point : Point) → IsPoint point → after (record { titled = true; realm = Some realm; point = None; princs = []; policies = []; ended = false }) (point_line point)
-    ≡ Some (at_rows realm point (record { princs = []; policies = [] }) false)
+point_after : (v : Version) (realm : List ℕ) (point : Point) → IsPoint point → after (record { titled = Some v; realm = Some realm; point = None; princs = []; policies = []; ended = false }) (point_line point)
+    ≡ Some (at_rows v realm point (record { princs = []; policies = [] }) false)
 unfolding after after_point
-point_after realm point good = rw (point_again point good) refl
+point_after v realm point good = rw (point_again point good) refl
 
-pub dump_again : (dump : Dump) → IsDump dump → judged (dump_text dump.realm dump.point dump.rows) ≡ Ok dump
+dump_again : (v : Version) (dump : Dump) → IsDump v dump → judged (dump_text v dump.realm dump.point dump.rows) ≡ Ok dump
 unfolding judged dump_text head_text
-dump_again dump good =
+dump_again v dump good =
     let body : List ℕ = rows_text dump.rows ++ ended (end_line (row_count dump.rows)) in
     let r : List ℕ = ended (realm_line dump.realm) in
     let p : List ℕ = ended (point_line dump.point) in
-    ap (judged_from nothing 0) (append_assoc (ended title) (r ++ p) body ∙ ap (λ (t : List ℕ). ended title ++ t) (append_assoc r p body))
-    ∙ goes nothing (record { titled = true; realm = None; point = None; princs = []; policies = []; ended = false }) 0 title (r ++ (p ++ body)) title_lacks title_after
-    ∙ goes (record { titled = true; realm = None; point = None; princs = []; policies = []; ended = false }) (record { titled = true; realm = Some dump.realm; point = None; princs = []; policies = []; ended = false })
-    (line_behind 0) (realm_line dump.realm) (p ++ body) (realm_lacks dump.realm good.realm) (realm_after dump.realm good.realm)
-    ∙ goes (record { titled = true; realm = Some dump.realm; point = None; princs = []; policies = []; ended = false }) (at_rows dump.realm dump.point (record { princs = []; policies = [] }) false)
-    (line_behind (line_behind 0)) (point_line dump.point) body (point_lacks dump.point good.point) (point_after dump.realm dump.point good.point)
-    ∙ rows_again dump (line_behind (line_behind (line_behind 0))) good
+    ap (judged_from nothing 0) (append_assoc (ended (title v)) (r ++ p) body ∙ ap (λ (t : List ℕ). ended (title v) ++ t) (append_assoc r p body))
+    ∙ goes nothing (record { titled = Some v; realm = None; point = None; princs = []; policies = []; ended = false }) 0 (title v) (r ++ (p ++ body)) (title_lacks v) (title_after v)
+    ∙ goes (record { titled = Some v; realm = None; point = None; princs = []; policies = []; ended = false }) (record { titled = Some v; realm = Some dump.realm; point = None; princs = []; policies = []; ended = false })
+    (line_behind 0) (realm_line dump.realm) (p ++ body) (realm_lacks dump.realm good.realm) (realm_after v dump.realm good.realm)
+    ∙ goes (record { titled = Some v; realm = Some dump.realm; point = None; princs = []; policies = []; ended = false }) (at_rows v dump.realm dump.point (record { princs = []; policies = [] }) false)
+    (line_behind (line_behind 0)) (point_line dump.point) body (point_lacks dump.point good.point) (point_after v dump.realm dump.point good.point)
+    ∙ rows_again v dump (line_behind (line_behind (line_behind 0))) good
+
+pub text_again : (text : List ℕ) (dump : Dump) → IsDumpText text dump → judged text ≡ Ok dump
+text_again text dump f = ap judged f.whole ∙ dump_again f.version dump f.is_dump
 
 pub same_ok : (a b : Dump) → ◌≡◌ {A = Result Dump ℕ} (Ok a) (Ok b) → a ≡ b
 same_ok a b e = ap (ok_or a) e

@@ -1,20 +1,24 @@
 -- Lines that were said lead on to a dump.
 use Rattle.std.proofs.Common.{◌≡◌, ℕ, ◌≤◌, ◌==◌, Bool, true, false, ◌&&◌, if◌then◌else◌, List, [], ◌∷◌, ◌++◌, codes, Option, Some, None, refl, sym, ap, subst, ◌∙◌, arith}
-use Rattle.std.specs.Prelude.{Ok, Err, nat_le, is_some}
+use Rattle.std.specs.Prelude.{Ok, Err, nat_le, is_some, option_map}
 use Rattle.std.proofs.lemmas.Bool.{and_parts, false≢true, leb-true}
 use Rattle.std.proofs.lemmas.Option.{same_Some}
 use Rattle.kdb_base.specs.declared.moments.Point.{Point}
 use Rattle.kdb_format.specs.Laws.{bind_some}
 use Rattle.kdb_format.specs.Moments.{IsPoint}
 use Rattle.princ_name.specs.Realms.{is_realm}
-use Rattle.princ_record.specs.Entries.{bytes_same}
-use Rattle.princ_record.specs.Rows.{RowLists, rises_from, princ_keys, policy_keys}
-use Rattle.dump_text.specs.Dumps.{ended, title, realm_line, point_line, end_line, row_count}
+use Rattle.princ_rows.specs.Entries.{bytes_same}
+use Rattle.princ_rows.specs.Rows.{RowLists, rises_from, princ_keys, policy_keys}
+use Rattle.dump_text.specs.Dumps.{ended, realm_line, point_line, end_line, row_count}
 use Rattle.dump_text.specs.Lines.{Lines, in_front, lines_of, lacks}
 use Rattle.dump_text.specs.Judged.{BeginsDump, Said, nothing, after, after_title, after_realm, after_point, dump_of, is_in_order, judged, judged_from, judged_lines, line_behind, rows_of, said_by, said_or}
+use Rattle.dump_text.specs.Versions.{title}
+use Rattle.dump_text.specs.declared.versions.Version.{Version}
+use Rattle.dump_text.specs.declared.versions.Version.TheVariants.{Two}
 use Rattle.dump_text.specs.declared.dumps.Dump.{Dump}
+use Rattle.dump_text.proofs.Stands.{version_again}
 use Rattle.dump_text.proofs.Spelled.{judged_spelled}
-use Rattle.dump_text.proofs.Again.{dump_again, after_last, end_lacks, goes, point_again, point_lacks, realm_again, realm_lacks, title_lacks}
+use Rattle.dump_text.proofs.Again.{text_again, after_last, end_lacks, goes, point_again, point_lacks, realm_again, realm_lacks, title_lacks}
 use Rattle.dump_text.proofs.Judging.{judged-end}
 use Rattle.dump_text.proofs.Led.{Led, led_title, led_realm, led_point, led_row, RowLed, led_princ, led_policy, led_end, led}
 
@@ -29,17 +33,17 @@ record Leads (s : Said) : Type 0 where
 leads_step : (s t : Said) (line : List ℕ) → lacks 10 line ≡ true → after s line ≡ Some t → Leads t → Leads s
 leads_step s t line clear e next = record { rest = ended line ++ next.rest; dump = next.dump; ends = λ n. goes s t n line next.rest clear e ∙ next.ends (line_behind n) }
 
-abbrev said : Bool → Option (List ℕ) → Option Point → RowLists → Bool → Said
+abbrev said : Option Version → Option (List ℕ) → Option Point → RowLists → Bool → Said
 said titled realm point rows over = record { titled = titled; realm = realm; point = point; princs = rows.princs; policies = rows.policies; ended = over }
 
-leads_end : (realm : List ℕ) (point : Point) (rows : RowLists) → Leads (said true (Some realm) (Some point) rows true)
+leads_end : (v : Version) (realm : List ℕ) (point : Point) (rows : RowLists) → Leads (said (Some v) (Some realm) (Some point) rows true)
 unfolding dump_of lacks
-leads_end realm point rows = record { rest = []; dump = record { realm = realm; point = point; rows = rows }; ends = λ n. judged-end (said true (Some realm) (Some point) rows true) n [] refl }
+leads_end v realm point rows = record { rest = []; dump = record { realm = realm; point = point; rows = rows }; ends = λ n. judged-end (said (Some v) (Some realm) (Some point) rows true) n [] refl }
 
-leads_rows : (realm : List ℕ) (point : Point) (rows : RowLists) → row_count rows ≤ 100000 → Leads (said true (Some realm) (Some point) rows false)
-leads_rows realm point rows few =
-    leads_step (said true (Some realm) (Some point) rows false) (said true (Some realm) (Some point) rows true) (end_line (row_count rows)) (end_lacks (row_count rows) few)
-    (after_last realm point rows) (leads_end realm point rows)
+leads_rows : (v : Version) (realm : List ℕ) (point : Point) (rows : RowLists) → row_count rows ≤ 100000 → Leads (said (Some v) (Some realm) (Some point) rows false)
+leads_rows v realm point rows few =
+    leads_step (said (Some v) (Some realm) (Some point) rows false) (said (Some v) (Some realm) (Some point) rows true) (end_line (row_count rows)) (end_lacks (row_count rows) few)
+    (after_last v realm point rows) (leads_end v realm point rows)
 
 no_point : Point
 no_point = record { sno = 0; time = record { secs = 0; usecs = 0 } }
@@ -48,43 +52,43 @@ no_point_good : IsPoint no_point
 unfolding no_point
 no_point_good = record { sno = omega arith; time = record { secs = omega arith; usecs = omega arith } }
 
-point_step : (realm : List ℕ) (rows : RowLists) (over : Bool) (point : Point) → IsPoint point → after (said true (Some realm) None rows over) (point_line point) ≡ Some (said true (Some realm) (Some point) rows over)
+point_step : (v : Version) (realm : List ℕ) (rows : RowLists) (over : Bool) (point : Point) → IsPoint point → after (said (Some v) (Some realm) None rows over) (point_line point) ≡ Some (said (Some v) (Some realm) (Some point) rows over)
 unfolding after after_point
-point_step realm rows over point good = rw (point_again point good) refl
+point_step v realm rows over point good = rw (point_again point good) refl
 
 -- behind an end stand a realm and a point
 abbrev Closed : Option (List ℕ) → Option Point → Bool → Type 0
 Closed realm point over = over ≡ true → (is_some realm ≡ true) × (is_some point ≡ true)
 
-leads_point : (realm : List ℕ) (point : Option Point) (rows : RowLists) (over : Bool) → row_count rows ≤ 100000 → Closed (Some realm) point over → Leads (said true (Some realm) point rows over)
-leads_point realm (Some point) rows true few closed = leads_end realm point rows
-leads_point realm (Some point) rows false few closed = leads_rows realm point rows few
-leads_point realm None rows true few closed = absurd (false≢true (closed refl).1)
-leads_point realm None rows false few closed =
-    leads_step (said true (Some realm) None rows false) (said true (Some realm) (Some no_point) rows false) (point_line no_point) (point_lacks no_point no_point_good)
-    (point_step realm rows false no_point no_point_good) (leads_rows realm no_point rows few)
+leads_point : (v : Version) (realm : List ℕ) (point : Option Point) (rows : RowLists) (over : Bool) → row_count rows ≤ 100000 → Closed (Some realm) point over → Leads (said (Some v) (Some realm) point rows over)
+leads_point v realm (Some point) rows true few closed = leads_end v realm point rows
+leads_point v realm (Some point) rows false few closed = leads_rows v realm point rows few
+leads_point v realm None rows true few closed = absurd (false≢true (closed refl).1)
+leads_point v realm None rows false few closed =
+    leads_step (said (Some v) (Some realm) None rows false) (said (Some v) (Some realm) (Some no_point) rows false) (point_line no_point) (point_lacks no_point no_point_good)
+    (point_step v realm rows false no_point no_point_good) (leads_rows v realm no_point rows few)
 
-realm_step : (point : Option Point) (rows : RowLists) (over : Bool) (realm : List ℕ) → is_realm realm ≡ true → after (said true None point rows over) (realm_line realm) ≡ Some (said true (Some realm) point rows over)
+realm_step : (v : Version) (point : Option Point) (rows : RowLists) (over : Bool) (realm : List ℕ) → is_realm realm ≡ true → after (said (Some v) None point rows over) (realm_line realm) ≡ Some (said (Some v) (Some realm) point rows over)
 unfolding after after_realm
-realm_step point rows over realm good = rw (realm_again realm good) refl
+realm_step v point rows over realm good = rw (realm_again realm good) refl
 
 open_closed : (realm : List ℕ) (point : Option Point) (over : Bool) → Closed None point over → Closed (Some realm) point over
 open_closed realm point over closed e = (refl, (closed e).1)
 
-leads_realm : (realm : Option (List ℕ)) (point : Option Point) (rows : RowLists) (over : Bool) → row_count rows ≤ 100000 → Closed realm point over → Leads (said true realm point rows over)
-leads_realm (Some realm) point rows over few closed = leads_point realm point rows over few closed
-leads_realm None point rows over few closed =
-    leads_step (said true None point rows over) (said true (Some (codes "R")) point rows over) (realm_line (codes "R")) (realm_lacks (codes "R") refl) (realm_step point rows over (codes "R") refl)
-    (leads_point (codes "R") point rows over few (open_closed (codes "R") point over closed))
+leads_realm : (v : Version) (realm : Option (List ℕ)) (point : Option Point) (rows : RowLists) (over : Bool) → row_count rows ≤ 100000 → Closed realm point over → Leads (said (Some v) realm point rows over)
+leads_realm v (Some realm) point rows over few closed = leads_point v realm point rows over few closed
+leads_realm v None point rows over few closed =
+    leads_step (said (Some v) None point rows over) (said (Some v) (Some (codes "R")) point rows over) (realm_line (codes "R")) (realm_lacks (codes "R") refl) (realm_step v point rows over (codes "R") refl)
+    (leads_point v (codes "R") point rows over few (open_closed (codes "R") point over closed))
 
-title_step : (realm : Option (List ℕ)) (point : Option Point) (rows : RowLists) (over : Bool) → after (said false realm point rows over) title ≡ Some (said true realm point rows over)
+title_step : (realm : Option (List ℕ)) (point : Option Point) (rows : RowLists) (over : Bool) → after (said None realm point rows over) (title Two) ≡ Some (said (Some Two) realm point rows over)
 unfolding after after_title
-title_step realm point rows over = rw (bytes_same title title refl) refl
+title_step realm point rows over = ap (option_map (λ (u : Version). said (Some u) realm point rows over)) (version_again Two)
 
-leads_title : (titled : Bool) (realm : Option (List ℕ)) (point : Option Point) (rows : RowLists) (over : Bool) → row_count rows ≤ 100000 → Closed realm point over → Leads (said titled realm point rows over)
-leads_title true realm point rows over few closed = leads_realm realm point rows over few closed
-leads_title false realm point rows over few closed =
-    leads_step (said false realm point rows over) (said true realm point rows over) title title_lacks (title_step realm point rows over) (leads_realm realm point rows over few closed)
+leads_title : (titled : Option Version) (realm : Option (List ℕ)) (point : Option Point) (rows : RowLists) (over : Bool) → row_count rows ≤ 100000 → Closed realm point over → Leads (said titled realm point rows over)
+leads_title (Some v) realm point rows over few closed = leads_realm v realm point rows over few closed
+leads_title None realm point rows over few closed =
+    leads_step (said None realm point rows over) (said (Some Two) realm point rows over) (title Two) (title_lacks Two) (title_step realm point rows over) (leads_realm Two realm point rows over few closed)
 
 -- ---- where lines lead
 
@@ -95,18 +99,18 @@ record Reached (s : Said) : Type 0 where
 few_from_test : (rows : RowLists) → is_in_order rows ≡ true → row_count rows ≤ 100000
 few_from_test rows e = leb-true _ _ (and_parts (nat_le (row_count rows) 100000) (rises_from None (princ_keys rows.princs) && rises_from None (policy_keys rows.policies)) e).0
 
-row_reaches : (s : Said) (line : List ℕ) (t : Said) → Reached s → is_some s.realm ≡ true → is_some s.point ≡ true → RowLed s line t → Reached t
-row_reaches s line t at realm point (led_princ p is row bytes none order e) =
+row_reaches : (v : Version) (s : Said) (line : List ℕ) (t : Said) → Reached s → is_some s.realm ≡ true → is_some s.point ≡ true → RowLed v s line t → Reached t
+row_reaches v s line t at realm point (led_princ p is row bytes stand none order e) =
     subst Reached (sym e) (record { few = few_from_test (record { princs = s.princs ++ (p ∷ []); policies = s.policies }) order; closed = at.closed })
-row_reaches s line t at realm point (led_policy p is row bytes order e) =
+row_reaches v s line t at realm point (led_policy p is row bytes order e) =
     subst Reached (sym e) (record { few = few_from_test (record { princs = s.princs; policies = s.policies ++ (p ∷ []) }) order; closed = at.closed })
-row_reaches s line t at realm point (led_end is e) = subst Reached (sym e) (record { few = at.few; closed = λ _. (realm, point) })
+row_reaches v s line t at realm point (led_end is e) = subst Reached (sym e) (record { few = at.few; closed = λ _. (realm, point) })
 
 step_reaches : (s : Said) (line : List ℕ) (t : Said) → Reached s → Led s line t → Reached t
-step_reaches s line t at (led_title is e) = subst Reached (sym e) (record { few = at.few; closed = at.closed })
+step_reaches s line t at (led_title v is e) = subst Reached (sym e) (record { few = at.few; closed = at.closed })
 step_reaches s line t at (led_realm realm none is good e) = subst Reached (sym e) (record { few = at.few; closed = λ o. (refl, (at.closed o).1) })
 step_reaches s line t at (led_point point is good e) = subst Reached (sym e) (record { few = at.few; closed = λ o. ((at.closed o).0, refl) })
-step_reaches s line t at (led_row realm point row) = row_reaches s line t at realm point row
+step_reaches s line t at (led_row v realm point row) = row_reaches v s line t at realm point row
 
 lines_reach : (s : Said) (lines : List (List ℕ)) (t : Said) → Reached s → said_by s lines ≡ Some t → Reached t
 unfolding said_by
@@ -158,8 +162,7 @@ good_lines text s whole e =
     let is : judged (text ++ leads.rest) ≡ Ok leads.dump =
     ap (λ (l : Lines). judged_lines nothing 0 l.whole l.rest) (lines-append text leads.rest whole)
     ∙ judged_behind nothing s 0 (lines_of text).whole (lines_of leads.rest).whole (lines_of leads.rest).rest leads.dump e leads.ends in
-    let spelled = judged_spelled (text ++ leads.rest) leads.dump is in
-    record { dump = leads.dump; rest = leads.rest; is_dump = spelled.1; whole = spelled.0 }
+    record { dump = leads.dump; rest = leads.rest; is_text = judged_spelled (text ++ leads.rest) leads.dump is }
 
 pub bad_text : (text : List ℕ) (line : ℕ) → ((rest : List ℕ) → judged (text ++ rest) ≡ Err line) → BeginsDump text → ⊥
-bad_text text line bad begins = cc (sym (bad begins.rest) ∙ ap judged begins.whole ∙ dump_again begins.dump begins.is_dump)
+bad_text text line bad begins = cc (sym (bad begins.rest) ∙ text_again (text ++ begins.rest) begins.dump begins.is_text)

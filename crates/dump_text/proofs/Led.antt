@@ -10,19 +10,25 @@ use Rattle.std.proofs.lemmas.Option.{cond_some, same_Some}
 use Rattle.hex.specs.Hex.{decode_of, encode_lower, lower_digits, IsBytes}
 use Rattle.hex.specs.declared.error.FromHexError.{FromHexError}
 use Rattle.hex.proofs.HexLemmas.{decode_of-ok, length-encode_with}
+use Rattle.kdb_base.specs.Limits.{longest_row}
 use Rattle.kdb_base.specs.declared.moments.Point.{Point}
 use Rattle.kdb_format.specs.Readings.{whole}
 use Rattle.kdb_format.specs.Laws.{bind_some, whole_spelled}
 use Rattle.policy_rules.specs.Rules.{Rules}
 use Rattle.princ_name.specs.Realms.{is_realm, realm_length}
-use Rattle.princ_record.specs.Entries.{IsRow, same_bytes, policy_short}
+use Rattle.princ_record.specs.RowLimits.{IsRow, policy_short}
+use Rattle.princ_rows.specs.Entries.{same_bytes}
 use Rattle.princ_record.specs.Policies.{policy, policy_at, policy_field, IsPolicy}
 use Rattle.princ_record.specs.Princs.{princ, princ_at, princ_field}
 use Rattle.princ_record.specs.declared.princs.Princ.{Princ}
-use Rattle.dump_text.specs.Dumps.{title, realm_line, point_line, princ_line, policy_line, end_line, six_digits, row_count}
+use Rattle.dump_text.specs.Dumps.{realm_line, point_line, princ_line, policy_line, end_line, six_digits, row_count}
 use Rattle.dump_text.specs.Readings.{behind, realm_of, realm_in, near_point, is_point, written_so, point_in, bytes_or_none, hex_of, princ_of, policy_of}
-use Rattle.dump_text.specs.Judged.{Said, rows_of, is_in_order, after_title, after_realm, after_point, with_princ, with_policy, after_end, policy_or_end, princ_or_other, after_row, point_or_row, realm_or_later, after}
+use Rattle.dump_text.specs.Judged.{Said, rows_of, is_in_order, after_title, after_realm, after_point, with_princ, with_policy, after_end, policy_or_end, princ_or_other, after_row, point_or_row, realm_or_later, title_or_later, after}
 use Rattle.dump_text.specs.Reader.{Grows}
+use Rattle.dump_text.specs.Versions.{stands_in, title, version_of}
+use Rattle.dump_text.specs.declared.versions.Version.{Version}
+use Rattle.dump_text.specs.declared.versions.Version.TheVariants.{One, Two}
+use Rattle.dump_text.proofs.Stands.{stands_row, title_from}
 
 -- ---- choices
 
@@ -76,24 +82,26 @@ hex_is text bytes e =
     (sym (same_bytes (encode_lower a.0) text b.0) ∙ ap encode_lower b.1, subst IsBytes b.1 ok.3)
 
 -- the record of a line
-pub record PrincText (text : List ℕ) (p : Princ) : Type 0 where
+pub record PrincText (v : Version) (text : List ℕ) (p : Princ) : Type 0 where
   pub written : text ≡ encode_lower (princ p)
   pub row : IsRow p
+  pub stand : stands_in v p ≡ true
   pub bytes : IsBytes (princ p)
 
-pub princ_is : (text : List ℕ) (p : Princ) → princ_of text ≡ Some p → PrincText text p
+pub princ_is : (v : Version) (text : List ℕ) (p : Princ) → princ_of v text ≡ Some p → PrincText v text p
 unfolding princ_of
-princ_is text p e =
-    let a = bind_some (λ bytes. if nat_le (length bytes) 8000 then whole princ_at bytes else None) (hex_of text) p e in
-    let b = cond_then (nat_le (length a.0) 8000) (whole princ_at a.0) p a.2 in
-    let h = hex_is text a.0 a.1 in
-    let w = whole_spelled princ_field a.0 p h.1 b.1 in
-    let le : length a.0 ≤ 8000 = leb-true _ _ b.0 in
-    record {
+princ_is v text p e =
+    let a = bind_some (λ q. if stands_in v q then Some q else None) (option_and_then (λ bytes. whole princ_at bytes) (hex_of text)) p e in
+    let c = cond_some (stands_in v a.0) a.0 p a.2 in
+    let b = bind_some (λ bytes. whole princ_at bytes) (hex_of text) a.0 a.1 in
+    let h = hex_is text b.0 b.1 in
+    let w = whole_spelled princ_field b.0 a.0 h.1 b.2 in
+    subst (PrincText v text) c.1 (record {
       written = h.0 ∙ ap encode_lower w.0;
-      row = record { fits = w.1; short = subst (λ (bs : List ℕ). length bs ≤ 8000) w.0 le };
+      row = stands_row v a.0 w.1 c.0;
+      stand = c.0;
       bytes = subst IsBytes w.0 h.1;
-    }
+    })
 
 pub record PolicyText (text : List ℕ) (p : Rules) : Type 0 where
   pub written : text ≡ encode_lower (policy p)
@@ -111,83 +119,83 @@ policy_is text p e =
 -- ---- steps
 
 -- a line of a row, or the last one
-pub data RowLed (s : Said) (line : List ℕ) (t : Said) : Type 0 where
-  led_princ : (p : Princ) → line ≡ princ_line p → IsRow p → IsBytes (princ p) → length s.policies ≡ 0
-      → is_in_order (record { princs = s.princs ++ (p ∷ []); policies = s.policies }) ≡ true → t ≡ record s { princs = s.princs ++ (p ∷ []) } → RowLed s line t
+pub data RowLed (v : Version) (s : Said) (line : List ℕ) (t : Said) : Type 0 where
+  led_princ : (p : Princ) → line ≡ princ_line p → IsRow p → IsBytes (princ p) → stands_in v p ≡ true → length s.policies ≡ 0
+      → is_in_order (record { princs = s.princs ++ (p ∷ []); policies = s.policies }) ≡ true → t ≡ record s { princs = s.princs ++ (p ∷ []) } → RowLed v s line t
   led_policy : (p : Rules) → line ≡ policy_line p → IsPolicy p → IsBytes (policy p)
-      → is_in_order (record { princs = s.princs; policies = s.policies ++ (p ∷ []) }) ≡ true → t ≡ record s { policies = s.policies ++ (p ∷ []) } → RowLed s line t
-  led_end : line ≡ end_line (row_count (rows_of s)) → t ≡ record s { ended = true } → RowLed s line t
+      → is_in_order (record { princs = s.princs; policies = s.policies ++ (p ∷ []) }) ≡ true → t ≡ record s { policies = s.policies ++ (p ∷ []) } → RowLed v s line t
+  led_end : line ≡ end_line (row_count (rows_of s)) → t ≡ record s { ended = true } → RowLed v s line t
 
-princ_led : (s : Said) (line text : List ℕ) (t : Said) → behind (codes "princ ") line ≡ Some text → option_and_then (with_princ s) (princ_of text) ≡ Some t → RowLed s line t
+princ_led : (v : Version) (s : Said) (line text : List ℕ) (t : Said) → behind (codes "princ ") line ≡ Some text → option_and_then (with_princ s) (princ_of v text) ≡ Some t → RowLed v s line t
 unfolding with_princ princ_line
-princ_led s line text t at e =
-    let a = bind_some (with_princ s) (princ_of text) t e in
+princ_led v s line text t at e =
+    let a = bind_some (with_princ s) (princ_of v text) t e in
     let p : Princ = a.0 in
-    let f = princ_is text p a.1 in
+    let f = princ_is v text p a.1 in
     let b = cond_then (nat_eq (length s.policies) 0) (cond (is_in_order (record { princs = s.princs ++ (p ∷ []); policies = s.policies })) (Some (record s { princs = s.princs ++ (p ∷ []) })) None) t a.2 in
     let c = cond_some (is_in_order (record { princs = s.princs ++ (p ∷ []); policies = s.policies })) (record s { princs = s.princs ++ (p ∷ []) }) t b.1 in
-    led_princ p (behind_is (codes "princ ") line text at ∙ ap (λ (x : List ℕ). codes "princ " ++ x) f.written) f.row f.bytes (eqb-true _ _ b.0) c.0 (sym c.1)
+    led_princ p (behind_is (codes "princ ") line text at ∙ ap (λ (x : List ℕ). codes "princ " ++ x) f.written) f.row f.bytes f.stand (eqb-true _ _ b.0) c.0 (sym c.1)
 
-policy_led : (s : Said) (line text : List ℕ) (t : Said) → behind (codes "policy ") line ≡ Some text → option_and_then (with_policy s) (policy_of text) ≡ Some t → RowLed s line t
+policy_led : (v : Version) (s : Said) (line text : List ℕ) (t : Said) → behind (codes "policy ") line ≡ Some text → option_and_then (with_policy s) (policy_of text) ≡ Some t → RowLed v s line t
 unfolding with_policy policy_line
-policy_led s line text t at e =
+policy_led v s line text t at e =
     let a = bind_some (with_policy s) (policy_of text) t e in
     let p : Rules = a.0 in
     let f = policy_is text p a.1 in
     let c = cond_some (is_in_order (record { princs = s.princs; policies = s.policies ++ (p ∷ []) })) (record s { policies = s.policies ++ (p ∷ []) }) t a.2 in
     led_policy p (behind_is (codes "policy ") line text at ∙ ap (λ (x : List ℕ). codes "policy " ++ x) f.written) f.row f.bytes c.0 (sym c.1)
 
-end_led : (s : Said) (line : List ℕ) (t : Said) → after_end s line ≡ Some t → RowLed s line t
+end_led : (v : Version) (s : Said) (line : List ℕ) (t : Said) → after_end s line ≡ Some t → RowLed v s line t
 unfolding after_end
-end_led s line t e =
+end_led v s line t e =
     let a = cond_some (bytes_eq line (end_line (row_count (rows_of s)))) (record s { ended = true }) t e in
     led_end (same_bytes line (end_line (row_count (rows_of s))) a.0) (sym a.1)
 
-policy_or_end_led : (s : Said) (line : List ℕ) (t : Said) (o : Option (List ℕ)) → behind (codes "policy ") line ≡ o → policy_or_end s line o ≡ Some t → RowLed s line t
-policy_or_end_led s line t None at e = end_led s line t e
-policy_or_end_led s line t (Some text) at e = policy_led s line text t at e
+policy_or_end_led : (v : Version) (s : Said) (line : List ℕ) (t : Said) (o : Option (List ℕ)) → behind (codes "policy ") line ≡ o → policy_or_end s line o ≡ Some t → RowLed v s line t
+policy_or_end_led v s line t None at e = end_led v s line t e
+policy_or_end_led v s line t (Some text) at e = policy_led v s line text t at e
 
-princ_or_other_led : (s : Said) (line : List ℕ) (t : Said) (o : Option (List ℕ)) → behind (codes "princ ") line ≡ o → princ_or_other s line o ≡ Some t → RowLed s line t
-princ_or_other_led s line t None at e = policy_or_end_led s line t (behind (codes "policy ") line) refl e
-princ_or_other_led s line t (Some text) at e = princ_led s line text t at e
+princ_or_other_led : (v : Version) (s : Said) (line : List ℕ) (t : Said) (o : Option (List ℕ)) → behind (codes "princ ") line ≡ o → princ_or_other v s line o ≡ Some t → RowLed v s line t
+princ_or_other_led v s line t None at e = policy_or_end_led v s line t (behind (codes "policy ") line) refl e
+princ_or_other_led v s line t (Some text) at e = princ_led v s line text t at e
 
-pub row_led : (s : Said) (line : List ℕ) (t : Said) → after_row s line ≡ Some t → RowLed s line t
+pub row_led : (v : Version) (s : Said) (line : List ℕ) (t : Said) → after_row v s line ≡ Some t → RowLed v s line t
 unfolding after_row
-row_led s line t e = princ_or_other_led s line t (behind (codes "princ ") line) refl e
+row_led v s line t e = princ_or_other_led v s line t (behind (codes "princ ") line) refl e
 
 pub data Led (s : Said) (line : List ℕ) (t : Said) : Type 0 where
-  led_title : line ≡ title → t ≡ record s { titled = true } → Led s line t
+  led_title : (v : Version) → line ≡ title v → t ≡ record s { titled = Some v } → Led s line t
   led_realm : (realm : List ℕ) → s.realm ≡ None → line ≡ realm_line realm → is_realm realm ≡ true → t ≡ record s { realm = Some realm } → Led s line t
   led_point : (point : Point) → line ≡ point_line point → is_point point ≡ true → t ≡ record s { point = Some point } → Led s line t
-  led_row : is_some s.realm ≡ true → is_some s.point ≡ true → RowLed s line t → Led s line t
+  led_row : (v : Version) → is_some s.realm ≡ true → is_some s.point ≡ true → RowLed v s line t → Led s line t
 
-pub title_is : (s : Said) (line : List ℕ) (t : Said) → after_title s line ≡ Some t → (line ≡ title) × (t ≡ record s { titled = true })
+pub title_is : (s : Said) (line : List ℕ) (t : Said) → after_title s line ≡ Some t → (v : Version) × (line ≡ title v) × (t ≡ record s { titled = Some v })
 unfolding after_title
 title_is s line t e =
-    let a = cond_some (bytes_eq line title) (record s { titled = true }) t e in
-    (same_bytes line title a.0, sym a.1)
+    let m = map_some (λ v. record s { titled = Some v }) (version_of line) t e in
+    (m.0, title_from line m.0 m.1, sym m.2)
 
-led_by_point : (s : Said) (line : List ℕ) (t : Said) (o : Option Point) → is_some s.realm ≡ true → s.point ≡ o → point_or_row s line o ≡ Some t → Led s line t
+led_by_point : (v : Version) (s : Said) (line : List ℕ) (t : Said) (o : Option Point) → is_some s.realm ≡ true → s.point ≡ o → point_or_row v s line o ≡ Some t → Led s line t
 unfolding after_point
-led_by_point s line t None realm at e =
+led_by_point v s line t None realm at e =
     let a = map_some (λ p. record s { point = Some p }) (point_in line) t e in
     let f = point_is line a.0 a.1 in
     led_point a.0 f.0 f.1 (sym a.2)
-led_by_point s line t (Some point) realm at e =
-    let a = cond_else s.ended (after_row s line) t e in
-    led_row realm (ap is_some at) (row_led s line t a.1)
+led_by_point v s line t (Some point) realm at e =
+    let a = cond_else s.ended (after_row v s line) t e in
+    led_row v realm (ap is_some at) (row_led v s line t a.1)
 
-led_by_realm : (s : Said) (line : List ℕ) (t : Said) (o : Option (List ℕ)) → s.realm ≡ o → realm_or_later s line o ≡ Some t → Led s line t
+led_by_realm : (v : Version) (s : Said) (line : List ℕ) (t : Said) (o : Option (List ℕ)) → s.realm ≡ o → realm_or_later v s line o ≡ Some t → Led s line t
 unfolding after_realm
-led_by_realm s line t None at e =
+led_by_realm v s line t None at e =
     let a = map_some (λ r. record s { realm = Some r }) (realm_in line) t e in
     let f = realm_is line a.0 a.1 in
     led_realm a.0 at f.0 f.1 (sym a.2)
-led_by_realm s line t (Some realm) at e = led_by_point s line t s.point (ap is_some at) refl e
+led_by_realm v s line t (Some realm) at e = led_by_point v s line t s.point (ap is_some at) refl e
 
-led_by : (s : Said) (line : List ℕ) (t : Said) (b : Bool) → (if b then realm_or_later s line s.realm else after_title s line) ≡ Some t → Led s line t
-led_by s line t false e = let f = title_is s line t e in led_title f.0 f.1
-led_by s line t true e = led_by_realm s line t s.realm refl e
+led_by : (s : Said) (line : List ℕ) (t : Said) (o : Option Version) → title_or_later s line o ≡ Some t → Led s line t
+led_by s line t None e = let f = title_is s line t e in led_title f.0 f.1 f.2
+led_by s line t (Some v) e = led_by_realm v s line t s.realm refl e
 
 pub led : (s : Said) (line : List ℕ) (t : Said) → after s line ≡ Some t → Led s line t
 unfolding after
@@ -206,19 +214,19 @@ no_realm : (o n : Option (List ℕ)) → o ≡ None → IfSome o (λ r. n ≡ So
 no_realm None n e = tt
 no_realm (Some r) n e = absurd cc
 
-row_grows : (s : Said) (line : List ℕ) (t : Said) → RowLed s line t → Grows s t
-row_grows s line t (led_princ p is row bytes none order e) =
+row_grows : (v : Version) (s : Said) (line : List ℕ) (t : Said) → RowLed v s line t → Grows s t
+row_grows v s line t (led_princ p is row bytes stand none order e) =
     subst (Grows s) (sym e) (record { realm = same_some s.realm; princs = take_at s.princs (p ∷ []) (length s.princs) refl; policies = take_all (length s.policies) s.policies (omega arith) })
-row_grows s line t (led_policy p is row bytes order e) =
+row_grows v s line t (led_policy p is row bytes order e) =
     subst (Grows s) (sym e) (record { realm = same_some s.realm; princs = take_all (length s.princs) s.princs (omega arith); policies = take_at s.policies (p ∷ []) (length s.policies) refl })
-row_grows s line t (led_end is e) = let same = grows_same s in subst (Grows s) (sym e) (record { realm = same.realm; princs = same.princs; policies = same.policies })
+row_grows v s line t (led_end is e) = let same = grows_same s in subst (Grows s) (sym e) (record { realm = same.realm; princs = same.princs; policies = same.policies })
 
 step_grows : (s : Said) (line : List ℕ) (t : Said) → Led s line t → Grows s t
-step_grows s line t (led_title is e) = let same = grows_same s in subst (Grows s) (sym e) (record { realm = same.realm; princs = same.princs; policies = same.policies })
+step_grows s line t (led_title v is e) = let same = grows_same s in subst (Grows s) (sym e) (record { realm = same.realm; princs = same.princs; policies = same.policies })
 step_grows s line t (led_realm realm none is good e) =
     let same = grows_same s in subst (Grows s) (sym e) (record { realm = no_realm s.realm (Some realm) none; princs = same.princs; policies = same.policies })
 step_grows s line t (led_point point is good e) = let same = grows_same s in subst (Grows s) (sym e) (record { realm = same.realm; princs = same.princs; policies = same.policies })
-step_grows s line t (led_row realm point row) = row_grows s line t row
+step_grows s line t (led_row v realm point row) = row_grows v s line t row
 
 pub after_grows : (s : Said) (line : List ℕ) (t : Said) → after s line ≡ Some t → Grows s t
 after_grows s line t e = step_grows s line t (led s line t e)
@@ -252,44 +260,45 @@ length-point p good =
       length-append (codes ".") (six_digits p.time.usecs),
     )
 
-length-title : length title ≤ 16006
+length-title : (v : Version) → length (title v) ≤ 32006
 unfolding title
-length-title = omega arith
+length-title One = omega arith
+length-title Two = omega arith
 
-length-realm : (realm : List ℕ) → is_realm realm ≡ true → length (realm_line realm) ≤ 16006
+length-realm : (realm : List ℕ) → is_realm realm ≡ true → length (realm_line realm) ≤ 32006
 unfolding realm_line
 length-realm realm good = let le = realm_length realm good in omega (arith, le, length-append (codes "realm ") realm)
 
-length-princ : (p : Princ) → IsRow p → length (princ_line p) ≤ 16006
+length-princ : (p : Princ) → IsRow p → length (princ_line p) ≤ 32006
 unfolding princ_line
 length-princ p row = omega (arith, row.short, length-append (codes "princ ") (encode_lower (princ p)), length-encode_with lower_digits (princ p))
 
-length-policy : (p : Rules) → IsPolicy p → length (policy_line p) ≤ 16006
+length-policy : (p : Rules) → IsPolicy p → length (policy_line p) ≤ 32006
 unfolding policy_line
 length-policy p row = let le = policy_short p row in omega (arith, le, length-append (codes "policy ") (encode_lower (policy p)), length-encode_with lower_digits (policy p))
 
-length-end : (n : ℕ) → n ≤ 100000 → length (end_line n) ≤ 16006
+length-end : (n : ℕ) → n ≤ 100000 → length (end_line n) ≤ 32006
 unfolding end_line
 length-end n few =
     let digits : length (decimal n) ≤ 6 = length-decimal-le 6 n (omega arith) (omega arith) (omega arith) in
     omega (arith, digits, length-append (codes "end ") (decimal n))
 
-at_most : (line text : List ℕ) → line ≡ text → length text ≤ 16006 → length line ≤ 16006
-at_most line text e le = subst (λ (t : List ℕ). length t ≤ 16006) (sym e) le
+at_most : (line text : List ℕ) → line ≡ text → length text ≤ 32006 → length line ≤ 32006
+at_most line text e le = subst (λ (t : List ℕ). length t ≤ 32006) (sym e) le
 
-row_short : (s : Said) (line : List ℕ) (t : Said) → row_count (rows_of s) ≤ 100000 → RowLed s line t → length line ≤ 16006
-row_short s line t few (led_princ p is row bytes none order e) = at_most line (princ_line p) is (length-princ p row)
-row_short s line t few (led_policy p is row bytes order e) = at_most line (policy_line p) is (length-policy p row)
-row_short s line t few (led_end is e) = at_most line (end_line (row_count (rows_of s))) is (length-end (row_count (rows_of s)) few)
+row_short : (v : Version) (s : Said) (line : List ℕ) (t : Said) → row_count (rows_of s) ≤ 100000 → RowLed v s line t → length line ≤ 32006
+row_short v s line t few (led_princ p is row bytes stand none order e) = at_most line (princ_line p) is (length-princ p row)
+row_short v s line t few (led_policy p is row bytes order e) = at_most line (policy_line p) is (length-policy p row)
+row_short v s line t few (led_end is e) = at_most line (end_line (row_count (rows_of s))) is (length-end (row_count (rows_of s)) few)
 
-step_short : (s : Said) (line : List ℕ) (t : Said) → row_count (rows_of s) ≤ 100000 → Led s line t → length line ≤ 16006
-step_short s line t few (led_title is e) = at_most line title is length-title
+step_short : (s : Said) (line : List ℕ) (t : Said) → row_count (rows_of s) ≤ 100000 → Led s line t → length line ≤ 32006
+step_short s line t few (led_title v is e) = at_most line (title v) is (length-title v)
 step_short s line t few (led_realm realm none is good e) = at_most line (realm_line realm) is (length-realm realm good)
 step_short s line t few (led_point point is good e) = let le = length-point point good in at_most line (point_line point) is (omega arith)
-step_short s line t few (led_row realm point row) = row_short s line t few row
+step_short s line t few (led_row v realm point row) = row_short v s line t few row
 
 -- no dump goes on with a line that is longer
-pub after_long : (s : Said) (line : List ℕ) → row_count (rows_of s) ≤ 100000 → 16006 < length line → after s line ≡ None
+pub after_long : (s : Said) (line : List ℕ) → row_count (rows_of s) ≤ 100000 → 32006 < length line → after s line ≡ None
 after_long s line few long = by (after s line) refl
   where
     by : (o : Option Said) → after s line ≡ o → o ≡ None

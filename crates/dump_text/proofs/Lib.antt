@@ -1,9 +1,11 @@
 pub mod Again
 pub mod Blanks
 pub mod Digits
+pub mod Firsts
 pub mod Going
 pub mod Judging
 pub mod Led
 pub mod Orders
 pub mod Parts
 pub mod Spelled
+pub mod Stands

@@ -7,9 +7,9 @@ use Rattle.std.proofs.lemmas.List.{map-append, take-map, length-append, length-t
 use Rattle.std.proofs.lemmas.List.Elements.{All-append, All-cons, All-nil, All-take}
 use Rattle.std.proofs.lemmas.Option.{slice_get-map}
 use Rattle.policy_rules.specs.Rules.{Rules}
-use Rattle.princ_record.specs.Entries.{IsRow}
+use Rattle.princ_record.specs.RowLimits.{IsRow}
 use Rattle.princ_record.specs.Policies.{IsPolicy}
-use Rattle.princ_record.specs.Rows.{RowLists, AreRows, AreInOrder, is_behind, rises_from, in_order, rises, princ_keys, policy_keys}
+use Rattle.princ_rows.specs.Rows.{RowLists, AreRows, AreInOrder, is_behind, rises_from, in_order, rises, princ_keys, policy_keys}
 use Rattle.princ_record.specs.declared.princs.Princ.{Princ}
 use Rattle.dump_text.specs.Dumps.{row_count}
 use Rattle.dump_text.specs.Judged.{Said, is_in_order, with_princ, with_policy}

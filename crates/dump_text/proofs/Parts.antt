@@ -11,7 +11,7 @@ use Rattle.std.specs.List.{flat_map}
 use Rattle.kdb_ports.specs.Told.{after_told}
 use Rattle.kdb_ports.proofs.Told.{after_told-append}
 use Rattle.policy_rules.specs.Rules.{Rules}
-use Rattle.princ_record.specs.Rows.{RowLists}
+use Rattle.princ_rows.specs.Rows.{RowLists}
 use Rattle.princ_record.specs.declared.princs.Princ.{Princ}
 use Rattle.dump_text.specs.Dumps.{ended, princ_line, policy_line, end_line, row_count, rows_text}
 use Rattle.dump_text.specs.Parts.{SaidPart, Holds}
@@ -59,6 +59,12 @@ pub holds_line : {A : Type 0} (line : A → List ℕ) (before : List ℕ) (xs : 
 holds_line line before xs i x b c t u v lt is one two =
     rw (lines_at line xs i x lt is) (holds_next before (flat_map line (take i xs)) (line x) b c t u v one two)
 
+-- the same of an item behind a box
+pub holds_item : {A : Type 0} (line : A → List ℕ) (before : List ℕ) (xs : List A) (i : ℕ) (x y : A) (b c : List ℕ) (t u v : Option (List ℕ)) → y ≡ x → i < length xs → x ≡ slice_index_or xs i x
+    → Holds (before ++ flat_map line (take i xs)) t u b → Holds (b ++ line y) u v c → Holds (before ++ flat_map line (take (i + 1) xs)) t v c
+holds_item {A = A} line before xs i x y b c t u v same lt is one two =
+    holds_line line before xs i x b c t u v lt is one (subst (λ (z : A). Holds (b ++ line z) u v c) same two)
+
 -- a front of one line more
 pub said_line : {A : Type 0} (line : A → List ℕ) (before : List ℕ) (xs : List A) (i : ℕ) (x : A) (b : List ℕ) (t u v : Option (List ℕ)) → i < length xs → x ≡ slice_index_or xs i x
     → Holds (before ++ flat_map line (take i xs)) t u b → SaidPart (b ++ line x) u v → SaidPart (before ++ flat_map line xs) t v
@@ -98,3 +104,9 @@ pub end_said : (rows : RowLists) (count : ℕ) (before b : List ℕ) (t u v : Op
     → Holds (before ++ rows_text rows) t u b → SaidPart (b ++ ended (end_line count)) u v → SaidPart (before ++ (rows_text rows ++ ended (end_line (row_count rows)))) t v
 end_said rows count before b t u v is one two =
     subst (λ (n : ℕ). SaidPart (before ++ (rows_text rows ++ ended (end_line n))) t v) is (said_next before (rows_text rows) (ended (end_line count)) b t u v one two)
+
+-- the same of an item behind a box
+pub said_item : {A : Type 0} (line : A → List ℕ) (before : List ℕ) (xs : List A) (i : ℕ) (x y : A) (b : List ℕ) (t u v : Option (List ℕ)) → y ≡ x → i < length xs → x ≡ slice_index_or xs i x
+    → Holds (before ++ flat_map line (take i xs)) t u b → SaidPart (b ++ line y) u v → SaidPart (before ++ flat_map line xs) t v
+said_item {A = A} line before xs i x y b t u v same lt is one two =
+    said_line line before xs i x b t u v lt is one (subst (λ (z : A). SaidPart (b ++ line z) u v) same two)

@@ -12,15 +12,17 @@ use Rattle.kdb_base.specs.declared.moments.Point.{Point}
 use Rattle.kdb_format.specs.Moments.{IsPoint}
 use Rattle.policy_rules.specs.Rules.{Rules}
 use Rattle.princ_name.specs.Realms.{IsRealm}
-use Rattle.princ_record.specs.Entries.{IsRow}
+use Rattle.princ_record.specs.RowLimits.{IsRow}
 use Rattle.princ_record.specs.Policies.{policy, IsPolicy}
 use Rattle.princ_record.specs.Princs.{princ}
-use Rattle.princ_record.specs.Rows.{RowLists, AreRows, in_order, rises_from, princ_keys, policy_keys}
+use Rattle.princ_rows.specs.Rows.{RowLists, AreRows, in_order, rises_from, princ_keys, policy_keys}
 use Rattle.princ_record.specs.declared.princs.Princ.{Princ}
-use Rattle.dump_text.specs.Dumps.{ended, title, realm_line, point_line, princ_line, policy_line, end_line, head_text, rows_text, row_count, dump_text}
+use Rattle.dump_text.specs.Dumps.{ended, realm_line, point_line, princ_line, policy_line, end_line, head_text, rows_text, row_count, dump_text}
 use Rattle.dump_text.specs.Lines.{in_front, lines_of}
 use Rattle.dump_text.specs.Readings.{is_point, point_in, realm_in}
-use Rattle.dump_text.specs.Judged.{Said, nothing, after, after_title, after_realm, after_point, after_row, dump_of, dump_or_bad, is_in_order, judged, judged_from, judged_lines, line_behind, said_or, AreSpelled, IsDump}
+use Rattle.dump_text.specs.Judged.{Said, nothing, after, after_title, after_realm, after_point, after_row, dump_of, dump_or_bad, is_in_order, judged, judged_from, judged_lines, line_behind, said_or, AreSpelled, IsDump, IsDumpText}
+use Rattle.dump_text.specs.Versions.{stands_in, title}
+use Rattle.dump_text.specs.declared.versions.Version.{Version}
 use Rattle.dump_text.specs.declared.dumps.Dump.{Dump}
 use Rattle.dump_text.proofs.Led.{RowLed, led_princ, led_policy, led_end, row_led, title_is, realm_is, point_is, map_some}
 use Rattle.dump_text.proofs.Orders.{no_rows}
@@ -48,10 +50,10 @@ lines_text (b ∷ text) =
 
 -- ---- steps
 
-abbrev at_rows : List ℕ → Point → RowLists → Bool → Said
-at_rows realm point rows over = record { titled = true; realm = Some realm; point = Some point; princs = rows.princs; policies = rows.policies; ended = over }
+abbrev at_rows : Version → List ℕ → Point → RowLists → Bool → Said
+at_rows v realm point rows over = record { titled = Some v; realm = Some realm; point = Some point; princs = rows.princs; policies = rows.policies; ended = over }
 
-said_ok : (bad : ℕ) (o : Option Said) (next : Said → Result Dump ℕ) (dump : Dump) → said_or (Err bad) o next ≡ Ok dump → (t : Said) × (o ≡ Some t) × (next t ≡ Ok dump)
+pub said_ok : (bad : ℕ) (o : Option Said) (next : Said → Result Dump ℕ) (dump : Dump) → said_or (Err bad) o next ≡ Ok dump → (t : Said) × (o ≡ Some t) × (next t ≡ Ok dump)
 said_ok bad None next dump e = absurd cc
 said_ok bad (Some t) next dump e = (t, refl, e)
 
@@ -61,11 +63,11 @@ dump_ok bad (Some found) [] dump e = (cc, refl)
 dump_ok bad (Some found) (b ∷ rest) dump e = absurd cc
 
 -- what is judged from between two rows
-record Spelled (realm : List ℕ) (point : Point) (rows : RowLists) (text : List ℕ) (dump : Dump) : Type 0 where
+record Spelled (v : Version) (realm : List ℕ) (point : Point) (rows : RowLists) (text : List ℕ) (dump : Dump) : Type 0 where
   realm_is : dump.realm ≡ realm
   point_is : dump.point ≡ point
   good : AreRows dump.rows
-  bytes : AreSpelled dump.rows
+  bytes : AreSpelled v dump.rows
   whole : rows_text rows ++ text ≡ rows_text dump.rows ++ ended (end_line (row_count dump.rows))
 
 rows_from_test : (rows : RowLists) → is_in_order rows ≡ true → All IsRow rows.princs → All IsPolicy rows.policies → AreRows rows
@@ -106,21 +108,21 @@ line_text : (line spelled : List ℕ) (lines : List (List ℕ)) (rest : List ℕ
 line_text line spelled lines rest is = append_assoc (ended line) (flat_map ended lines) rest ∙ ap (λ (l : List ℕ). ended l ++ text_of lines rest) is
 
 -- behind the last line nothing comes
-end_judged : (realm : List ℕ) (point : Point) (rows : RowLists) (n : ℕ) (lines : List (List ℕ)) (rest : List ℕ) (dump : Dump)
-    → judged_lines (at_rows realm point rows true) n lines rest ≡ Ok dump → (Some (record { realm = realm; point = point; rows = rows }) ≡ Some dump) × (text_of lines rest ≡ [])
+end_judged : (v : Version) (realm : List ℕ) (point : Point) (rows : RowLists) (n : ℕ) (lines : List (List ℕ)) (rest : List ℕ) (dump : Dump)
+    → judged_lines (at_rows v realm point rows true) n lines rest ≡ Ok dump → (Some (record { realm = realm; point = point; rows = rows }) ≡ Some dump) × (text_of lines rest ≡ [])
 unfolding judged_lines after dump_of
-end_judged realm point rows n [] rest dump e = let a = dump_ok (line_behind n) (Some (record { realm = realm; point = point; rows = rows })) rest dump e in (a.0, a.1)
-end_judged realm point rows n (line ∷ lines) rest dump e = absurd cc
+end_judged v realm point rows n [] rest dump e = let a = dump_ok (line_behind n) (Some (record { realm = realm; point = point; rows = rows })) rest dump e in (a.0, a.1)
+end_judged v realm point rows n (line ∷ lines) rest dump e = absurd cc
 
 -- a row, or the last line, and the lines behind it
-row_judged : (realm : List ℕ) (point : Point) (rows : RowLists) (n : ℕ) (line : List ℕ) (lines : List (List ℕ)) (rest : List ℕ) (dump : Dump) → AreRows rows → AreSpelled rows
-    → ((more : RowLists) → AreRows more → AreSpelled more → judged_lines (at_rows realm point more false) n lines rest ≡ Ok dump → Spelled realm point more (text_of lines rest) dump)
-    → (t : Said) → RowLed (at_rows realm point rows false) line t → judged_lines t n lines rest ≡ Ok dump → Spelled realm point rows (text_of (line ∷ lines) rest) dump
-row_judged realm point rows n line lines rest dump good bytes again t (led_princ p is row spelled none order new) f =
+row_judged : (v : Version) (realm : List ℕ) (point : Point) (rows : RowLists) (n : ℕ) (line : List ℕ) (lines : List (List ℕ)) (rest : List ℕ) (dump : Dump) → AreRows rows → AreSpelled v rows
+    → ((more : RowLists) → AreRows more → AreSpelled v more → judged_lines (at_rows v realm point more false) n lines rest ≡ Ok dump → Spelled v realm point more (text_of lines rest) dump)
+    → (t : Said) → RowLed v (at_rows v realm point rows false) line t → judged_lines t n lines rest ≡ Ok dump → Spelled v realm point rows (text_of (line ∷ lines) rest) dump
+row_judged v realm point rows n line lines rest dump good bytes again t (led_princ p is row spelled stand none order new) f =
     let more : RowLists = record { princs = rows.princs ++ (p ∷ []); policies = rows.policies } in
     let next = again more
     (rows_from_test more order (one_more IsRow rows.princs p good.princs row) good.policies)
-    (record { princs = one_more (λ q. IsBytes (princ q)) rows.princs p bytes.princs spelled; policies = bytes.policies })
+    (record { stand = one_more (λ q. stands_in v q ≡ true) rows.princs p bytes.stand stand; princs = one_more (λ q. IsBytes (princ q)) rows.princs p bytes.princs spelled; policies = bytes.policies })
     (ap (λ u. judged_lines u n lines rest) (sym new) ∙ f) in
     record {
       realm_is = next.realm_is;
@@ -130,11 +132,11 @@ row_judged realm point rows n line lines rest dump good bytes again t (led_princ
       whole = ap (λ (l : List ℕ). rows_text rows ++ l) (line_text line (princ_line p) lines rest is)
           ∙ sym (princ_text rows.princs rows.policies p (text_of lines rest) (nil_from_length rows.policies none)) ∙ next.whole;
     }
-row_judged realm point rows n line lines rest dump good bytes again t (led_policy p is row spelled order new) f =
+row_judged v realm point rows n line lines rest dump good bytes again t (led_policy p is row spelled order new) f =
     let more : RowLists = record { princs = rows.princs; policies = rows.policies ++ (p ∷ []) } in
     let next = again more
     (rows_from_test more order good.princs (one_more IsPolicy rows.policies p good.policies row))
-    (record { princs = bytes.princs; policies = one_more (λ q. IsBytes (policy q)) rows.policies p bytes.policies spelled })
+    (record { stand = bytes.stand; princs = bytes.princs; policies = one_more (λ q. IsBytes (policy q)) rows.policies p bytes.policies spelled })
     (ap (λ u. judged_lines u n lines rest) (sym new) ∙ f) in
     record {
       realm_is = next.realm_is;
@@ -144,10 +146,10 @@ row_judged realm point rows n line lines rest dump good bytes again t (led_polic
       whole = ap (λ (l : List ℕ). rows_text rows ++ l) (line_text line (policy_line p) lines rest is)
           ∙ sym (policy_text rows.princs rows.policies p (text_of lines rest)) ∙ next.whole;
     }
-row_judged realm point rows n line lines rest dump good bytes again t (led_end is new) f =
-    let last = end_judged realm point rows n lines rest dump (ap (λ u. judged_lines u n lines rest) (sym new) ∙ f) in
+row_judged v realm point rows n line lines rest dump good bytes again t (led_end is new) f =
+    let last = end_judged v realm point rows n lines rest dump (ap (λ u. judged_lines u n lines rest) (sym new) ∙ f) in
     let same : record { realm = realm; point = point; rows = rows } ≡ dump = same_Some _ _ last.0 in
-    subst (Spelled realm point rows (text_of (line ∷ lines) rest)) same (record {
+    subst (Spelled v realm point rows (text_of (line ∷ lines) rest)) same (record {
       realm_is = refl;
       point_is = refl;
       good = good;
@@ -156,14 +158,14 @@ row_judged realm point rows n line lines rest dump good bytes again t (led_end i
           ∙ ap (λ (l : List ℕ). ended (end_line (row_count rows)) ++ l) last.1 ∙ append-nil (ended (end_line (row_count rows))));
     })
 
-rows_judged : (realm : List ℕ) (point : Point) (rows : RowLists) (n : ℕ) (lines : List (List ℕ)) (rest : List ℕ) (dump : Dump) → AreRows rows → AreSpelled rows
-    → judged_lines (at_rows realm point rows false) n lines rest ≡ Ok dump → Spelled realm point rows (text_of lines rest) dump
+rows_judged : (v : Version) (realm : List ℕ) (point : Point) (rows : RowLists) (n : ℕ) (lines : List (List ℕ)) (rest : List ℕ) (dump : Dump) → AreRows rows → AreSpelled v rows
+    → judged_lines (at_rows v realm point rows false) n lines rest ≡ Ok dump → Spelled v realm point rows (text_of lines rest) dump
 unfolding judged_lines after dump_of
-rows_judged realm point rows n [] rest dump good bytes e = absurd cc
-rows_judged realm point rows n (line ∷ lines) rest dump good bytes e =
-    let a = said_ok (line_behind n) (after_row (at_rows realm point rows false) line) (λ t. judged_lines t (line_behind n) lines rest) dump e in
-    row_judged realm point rows (line_behind n) line lines rest dump good bytes (λ more g b f. rows_judged realm point more (line_behind n) lines rest dump g b f)
-    a.0 (row_led (at_rows realm point rows false) line a.0 a.1) a.2
+rows_judged v realm point rows n [] rest dump good bytes e = absurd cc
+rows_judged v realm point rows n (line ∷ lines) rest dump good bytes e =
+    let a = said_ok (line_behind n) (after_row v (at_rows v realm point rows false) line) (λ t. judged_lines t (line_behind n) lines rest) dump e in
+    row_judged v realm point rows (line_behind n) line lines rest dump good bytes (λ more g b f. rows_judged v realm point more (line_behind n) lines rest dump g b f)
+    a.0 (row_led v (at_rows v realm point rows false) line a.0 a.1) a.2
 
 -- ---- what stands before the rows
 
@@ -177,25 +179,25 @@ none_text : rows_text (record { princs = []; policies = [] }) ≡ []
 unfolding rows_text
 none_text = refl
 
-record BehindRealm (realm text : List ℕ) (dump : Dump) : Type 0 where
+record BehindRealm (v : Version) (realm text : List ℕ) (dump : Dump) : Type 0 where
   realm_is : dump.realm ≡ realm
   text_is : text ≡ ended (point_line dump.point) ++ (rows_text dump.rows ++ ended (end_line (row_count dump.rows)))
   point : IsPoint dump.point
   good : AreRows dump.rows
-  bytes : AreSpelled dump.rows
+  bytes : AreSpelled v dump.rows
 
-point_judged : (realm : List ℕ) (n : ℕ) (lines : List (List ℕ)) (rest : List ℕ) (dump : Dump)
-    → judged_lines (record { titled = true; realm = Some realm; point = None; princs = []; policies = []; ended = false }) n lines rest ≡ Ok dump → BehindRealm realm (text_of lines rest) dump
+point_judged : (v : Version) (realm : List ℕ) (n : ℕ) (lines : List (List ℕ)) (rest : List ℕ) (dump : Dump)
+    → judged_lines (record { titled = Some v; realm = Some realm; point = None; princs = []; policies = []; ended = false }) n lines rest ≡ Ok dump → BehindRealm v realm (text_of lines rest) dump
 unfolding judged_lines after dump_of after_point
-point_judged realm n [] rest dump e = absurd cc
-point_judged realm n (line ∷ lines) rest dump e =
-    let s : Said = record { titled = true; realm = Some realm; point = None; princs = []; policies = []; ended = false } in
+point_judged v realm n [] rest dump e = absurd cc
+point_judged v realm n (line ∷ lines) rest dump e =
+    let s : Said = record { titled = Some v; realm = Some realm; point = None; princs = []; policies = []; ended = false } in
     let a = said_ok (line_behind n) (after_point s line) (λ t. judged_lines t (line_behind n) lines rest) dump e in
     let m = map_some (λ p. record s { point = Some p }) (point_in line) a.0 a.1 in
     let p : Point = m.0 in
     let f = point_is line p m.1 in
     let none : RowLists = record { princs = []; policies = [] } in
-    let next = rows_judged realm p none (line_behind n) lines rest dump no_rows (record { princs = All-nil (λ q. IsBytes (princ q)); policies = All-nil (λ q. IsBytes (policy q)) })
+    let next = rows_judged v realm p none (line_behind n) lines rest dump no_rows (record { stand = All-nil (λ q. stands_in v q ≡ true); princs = All-nil (λ q. IsBytes (princ q)); policies = All-nil (λ q. IsBytes (policy q)) })
     (ap (λ u. judged_lines u (line_behind n) lines rest) m.2 ∙ a.2) in
     record {
       realm_is = next.realm_is;
@@ -207,20 +209,20 @@ point_judged realm n (line ∷ lines) rest dump e =
       bytes = next.bytes;
     }
 
-record BehindTitle (text : List ℕ) (dump : Dump) : Type 0 where
+record BehindTitle (v : Version) (text : List ℕ) (dump : Dump) : Type 0 where
   text_is : text ≡ ended (realm_line dump.realm) ++ (ended (point_line dump.point) ++ (rows_text dump.rows ++ ended (end_line (row_count dump.rows))))
-  is_dump : IsDump dump
+  is_dump : IsDump v dump
 
-realm_judged : (n : ℕ) (lines : List (List ℕ)) (rest : List ℕ) (dump : Dump)
-    → judged_lines (record { titled = true; realm = None; point = None; princs = []; policies = []; ended = false }) n lines rest ≡ Ok dump → BehindTitle (text_of lines rest) dump
+realm_judged : (v : Version) (n : ℕ) (lines : List (List ℕ)) (rest : List ℕ) (dump : Dump)
+    → judged_lines (record { titled = Some v; realm = None; point = None; princs = []; policies = []; ended = false }) n lines rest ≡ Ok dump → BehindTitle v (text_of lines rest) dump
 unfolding judged_lines after dump_of after_realm
-realm_judged n [] rest dump e = absurd cc
-realm_judged n (line ∷ lines) rest dump e =
-    let s : Said = record { titled = true; realm = None; point = None; princs = []; policies = []; ended = false } in
+realm_judged v n [] rest dump e = absurd cc
+realm_judged v n (line ∷ lines) rest dump e =
+    let s : Said = record { titled = Some v; realm = None; point = None; princs = []; policies = []; ended = false } in
     let a = said_ok (line_behind n) (after_realm s line) (λ t. judged_lines t (line_behind n) lines rest) dump e in
     let m = map_some (λ r. record s { realm = Some r }) (realm_in line) a.0 a.1 in
     let f = realm_is line m.0 m.1 in
-    let next = point_judged m.0 (line_behind n) lines rest dump (ap (λ u. judged_lines u (line_behind n) lines rest) m.2 ∙ a.2) in
+    let next = point_judged v m.0 (line_behind n) lines rest dump (ap (λ u. judged_lines u (line_behind n) lines rest) m.2 ∙ a.2) in
     record {
       text_is = line_text line (realm_line m.0) lines rest f.0
           ∙ ap (λ (r : List ℕ). ended (realm_line r) ++ text_of lines rest) (sym next.realm_is)
@@ -228,20 +230,23 @@ realm_judged n (line ∷ lines) rest dump e =
       is_dump = record { realm = subst IsRealm (sym next.realm_is) f.1; point = next.point; rows = next.good; bytes = next.bytes };
     }
 
-title_judged : (n : ℕ) (lines : List (List ℕ)) (rest : List ℕ) (dump : Dump) → judged_lines nothing n lines rest ≡ Ok dump → (text_of lines rest ≡ dump_text dump.realm dump.point dump.rows) × IsDump dump
+title_judged : (n : ℕ) (lines : List (List ℕ)) (rest : List ℕ) (dump : Dump) → judged_lines nothing n lines rest ≡ Ok dump → IsDumpText (text_of lines rest) dump
 unfolding judged_lines after dump_of dump_text head_text
 title_judged n [] rest dump e = absurd cc
 title_judged n (line ∷ lines) rest dump e =
     let a = said_ok (line_behind n) (after_title nothing line) (λ t. judged_lines t (line_behind n) lines rest) dump e in
     let f = title_is nothing line a.0 a.1 in
-    let next = realm_judged (line_behind n) lines rest dump (ap (λ u. judged_lines u (line_behind n) lines rest) (sym f.1) ∙ a.2) in
+    let v : Version = f.0 in
+    let next = realm_judged v (line_behind n) lines rest dump (ap (λ u. judged_lines u (line_behind n) lines rest) (sym f.2) ∙ a.2) in
     let body : List ℕ = rows_text dump.rows ++ ended (end_line (row_count dump.rows)) in
     let r : List ℕ = ended (realm_line dump.realm) in
     let p : List ℕ = ended (point_line dump.point) in
-    (line_text line title lines rest f.0 ∙ ap (λ (t : List ℕ). ended title ++ t) (next.text_is ∙ sym (append_assoc r p body)) ∙ sym (append_assoc (ended title) (r ++ p) body), next.is_dump)
+    record {
+      version = v;
+      is_dump = next.is_dump;
+      whole = line_text line (title v) lines rest f.1 ∙ ap (λ (t : List ℕ). ended (title v) ++ t) (next.text_is ∙ sym (append_assoc r p body)) ∙ sym (append_assoc (ended (title v)) (r ++ p) body);
+    }
 
-pub judged_spelled : (text : List ℕ) (dump : Dump) → judged text ≡ Ok dump → (text ≡ dump_text dump.realm dump.point dump.rows) × IsDump dump
+pub judged_spelled : (text : List ℕ) (dump : Dump) → judged text ≡ Ok dump → IsDumpText text dump
 unfolding judged judged_from
-judged_spelled text dump e =
-    let a = title_judged 0 (lines_of text).whole (lines_of text).rest dump e in
-    (sym (lines_text text) ∙ a.0, a.1)
+judged_spelled text dump e = subst (λ (t : List ℕ). IsDumpText t dump) (lines_text text) (title_judged 0 (lines_of text).whole (lines_of text).rest dump e)

@@ -8,8 +8,10 @@ use Rattle.kdb_base.specs.declared.moments.Point.{Point}
 use Rattle.policy_rules.specs.Rules.{Rules}
 use Rattle.princ_record.specs.Policies.{policy}
 use Rattle.princ_record.specs.Princs.{princ}
-use Rattle.princ_record.specs.Rows.{RowLists}
+use Rattle.princ_rows.specs.Rows.{RowLists}
 use Rattle.princ_record.specs.declared.princs.Princ.{Princ}
+use Rattle.dump_text.specs.Versions.{title}
+use Rattle.dump_text.specs.declared.versions.Version.{Version}
 
 abbrev pub line_feed : List ℕ
 line_feed = codes "\n"
@@ -19,9 +21,6 @@ abbrev pub six_digits : ℕ → List ℕ
 six_digits n = replicate (6 - length (decimal n)) 48 ++ decimal n
 
 -- ---- lines, without the line feeds that end them
-
-unfoldable pub title : List ℕ
-title = codes "kdb dump 1"
 
 unfoldable pub realm_line : List ℕ → List ℕ
 realm_line realm = codes "realm " ++ realm
@@ -46,8 +45,8 @@ abbrev pub ended : List ℕ → List ℕ
 ended line = line ++ line_feed
 
 -- what stands before the rows
-unfoldable pub head_text : List ℕ → Point → List ℕ
-head_text realm point = ended title ++ (ended (realm_line realm) ++ ended (point_line point))
+unfoldable pub head_text : Version → List ℕ → Point → List ℕ
+head_text version realm point = ended (title version) ++ (ended (realm_line realm) ++ ended (point_line point))
 
 -- the principals, and then the policies
 unfoldable pub rows_text : RowLists → List ℕ
@@ -56,5 +55,5 @@ rows_text rows = flat_map (λ p. ended (princ_line p)) rows.princs ++ flat_map (
 abbrev pub row_count : RowLists → ℕ
 row_count rows = length rows.princs + length rows.policies
 
-unfoldable pub dump_text : List ℕ → Point → RowLists → List ℕ
-dump_text realm point rows = head_text realm point ++ (rows_text rows ++ ended (end_line (row_count rows)))
+unfoldable pub dump_text : Version → List ℕ → Point → RowLists → List ℕ
+dump_text version realm point rows = head_text version realm point ++ (rows_text rows ++ ended (end_line (row_count rows)))

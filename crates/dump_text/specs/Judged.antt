@@ -3,22 +3,25 @@ use Rattle.std.specs.Prelude.{ℕ, ◌+◌, ◌≡◌, ◌&&◌, Bool, true, fal
 use Rattle.std.specs.List.{All}
 use Rattle.std.specs.Str.{bytes_eq}
 use Rattle.hex.specs.Hex.{IsBytes}
+use Rattle.kdb_base.specs.Limits.{most_rows}
 use Rattle.kdb_base.specs.declared.moments.Point.{Point}
 use Rattle.kdb_format.specs.Moments.{IsPoint}
 use Rattle.policy_rules.specs.Rules.{Rules}
 use Rattle.princ_name.specs.Realms.{IsRealm}
 use Rattle.princ_record.specs.Policies.{policy}
 use Rattle.princ_record.specs.Princs.{princ}
-use Rattle.princ_record.specs.Rows.{RowLists, AreRows, rises_from, princ_keys, policy_keys}
+use Rattle.princ_rows.specs.Rows.{RowLists, AreRows, rises_from, princ_keys, policy_keys}
 use Rattle.princ_record.specs.declared.princs.Princ.{Princ}
-use Rattle.dump_text.specs.Dumps.{title, end_line, row_count, dump_text}
+use Rattle.dump_text.specs.Dumps.{end_line, row_count, dump_text}
 use Rattle.dump_text.specs.Lines.{lines_of}
 use Rattle.dump_text.specs.Readings.{behind, realm_in, point_in, princ_of, policy_of}
+use Rattle.dump_text.specs.Versions.{stands_in, version_of}
+use Rattle.dump_text.specs.declared.versions.Version.{Version}
 use Rattle.dump_text.specs.declared.dumps.Dump.{Dump}
 
 -- what the lines so far said
 pub record Said : Type 0 where
-  pub titled : Bool
+  pub titled : Option Version
   pub realm : Option (List ℕ)
   pub point : Option Point
   pub princs : List Princ
@@ -26,14 +29,14 @@ pub record Said : Type 0 where
   pub ended : Bool
 
 abbrev pub nothing : Said
-nothing = record { titled = false; realm = None; point = None; princs = []; policies = []; ended = false }
+nothing = record { titled = None; realm = None; point = None; princs = []; policies = []; ended = false }
 
 abbrev pub rows_of : Said → RowLists
 rows_of s = record { princs = s.princs; policies = s.policies }
 
 -- as many rows as there may be, each behind the one before it
 abbrev pub is_in_order : RowLists → Bool
-is_in_order rows = nat_le (row_count rows) 100000 && (rises_from None (princ_keys rows.princs) && rises_from None (policy_keys rows.policies))
+is_in_order rows = nat_le (row_count rows) most_rows && (rises_from None (princ_keys rows.princs) && rises_from None (policy_keys rows.policies))
 
 abbrev pub when_in_order : Said → Option Said
 when_in_order s = if is_in_order (rows_of s) then Some s else None
@@ -41,7 +44,7 @@ when_in_order s = if is_in_order (rows_of s) then Some s else None
 -- ---- what a line leads to, None where no dump goes on with it
 
 unfoldable pub after_title : Said → List ℕ → Option Said
-after_title s line = if bytes_eq line title then Some (record s { titled = true }) else None
+after_title s line = option_map (λ version. record s { titled = Some version }) (version_of line)
 
 unfoldable pub after_realm : Said → List ℕ → Option Said
 after_realm s line = option_map (λ r. record s { realm = Some r }) (realm_in line)
@@ -63,24 +66,28 @@ abbrev pub policy_or_end : Said → List ℕ → Option (List ℕ) → Option Sa
 policy_or_end s line None = after_end s line
 policy_or_end s line (Some text) = option_and_then (with_policy s) (policy_of text)
 
-abbrev pub princ_or_other : Said → List ℕ → Option (List ℕ) → Option Said
-princ_or_other s line None = policy_or_end s line (behind (codes "policy ") line)
-princ_or_other s line (Some text) = option_and_then (with_princ s) (princ_of text)
+abbrev pub princ_or_other : Version → Said → List ℕ → Option (List ℕ) → Option Said
+princ_or_other version s line None = policy_or_end s line (behind (codes "policy ") line)
+princ_or_other version s line (Some text) = option_and_then (with_princ s) (princ_of version text)
 
-unfoldable pub after_row : Said → List ℕ → Option Said
-after_row s line = princ_or_other s line (behind (codes "princ ") line)
+unfoldable pub after_row : Version → Said → List ℕ → Option Said
+after_row version s line = princ_or_other version s line (behind (codes "princ ") line)
 
-abbrev pub point_or_row : Said → List ℕ → Option Point → Option Said
-point_or_row s line None = after_point s line
-point_or_row s line (Some point) = if s.ended then None else after_row s line
+abbrev pub point_or_row : Version → Said → List ℕ → Option Point → Option Said
+point_or_row version s line None = after_point s line
+point_or_row version s line (Some point) = if s.ended then None else after_row version s line
 
-abbrev pub realm_or_later : Said → List ℕ → Option (List ℕ) → Option Said
-realm_or_later s line None = after_realm s line
-realm_or_later s line (Some realm) = point_or_row s line s.point
+abbrev pub realm_or_later : Version → Said → List ℕ → Option (List ℕ) → Option Said
+realm_or_later version s line None = after_realm s line
+realm_or_later version s line (Some realm) = point_or_row version s line s.point
+
+abbrev pub title_or_later : Said → List ℕ → Option Version → Option Said
+title_or_later s line None = after_title s line
+title_or_later s line (Some version) = realm_or_later version s line s.realm
 
 -- first the title, then the realm, the point, the rows and the end, and nothing behind it
 unfoldable pub after : Said → List ℕ → Option Said
-after s line = if s.titled then realm_or_later s line s.realm else after_title s line
+after s line = title_or_later s line s.titled
 
 -- ---- whole texts
 
@@ -118,24 +125,30 @@ judged_from s count text = judged_lines s count (lines_of text).whole (lines_of 
 unfoldable pub judged : List ℕ → Result Dump ℕ
 judged text = judged_from nothing 0 text
 
--- each record is spelled in bytes
-pub record AreSpelled (rows : RowLists) : Type 0 where
+-- each record is spelled in bytes, and may stand in a dump of this version
+pub record AreSpelled (version : Version) (rows : RowLists) : Type 0 where
+  pub stand : All (λ p. stands_in version p ≡ true) rows.princs
   pub princs : All (λ p. IsBytes (princ p)) rows.princs
   pub policies : All (λ p. IsBytes (policy p)) rows.policies
 
--- what a database may hold
-pub record IsDump (dump : Dump) : Type 0 where
+-- what a dump of this version may hold
+pub record IsDump (version : Version) (dump : Dump) : Type 0 where
   pub realm : IsRealm dump.realm
   pub point : IsPoint dump.point
   pub rows : AreRows dump.rows
-  pub bytes : AreSpelled dump.rows
+  pub bytes : AreSpelled version dump.rows
+
+-- the text of this dump, in the one version or the other
+pub record IsDumpText (text : List ℕ) (dump : Dump) : Type 0 where
+  pub version : Version
+  pub is_dump : IsDump version dump
+  pub whole : text ≡ dump_text version dump.realm dump.point dump.rows
 
 -- a dump goes on with this text
 pub record BeginsDump (text : List ℕ) : Type 0 where
   pub dump : Dump
   pub rest : List ℕ
-  pub is_dump : IsDump dump
-  pub whole : text ++ rest ≡ dump_text dump.realm dump.point dump.rows
+  pub is_text : IsDumpText (text ++ rest) dump
 
 -- ---- what was read so far
 

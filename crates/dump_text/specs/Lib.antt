@@ -5,3 +5,5 @@ pub mod Parts
 pub mod Reader
 pub mod Readings
 pub mod Stops
+pub mod Versions
+pub mod Firsts

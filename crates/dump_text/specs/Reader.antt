@@ -2,6 +2,7 @@
 use Rattle.std.specs.Prelude.{ℕ, ◌≡◌, ◌≤◌, List, [], ◌++◌, length, take, Option, Some, None, IfSome, Result, Ok, Err}
 use Rattle.dump_text.specs.Judged.{Said, nothing, judged_from, said_by}
 use Rattle.dump_text.specs.Lines.{lines_of}
+use Rattle.dump_text.specs.Versions.{longest}
 use Rattle.dump_text.specs.declared.dumps.Dump.{Dump}
 use Rattle.dump_text.specs.declared.stops.DumpStop.{DumpStop}
 use Rattle.dump_text.specs.declared.stops.DumpStop.TheVariants as stop
@@ -68,4 +69,4 @@ pub record IsFed (piece : List ℕ) (old new : ReaderState) : Type 0 where
   pub said : said_by old.said (lines_of (old.held ++ piece)).whole ≡ Some new.said
   pub held : new.held ≡ (lines_of (old.held ++ piece)).rest
   pub going : new.bad ≡ None
-  pub short : length new.held ≤ 16006
+  pub short : length new.held ≤ longest

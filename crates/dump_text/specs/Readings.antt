@@ -1,8 +1,9 @@
 -- What the lines of a dump say.
-use Rattle.std.specs.Prelude.{ℕ, ◌+◌, ◌-◌, ◌*◌, ◌==◌, ◌&&◌, Bool, List, [], ◌∷◌, codes, length, take, drop, Option, Some, None, option_and_then, Result, Ok, Err, nat_le, nat_lt, fold, if◌then◌else◌}
+use Rattle.std.specs.Prelude.{ℕ, ◌+◌, ◌-◌, ◌*◌, ◌==◌, ◌&&◌, Bool, List, [], ◌∷◌, codes, length, take, drop, Option, Some, None, option_and_then, Result, Ok, Err, nat_lt, fold, if◌then◌else◌}
 use Rattle.std.specs.Str.{bytes_eq}
 use Rattle.hex.specs.Hex.{decode_of, encode_lower}
 use Rattle.hex.specs.declared.error.FromHexError.{FromHexError}
+use Rattle.kdb_base.specs.Limits.{longest_row}
 use Rattle.kdb_base.specs.Moment.{Moment}
 use Rattle.kdb_base.specs.declared.moments.Point.{Point}
 use Rattle.kdb_format.specs.Readings.{whole}
@@ -12,6 +13,8 @@ use Rattle.princ_record.specs.Policies.{policy_at}
 use Rattle.princ_record.specs.Princs.{princ_at}
 use Rattle.princ_record.specs.declared.princs.Princ.{Princ}
 use Rattle.dump_text.specs.Dumps.{point_line}
+use Rattle.dump_text.specs.Versions.{stands_in}
+use Rattle.dump_text.specs.declared.versions.Version.{Version}
 
 -- what stands behind this word
 unfoldable pub behind : List ℕ → List ℕ → Option (List ℕ)
@@ -70,9 +73,9 @@ bytes_or_none (Err e) = None
 unfoldable pub hex_of : List ℕ → Option (List ℕ)
 hex_of text = option_and_then (λ bytes. if bytes_eq (encode_lower bytes) text then Some bytes else None) (bytes_or_none (decode_of text))
 
--- the principal of at most 8000 bytes
-unfoldable pub princ_of : List ℕ → Option Princ
-princ_of text = option_and_then (λ bytes. if nat_le (length bytes) 8000 then whole princ_at bytes else None) (hex_of text)
+-- the principal that may stand in a dump of this version
+unfoldable pub princ_of : Version → List ℕ → Option Princ
+princ_of version text = option_and_then (λ p. if stands_in version p then Some p else None) (option_and_then (λ bytes. whole princ_at bytes) (hex_of text))
 
 unfoldable pub policy_of : List ℕ → Option Rules
 policy_of text = option_and_then (λ bytes. whole policy_at bytes) (hex_of text)

@@ -1,6 +1,6 @@
 use kdb_base::Point;
 use princ_name::Realm;
-use princ_record::Rows;
+use princ_rows::Rows;
 
 /// What a dump holds: a whole database.
 #[derive(Debug, Drop)]

@@ -9,11 +9,13 @@ mod progress;
 pub mod reader;
 mod readings;
 pub mod stops;
+pub mod versions;
 pub mod writer;
 
 pub use dumps::Dump;
 pub use reader::DumpReader;
 pub use stops::DumpStop;
+pub use versions::Version;
 pub use writer::write_dump;
 
 #[cfg(test)]

@@ -2,7 +2,9 @@
 ghost use Rattle.std.specs.Prelude.{◌≡◌, ◌++◌, IfOk, OnOk, string_bytes};
 ghost use Rattle.hex.specs.Hex.{encode_lower};
 ghost use Rattle.princ_record.specs.Princs.{IsPrinc};
-ghost use Rattle.dump_text.specs.Dumps.{end_line, ended, head_text, point_line, policy_line, princ_line, realm_line, six_digits, title};
+ghost use Rattle.dump_text.specs.Dumps.{end_line, ended, head_text, point_line, policy_line, princ_line, realm_line, six_digits};
+ghost use Rattle.dump_text.specs.Versions.{title};
+ghost use Rattle.dump_text.specs.declared.versions.Version.TheVariants.{Two};
 
 use kdb_base::{MemoryOut, Point};
 use kdb_format::writing::push_bytes;
@@ -18,11 +20,11 @@ fn push_hex(alloc: Global, out: &mut Vec<u8>, bytes: &[u8]) -> Result<(), Memory
     Ok(())
 }
 
-#[tactic(auto, unfolding(crate::specs::Dumps::title))]
+#[tactic(auto, unfolding(crate::specs::Versions::title))]
 fn push_title(out: &mut Vec<u8>) -> Result<(), MemoryOut>
-    ensures { OnOk result (out.new.items ≡ out.old.items ++ ended title) }
+    ensures { OnOk result (out.new.items ≡ out.old.items ++ ended (title Two)) }
 {
-    push_bytes(out, b"kdb dump 1\n")?;
+    push_bytes(out, b"kdb dump 2\n")?;
     Ok(())
 }
 
@@ -63,7 +65,7 @@ fn push_point(alloc: Global, out: &mut Vec<u8>, point: &Point) -> Result<(), Mem
     Ok(())
 }
 
-/// Appends what stands before the rows.
+/// Appends what stands before the rows in a dump of the second version.
 #[tactic(auto, unfolding(crate::specs::Dumps::head_text))]
 pub(crate) fn push_head(
     alloc: Global,
@@ -71,7 +73,7 @@ pub(crate) fn push_head(
     realm: &[u8],
     point: &Point,
 ) -> Result<(), MemoryOut>
-    ensures { OnOk result (out.new.items ≡ out.old.items ++ head_text realm.now point.now) }
+    ensures { OnOk result (out.new.items ≡ out.old.items ++ head_text Two realm.now point.now) }
 {
     push_title(out)?;
     push_realm(out, realm)?;

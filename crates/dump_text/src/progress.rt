@@ -1,9 +1,9 @@
 //! What the lines of a dump said so far.
 ghost use Rattle.std.specs.Prelude.{◌≡◌, ◌+◌, ◌<◌, ◌++◌, ◌∷◌, [], List, ℕ, Bool, None, Some, true, false, length, map, take, codes, is_some, option_and_then, if◌then◌else◌, IfOk, OnOk};
-ghost use Rattle.princ_record.specs.Entries.{IsRow};
+ghost use Rattle.princ_record.specs.RowLimits.{IsRow};
 ghost use Rattle.princ_record.specs.Policies.{IsPolicy};
-ghost use Rattle.princ_record.specs.Rows.{AreRows, is_behind, rises_from};
-ghost use Rattle.dump_text.specs.Judged.{after, after_end, after_point, after_realm, after_row, after_title, dump_of, nothing, policy_or_end, rows_of, with_policy, with_princ};
+ghost use Rattle.princ_rows.specs.Rows.{AreRows, is_behind, rises_from};
+ghost use Rattle.dump_text.specs.Judged.{after, after_end, after_point, after_realm, after_row, after_title, dump_of, nothing, policy_or_end, realm_or_later, rows_of, with_policy, with_princ};
 ghost use Rattle.dump_text.specs.Reader.{Goes};
 ghost use Rattle.dump_text.specs.Readings.{behind, policy_of, princ_of};
 
@@ -11,16 +11,16 @@ use crate::dumps::Dump;
 use crate::lines::print_end;
 use crate::readings::{behind, point_in, policy_of, princ_of, realm_in};
 use crate::stops::LineStop;
+use crate::versions::Version;
 use kdb_base::Point;
+use kdb_base::limits::MAX_ROWS;
 use policy_rules::Policy;
 use princ_name::Realm;
-use princ_record::rows::MAX_ROWS;
-use princ_record::{Keyed, Princ, Rows};
+use princ_record::Princ;
+use princ_rows::{Boxed, Keyed, Rows, push_boxed};
 use std::alloc::Global;
 use std::cmp::Ordering;
 use std::marker::Model;
-
-const TITLE: &[u8] = b"kdb dump 1";
 
 fn is_above(last: &[u8], key: &[u8]) -> bool
     ensures { result ≡ is_behind (Some last.now) key.now }
@@ -29,12 +29,12 @@ fn is_above(last: &[u8], key: &[u8]) -> bool
 }
 
 /// Whether the item's key is behind the last one.
-fn is_behind_last<T: Keyed>(items: &[T], item: &T) -> bool
+fn is_behind_last<T: Keyed + Drop>(items: &[Boxed<T>], item: &T) -> bool
     requires { rises_from None (map T.key_of items.now) ≡ true }
     ensures { result ≡ rises_from None (map T.key_of (items.now ++ (item.now ∷ []))) }
 {
     match items.last() {
-        Some(last) => is_above(last.key(), item.key()),
+        Some(last) => is_above(last.get().key(), item.key()),
         None => true,
     }
 }
@@ -48,7 +48,7 @@ fn kept_if(keep: bool, realm: Option<Realm>) -> Option<Realm>
 /// A place to which a reader can go back.
 #[derive(Clone, Copy)]
 pub(crate) struct Mark {
-    titled: bool,
+    titled: Option<Version>,
     has_realm: bool,
     point: Option<Point>,
     princs: usize,
@@ -59,16 +59,16 @@ pub(crate) struct Mark {
 /// What the lines so far said.
 #[derive(Debug, Drop)]
 pub(crate) struct Progress {
-    titled: bool,
+    titled: Option<Version>,
     realm: Option<Realm>,
     point: Option<Point>,
-    princs: Vec<Princ>,
-    policies: Vec<Policy>,
+    princs: Vec<Boxed<Princ>>,
+    policies: Vec<Boxed<Policy>>,
     ended: bool,
 }
 
 impl Model for Progress {
-    ghost use Rattle.princ_record.specs.Rows.{AreRows};
+    ghost use Rattle.princ_rows.specs.Rows.{AreRows};
     ghost use Rattle.dump_text.specs.Judged.{Said};
 
     ghost Value = { Said };
@@ -84,7 +84,7 @@ impl Progress {
         ensures { result ≡ nothing }
     {
         Progress {
-            titled: false,
+            titled: None,
             realm: None,
             point: None,
             princs: Vec::new(alloc),
@@ -107,15 +107,17 @@ impl Progress {
         self.princs.len() + self.policies.len()
     }
 
-    #[tactic(auto, unfolding(crate::specs::Judged::after_title, crate::specs::Dumps::title))]
+    #[tactic(auto, unfolding(crate::specs::Judged::after_title))]
     fn take_title(&mut self, line: &[u8]) -> Result<(), LineStop>
         ensures { Goes result (after_title self.old line.now) self.old self.new }
     {
-        if line != TITLE {
-            return Err(LineStop::Bad);
+        match Version::from_title(line) {
+            Some(version) => {
+                self.titled = Some(version);
+                Ok(())
+            }
+            None => Err(LineStop::Bad),
         }
-        self.titled = true;
-        Ok(())
     }
 
     #[tactic(auto, unfolding(crate::specs::Judged::after_realm))]
@@ -158,7 +160,7 @@ impl Progress {
         if !is_behind_last(&self.princs, &princ) {
             return Err(LineStop::Bad);
         }
-        self.princs.push(princ)?;
+        push_boxed(&mut self.princs, princ)?;
         Ok(())
     }
 
@@ -173,7 +175,7 @@ impl Progress {
         if !is_behind_last(&self.policies, &policy) {
             return Err(LineStop::Bad);
         }
-        self.policies.push(policy)?;
+        push_boxed(&mut self.policies, policy)?;
         Ok(())
     }
 
@@ -189,10 +191,10 @@ impl Progress {
         Ok(())
     }
 
-    fn take_princ(&mut self, alloc: Global, text: &[u8]) -> Result<(), LineStop>
-        ensures { Goes result (option_and_then (with_princ self.old) (princ_of text.now)) self.old self.new }
+    fn take_princ(&mut self, alloc: Global, version: Version, text: &[u8]) -> Result<(), LineStop>
+        ensures { Goes result (option_and_then (with_princ self.old) (princ_of version text.now)) self.old self.new }
     {
-        match princ_of(alloc, text) {
+        match princ_of(alloc, version, text) {
             Ok(princ) => self.put_princ(princ),
             Err(stop) => Err(stop),
         }
@@ -217,23 +219,19 @@ impl Progress {
     }
 
     #[tactic(auto, unfolding(crate::specs::Judged::after_row))]
-    fn take_row(&mut self, alloc: Global, line: &[u8]) -> Result<(), LineStop>
-        ensures { Goes result (after_row self.old line.now) self.old self.new }
+    fn take_row(&mut self, alloc: Global, version: Version, line: &[u8]) -> Result<(), LineStop>
+        ensures { Goes result (after_row version self.old line.now) self.old self.new }
     {
         match behind(b"princ ", line) {
-            Some(text) => self.take_princ(alloc, text),
+            Some(text) => self.take_princ(alloc, version, text),
             None => self.take_policy_or_end(alloc, line),
         }
     }
 
-    /// Takes the next line, without its line feed.
-    #[tactic(auto, unfolding(crate::specs::Judged::after))]
-    pub(crate) fn take_line(&mut self, alloc: Global, line: &[u8]) -> Result<(), LineStop>
-        ensures { Goes result (after self.old line.now) self.old self.new }
+    /// Takes a line behind the title.
+    fn take_later(&mut self, alloc: Global, version: Version, line: &[u8]) -> Result<(), LineStop>
+        ensures { Goes result (realm_or_later version self.old line.now self.old.realm) self.old self.new }
     {
-        if !self.titled {
-            return self.take_title(line);
-        }
         if self.realm.is_none() {
             return self.take_realm(alloc, line);
         }
@@ -243,7 +241,18 @@ impl Progress {
         if self.ended {
             return Err(LineStop::Bad);
         }
-        self.take_row(alloc, line)
+        self.take_row(alloc, version, line)
+    }
+
+    /// Takes the next line, without its line feed.
+    #[tactic(auto, unfolding(crate::specs::Judged::after))]
+    pub(crate) fn take_line(&mut self, alloc: Global, line: &[u8]) -> Result<(), LineStop>
+        ensures { Goes result (after self.old line.now) self.old self.new }
+    {
+        match self.titled {
+            Some(version) => self.take_later(alloc, version, line),
+            None => self.take_title(line),
+        }
     }
 
     /// This place.

@@ -4,12 +4,15 @@ ghost use Rattle.dump_text.specs.Dumps.{row_count};
 ghost use Rattle.dump_text.specs.Judged.{after, judged_from, line_behind, rows_of, said_by};
 ghost use Rattle.dump_text.specs.Lines.{Cut, lacks, lines_of};
 ghost use Rattle.dump_text.specs.Reader.{Grows, IsFed, answer_of, fresh, judged_with};
+ghost use Rattle.dump_text.specs.Versions.{longest};
+ghost use Rattle.kdb_base.specs.Limits.{most_rows};
 ghost use Rattle.dump_text.specs.declared.dumps.Dump.{Dump};
 
 use crate::dumps::Dump;
 use crate::progress::Progress;
 use crate::stops::{DumpStop, LineStop};
 use kdb_base::MemoryOut;
+use kdb_base::limits::MAX_ROW_LEN;
 use kdb_format::writing::push_bytes;
 use memchr::memchr;
 use std::alloc::Global;
@@ -17,7 +20,7 @@ use std::marker::Model;
 use std::mem;
 
 /// The most bytes of a line: a principal's word, and two digits for each byte of its record.
-const LONGEST: usize = 16006;
+const LONGEST: usize = 6 + 2 * MAX_ROW_LEN;
 
 /// The bytes before the first line feed, and those behind it.
 fn cut_line(text: &[u8]) -> Option<(&[u8], &[u8])>
@@ -33,8 +36,8 @@ fn cut_line(text: &[u8]) -> Option<(&[u8], &[u8])>
 /// Puts bytes behind those of a line. Bad where it is longer than any line of a dump.
 fn extend_line(line: &mut Vec<u8>, bytes: &[u8]) -> Result<(), LineStop>
     ensures ok { OnOk result (line.new.items ≡ line.old.items ++ bytes.now) }
-    ensures short { OnOk result (length line.new.items ≤ 16006) }
-    ensures long { result ≡ Err LineStop.Bad → 16006 < length (line.old.items ++ bytes.now) }
+    ensures short { OnOk result (length line.new.items ≤ longest) }
+    ensures long { result ≡ Err LineStop.Bad → longest < length (line.old.items ++ bytes.now) }
 {
     if bytes.len() > LONGEST || line.len() > LONGEST - bytes.len() {
         return Err(LineStop::Bad);
@@ -74,11 +77,11 @@ fn take_whole(
 
 /// Takes bytes behind the last line feed.
 fn take_rest(said: &mut Progress, line: &mut Vec<u8>, bytes: &[u8]) -> Result<(), LineStop>
-    ensures few { row_count (rows_of said.old) ≤ 100000 }
+    ensures few { row_count (rows_of said.old) ≤ most_rows }
     ensures said { said.new ≡ said.old }
     ensures ok { OnOk result (line.new.items ≡ line.old.items ++ bytes.now) }
-    ensures short { OnOk result (length line.new.items ≤ 16006) }
-    ensures long { result ≡ Err LineStop.Bad → 16006 < length (line.old.items ++ bytes.now) }
+    ensures short { OnOk result (length line.new.items ≤ longest) }
+    ensures long { result ≡ Err LineStop.Bad → longest < length (line.old.items ++ bytes.now) }
 {
     said.holds_rows();
     extend_line(line, bytes)
@@ -97,7 +100,7 @@ fn take_piece(
     ensures whole { OnOk result (said_by said.old (lines_of (line.old.items ++ piece.now)).whole ≡ Some said.new) }
     ensures held { OnOk result (line.new.items ≡ (lines_of (line.old.items ++ piece.now)).rest) }
     ensures clear { OnOk result (lacks 10 line.new.items ≡ true) }
-    ensures short { OnOk result (length line.new.items ≤ 16006) }
+    ensures short { OnOk result (length line.new.items ≤ longest) }
     ensures bad { result ≡ Err LineStop.Bad → (rest : List ℕ) → judged_from said.old count.old (line.old.items ++ (piece.now ++ rest)) ≡ Err (line_behind count.new) }
     ensures grows { Grows said.old said.new }
 {
@@ -144,7 +147,7 @@ fn take_or_leave(
     ensures whole { OnOk result (said_by said.old (lines_of (held.now ++ piece.now)).whole ≡ Some said.new) }
     ensures held { OnOk result (line.new.items ≡ (lines_of (held.now ++ piece.now)).rest) }
     ensures clear { OnOk result (lacks 10 line.new.items ≡ true) }
-    ensures short { OnOk result (length line.new.items ≤ 16006) }
+    ensures short { OnOk result (length line.new.items ≤ longest) }
     ensures bad { result ≡ Err LineStop.Bad → (rest : List ℕ) → judged_from said.old count.old (held.now ++ (piece.now ++ rest)) ≡ Err (line_behind count.new) }
     ensures said { result ≡ Err LineStop.MemoryOut → said.new ≡ said.old }
     ensures count { result ≡ Err LineStop.MemoryOut → count.new ≡ count.old }
@@ -166,7 +169,7 @@ fn take_or_leave(
 }
 
 /// Reads a dump that comes in pieces of any size. Memory is bounded by the rows and by the longest line,
-/// 16006 bytes.
+/// 32006 bytes.
 #[derive(Debug, Drop)]
 pub struct DumpReader {
     alloc: Global,

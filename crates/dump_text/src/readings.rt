@@ -1,14 +1,17 @@
 //! What a line of a dump says.
 ghost use Rattle.std.specs.Prelude.{◌≡◌, ◌-◌, ◌<◌, ◌^◌, min, List, ℕ, None, Some, true, false, codes, IfOk, IfSome};
 ghost use Rattle.kdb_base.specs.Moment.{Moment};
-ghost use Rattle.princ_record.specs.Entries.{IsRow};
+ghost use Rattle.princ_record.specs.RowLimits.{IsRow};
+ghost use Rattle.kdb_format.specs.Readings.{whole};
 ghost use Rattle.princ_record.specs.Policies.{IsPolicy};
+ghost use Rattle.princ_record.specs.Princs.{IsPrinc, princ_at};
 ghost use Rattle.dump_text.specs.Reader.{Finds, FindsAs};
 ghost use Rattle.hex.specs.Hex.{decode_of};
 ghost use Rattle.dump_text.specs.Readings.{before_blank, behind, behind_blank, bytes_or_none, hex_of, is_point, near_point, near_time, number_of, point_in, policy_of, princ_of, realm_in, realm_of, written_so};
 
 use crate::lines::print_point;
 use crate::stops::LineStop;
+use crate::versions::Version;
 use hex::FromHexError;
 use kdb_base::{Point, Time};
 use kdb_format::read_whole;
@@ -17,9 +20,6 @@ use policy_rules::Policy;
 use princ_name::{Realm, is_realm};
 use princ_record::{PolicyFormat, Princ, PrincFormat};
 use std::alloc::Global;
-
-/// The most bytes of a principal's record.
-const LONGEST_RECORD: usize = 8000;
 
 /// What stands behind this word.
 #[tactic(auto, unfolding(crate::specs::Readings::behind))]
@@ -156,17 +156,26 @@ fn hex_of(alloc: Global, text: &[u8]) -> Result<Vec<u8>, LineStop>
     Ok(bytes)
 }
 
-/// The principal of these digits.
-#[tactic(auto, unfolding(crate::specs::Readings::princ_of))]
-pub(crate) fn princ_of(alloc: Global, text: &[u8]) -> Result<Princ, LineStop>
-    ensures found { Finds result (princ_of text.now) }
+/// The principal of these bytes.
+fn princ_in(alloc: Global, bytes: &[u8]) -> Result<Princ, LineStop>
+    ensures found { Finds result (whole princ_at bytes.now) }
+    ensures fits { IfOk result (λ p. IsPrinc p) }
+{
+    let princ = read_whole::<PrincFormat>(alloc, bytes)?;
+    Ok(princ)
+}
+
+/// The principal of these digits, in a dump of this version.
+#[tactic(auto, unfolding(crate::specs::Readings::princ_of), using(crate::proofs::Stands::stands_row))]
+pub(crate) fn princ_of(alloc: Global, version: Version, text: &[u8]) -> Result<Princ, LineStop>
+    ensures found { Finds result (princ_of version text.now) }
     ensures row { IfOk result (λ p. IsRow p) }
 {
     let bytes = hex_of(alloc, text)?;
-    if bytes.len() > LONGEST_RECORD {
+    let princ = princ_in(alloc, &bytes)?;
+    if !version.takes(&princ) {
         return Err(LineStop::Bad);
     }
-    let princ = read_whole::<PrincFormat>(alloc, &bytes)?;
     Ok(princ)
 }
 

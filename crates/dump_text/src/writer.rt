@@ -3,9 +3,10 @@ ghost use Rattle.std.specs.Prelude.{◌≡◌, ◌≢◌, ◌≤◌, ◌++◌, [
 ghost use Rattle.std.specs.List.{All, flat_map};
 ghost use Rattle.kdb_base.specs.Causes.{HasCause, Rose};
 ghost use Rattle.kdb_ports.specs.Told.{after_told};
-ghost use Rattle.princ_record.specs.Entries.{IsRow};
+ghost use Rattle.princ_record.specs.RowLimits.{IsRow};
 ghost use Rattle.princ_record.specs.Princs.{IsPrinc};
 ghost use Rattle.dump_text.specs.Dumps.{dump_text, end_line, ended, head_text, policy_line, princ_line, row_count, rows_text};
+ghost use Rattle.dump_text.specs.declared.versions.Version.TheVariants.{Two};
 ghost use Rattle.dump_text.specs.Parts.{Holds, SaidPart};
 
 use crate::lines::{push_end, push_head, push_policy, push_princ};
@@ -13,14 +14,15 @@ use crate::stops::{DumpStop, WriteStop};
 use kdb_base::{MemoryOut, Point};
 use kdb_ports::{Sink, WriteFailed};
 use policy_rules::Policy;
-use princ_record::{Princ, Rows};
+use princ_record::Princ;
+use princ_rows::{Boxed, Rows};
 use std::alloc::Global;
 
 /// So many bytes are written at once, but for the last ones.
 const PAGE: usize = 65536;
 
 /// What the buffer holds at most: a page, and a line behind it.
-const ROOM: usize = 81600;
+const ROOM: usize = 97600;
 
 /// Writes all of the bytes.
 fn write_whole<K: Sink>(sink: &mut K, bytes: &[u8]) -> Result<(), WriteFailed>
@@ -95,7 +97,7 @@ fn write_policy<K: Sink>(
 /// Writes the lines of principals.
 fn write_princs<K: Sink>(
     alloc: Global,
-    princs: &[Princ],
+    princs: &[Boxed<Princ>],
     sink: &mut K,
     out: &mut Vec<u8>,
 ) -> Result<(), WriteStop>
@@ -106,7 +108,7 @@ fn write_princs<K: Sink>(
     ensures fault { result ≡ Err WriteStop.WriteFault → Rose (K.faults sink.old) (K.faults sink.new) }
 {
     for princ in princs {
-        match write_princ(alloc, princ, sink, out) {
+        match write_princ(alloc, princ.get(), sink, out) {
             Ok(()) => {}
             Err(stop) => return Err(stop),
         }
@@ -117,7 +119,7 @@ fn write_princs<K: Sink>(
 /// Writes the lines of policies.
 fn write_policies<K: Sink>(
     alloc: Global,
-    policies: &[Policy],
+    policies: &[Boxed<Policy>],
     sink: &mut K,
     out: &mut Vec<u8>,
 ) -> Result<(), WriteStop>
@@ -127,7 +129,7 @@ fn write_policies<K: Sink>(
     ensures fault { result ≡ Err WriteStop.WriteFault → Rose (K.faults sink.old) (K.faults sink.new) }
 {
     for policy in policies {
-        match write_policy(alloc, policy, sink, out) {
+        match write_policy(alloc, policy.get(), sink, out) {
             Ok(()) => {}
             Err(stop) => return Err(stop),
         }
@@ -180,7 +182,7 @@ fn write_end<K: Sink>(
 
 /// Takes the buffer, and puts into it what stands before the rows.
 fn begin(alloc: Global, realm: &[u8], point: &Point) -> Result<Vec<u8>, MemoryOut>
-    ensures { IfOk result (λ out. out.items ≡ head_text realm.now point.now) }
+    ensures { IfOk result (λ out. out.items ≡ head_text Two realm.now point.now) }
 {
     let mut out = Vec::with_capacity(alloc, ROOM)?;
     push_head(alloc, &mut out, realm, point)?;
@@ -216,7 +218,7 @@ fn write_body<K: Sink>(
     }
 }
 
-/// Writes the dump of a database, line by line through a buffer of some 64 KB. After an error the sink has
+/// Writes the dump of a database in the second version, line by line through a buffer of some 64 KB. After an error the sink has
 /// taken a front of it. WriteFault where the sink failed; only want of memory can refuse it otherwise.
 #[tactic(auto, unfolding(crate::specs::Dumps::dump_text))]
 pub fn write_dump<K: Sink>(
@@ -227,9 +229,9 @@ pub fn write_dump<K: Sink>(
     sink: &mut K,
 ) -> Result<(), DumpStop>
     // The sink took the dump, and nothing else.
-    ensures ok { OnOk result (K.taken sink.new ≡ after_told (K.taken sink.old) (dump_text realm.now point rows.now)) }
+    ensures ok { OnOk result (K.taken sink.new ≡ after_told (K.taken sink.old) (dump_text Two realm.now point rows.now)) }
     // The sink took a front of the dump, and nothing else.
-    ensures err { OnErr result (SaidPart (dump_text realm.now point rows.now) (K.taken sink.old) (K.taken sink.new)) }
+    ensures err { OnErr result (SaidPart (dump_text Two realm.now point rows.now) (K.taken sink.old) (K.taken sink.new)) }
     ensures later { K.faults sink.old ≤ K.faults sink.new }
     ensures fault { result ≡ Err DumpStop.WriteFault → Rose (K.faults sink.old) (K.faults sink.new) }
     ensures not_bad { (line : ℕ) → result ≢ Err (DumpStop.DumpBad line) }

@@ -3,7 +3,7 @@ use Rattle.std.proofs.Common.{◌≡◌, ◌≤◌, ℕ, true, List, [], ◌∷�
 use Rattle.std.specs.List.{list_all}
 use Rattle.princ_name.specs.Bytes.{can_stand, is_refused, is_sign, printed_byte}
 use Rattle.princ_name.specs.Names.{IsName, printed, printed_parts, printed_text}
-use Rattle.princ_name.specs.RealmNames.{prints_in, is_name_in}
+use Rattle.princ_name.specs.RealmLaws.{prints_in, is_name_in}
 use Rattle.princ_name.specs.Realms.{IsRealm}
 use Rattle.princ_record.specs.PrintedNames.{IsPrinted}
 use Rattle.kdb_model.specs.Refusals.{name_of_two}

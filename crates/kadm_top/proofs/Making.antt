@@ -23,9 +23,9 @@ use Rattle.kdb_store.specs.Stores.{AnswersMade, AnswersEnded, IsChosen, RefusesE
 use Rattle.kadm_top.specs.Parts.{SaidPart}
 use Rattle.std.specs.List.Sorted.{IsStrictlySortedBy}
 use Rattle.std.proofs.lemmas.List.Elements.{All-from_recursion}
-use Rattle.princ_record.specs.Entries.{IsRow}
+use Rattle.princ_record.specs.RowLimits.{IsRow}
 use Rattle.princ_record.specs.Policies.{IsPolicy}
-use Rattle.princ_record.specs.Rows.{AreRows}
+use Rattle.princ_rows.specs.Rows.{AreRows}
 use Rattle.kadm_wire.specs.Replies.{reply_text}
 use Rattle.kdb_model.specs.declared.replies.Reply.TheVariants.{Done}
 use Rattle.kadm_top.specs.Replies.{ended_text}

@@ -1,5 +1,5 @@
 -- What the words of a run ask for.
-use Rattle.std.specs.Prelude.{ℕ, List, [], ◌∷◌, Bool, true, false, codes, Option, Some, None, if◌then◌else◌}
+use Rattle.std.specs.Prelude.{ℕ, List, [], ◌∷◌, Bool, true, false, ◌||◌, codes, Option, Some, None, if◌then◌else◌}
 use Rattle.std.specs.Str.{bytes_eq}
 use Rattle.kadm_top.specs.declared.words.Words.{Words}
 use Rattle.kadm_top.specs.declared.words.Words.TheVariants.{Admin, Create, Destroy}
@@ -30,3 +30,9 @@ words_behind word words =
 unfoldable pub words_in : List (List ℕ) → Option Words
 words_in [] = None
 words_in (word ∷ words) = words_behind word words
+
+-- the only word asks what the program is
+unfoldable pub is_alone : List (List ℕ) → Bool
+is_alone [] = false
+is_alone (word ∷ []) = bytes_eq word (codes "--help") || bytes_eq word (codes "--version")
+is_alone (word ∷ _ ∷ _) = false

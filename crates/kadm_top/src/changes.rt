@@ -3,10 +3,10 @@ ghost use Rattle.kdb_base.specs.Causes.{Rose};
 ghost use Rattle.kdb_base.specs.declared.outcomes.Refusal.{Refusal as WhyNot};
 ghost use Rattle.kdb_base.specs.declared.outcomes.Halt.{Halt as Early};
 ghost use Rattle.kdb_disk.specs.Moments.{LeavesOnly};
-ghost use Rattle.princ_record.specs.Effects.{effect, IsRoom};
-ghost use Rattle.princ_record.specs.Entries.{IsOp};
-ghost use Rattle.princ_record.specs.Undoing.{IsNewName};
-ghost use Rattle.princ_record.specs.declared.entries.Op.{Op as Entry};
+ghost use Rattle.princ_rows.specs.Effects.{effect, IsRoom};
+ghost use Rattle.princ_rows.specs.Entries.{IsOp};
+ghost use Rattle.princ_rows.specs.Undoing.{IsNewName};
+ghost use Rattle.princ_rows.specs.declared.entries.Op.{Op as Entry};
 ghost use Rattle.kdb_model.specs.Changes.{IsCommand};
 ghost use Rattle.kdb_model.specs.declared.replies.Reply.{Reply as Answered};
 ghost use Rattle.kdb_store.specs.Places.{Holds, place_of};
@@ -20,7 +20,7 @@ use kdb_base::{Halt, Refusal, Stop, Time};
 use kdb_disk::Disk;
 use kdb_model::{Command, Planned, Reply, plan};
 use kdb_store::Opened;
-use princ_record::Op;
+use princ_rows::Op;
 use std::alloc::Global;
 
 /// What a command of the local administrator comes to at this moment of the clock: a refusal, an answer,

@@ -15,7 +15,7 @@ use std::alloc::Global;
 const ENDED: &[u8] = b"ok\n";
 
 /// Writes all of the bytes.
-fn write_whole<K: Sink>(sink: &mut K, bytes: &[u8]) -> Result<(), WriteFailed>
+pub(crate) fn write_whole<K: Sink>(sink: &mut K, bytes: &[u8]) -> Result<(), WriteFailed>
     ensures ok { OnOk result (K.taken sink.new ≡ after_told (K.taken sink.old) bytes.now) }
     ensures err { OnErr result (SaidPart bytes.now (K.taken sink.old) (K.taken sink.new)) }
     ensures cause { HasCause (K.faults sink.old) (K.faults sink.new) result }

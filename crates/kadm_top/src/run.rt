@@ -35,7 +35,7 @@ use kdb_model::Reply;
 use kdb_ports::{Clock, Entropy, Sink, Source};
 use kdb_store::{Opened, create_files, destroy_files, open_files};
 use princ_name::is_realm;
-use princ_record::Rows;
+use princ_rows::Rows;
 use std::alloc::Global;
 
 /// How many entries the log of a new database holds.

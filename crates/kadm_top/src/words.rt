@@ -17,7 +17,7 @@ pub enum Words {
 }
 
 // The words are text by text.
-fn is_word(word: &[u8], text: &[u8]) -> bool
+pub(crate) fn is_word(word: &[u8], text: &[u8]) -> bool
     ensures { result ≡ bytes_eq word.now text.now }
 {
     word == text

@@ -4,3 +4,5 @@ pub mod FlagLemmas
 pub mod NumberLemmas
 pub mod ReadingLemmas
 pub mod TimeLemmas
+pub mod PointLemmas
+pub mod EtypeLemmas

@@ -1,7 +1,10 @@
 -- The attribute bits of a principal, and the words of kadmin for them.
-use Rattle.std.specs.Prelude.{ℕ, Bool, true, false, not, nat_eq, List, [], ◌∷◌, codes, filter, find, Option, Some, None, if◌then◌else◌, bit_and}
+use Rattle.std.specs.Prelude.{ℕ, Bool, true, false, not, nat_eq, List, [], ◌∷◌, codes, filter, find, fold, Option, Some, None, if◌then◌else◌, bit_and, bit_or}
+use Rattle.std.specs.Int.{bit_not}
+use Rattle.std.specs.Int.Width.{w32}
 use Rattle.std.specs.Str.{bytes_eq}
 use Rattle.kadm_values.specs.declared.flags.Flag.{Flag}
+use Rattle.kadm_values.specs.declared.flags.FlagChange.{FlagChange}
 
 -- a flag: its word, its bit, and whether it is + that sets the bit and - that clears it, or the other way round
 pub record FlagRow : Type 0 where
@@ -38,17 +41,25 @@ unfoldable pub flag_named : List ℕ → Option FlagRow
 flag_named word = find (λ row. bytes_eq row.word word) flag_rows
 
 -- whether the flag is set by the sign, and its bit
-abbrev pub signed_bit : Bool → Option FlagRow → Option (Bool × ℕ)
+abbrev pub signed_bit : Bool → Option FlagRow → Option FlagChange
 signed_bit plus None = None
-signed_bit plus (Some row) = Some (if plus then row.plus_sets else not row.plus_sets, row.bit)
+signed_bit plus (Some row) = Some (record { set = if plus then row.plus_sets else not row.plus_sets; bit = row.bit })
 
--- + or - and the word of a flag: whether the bit is set, else it is cleared, and the bit
-unfoldable pub flag_change : List ℕ → Option (Bool × ℕ)
+-- + or - and the word of a flag: what they do
+unfoldable pub flag_change : List ℕ → Option FlagChange
 flag_change [] = None
 flag_change (sign ∷ word) =
     if nat_eq sign 43 then signed_bit true (flag_named word)
     else if nat_eq sign 45 then signed_bit false (flag_named word)
     else None
+
+-- a flag's bit is set or cleared; all other bits stay
+abbrev pub with_flag : ℕ → FlagChange → ℕ
+with_flag attributes change = if change.set then bit_or attributes change.bit else bit_and attributes (bit_not w32 change.bit)
+
+-- from left to right, so that the last flag on a bit counts
+unfoldable pub with_flags : ℕ → List FlagChange → ℕ
+with_flags attributes changes = fold with_flag attributes changes
 
 -- the flags whose bits stand, in their order
 unfoldable pub set_flags : ℕ → List FlagRow

@@ -1,6 +1,6 @@
 ghost use Rattle.std.specs.Prelude.{◌≡◌, map, filter, find, not, nat_eq, bit_and, IfOk, option_map};
 ghost use Rattle.std.specs.Str.{bytes_eq};
-ghost use Rattle.kadm_values.specs.Flags.{row_of, flag_rows, flag_named, flag_change, set_flags};
+ghost use Rattle.kadm_values.specs.Flags.{row_of, flag_rows, flag_named, flag_change, set_flags, with_flag, with_flags};
 
 use crate::bytes::is_same;
 use kdb_base::MemoryOut;
@@ -16,6 +16,13 @@ pub struct Flag {
     /// Whether `+` sets the bit and `-` clears it; else it is the other way round. A set bit is shown with
     /// the sign that sets it.
     pub plus_sets: bool,
+}
+
+/// What a flag does: whether it sets or clears an attribute, and the attribute's bit.
+#[derive(Clone, Copy, Debug, PartialEq, Eq)]
+pub struct FlagChange {
+    pub set: bool,
+    pub bit: u32,
 }
 
 // In the order in which they are shown.
@@ -135,19 +142,24 @@ fn find_flag(word: &[u8]) -> Option<Flag>
     find_among(known_flags(), word)
 }
 
-/// What a word of a sign and a flag does: whether it sets the flag's bit or clears it, and the bit.
-/// Nothing where it is no such word.
+/// What a word of a sign and a flag does. Nothing where it is no such word.
 #[tactic(auto, unfolding(crate::specs::Flags::flag_change))]
-pub fn read_flag(word: &[u8]) -> Option<(bool, u32)>
+pub fn read_flag(word: &[u8]) -> Option<FlagChange>
     ensures { result ≡ flag_change word.now }
 {
     match word {
         [b'+', name @ ..] => match find_flag(name) {
-            Some(flag) => Some((flag.plus_sets, flag.bit)),
+            Some(flag) => Some(FlagChange {
+                set: flag.plus_sets,
+                bit: flag.bit,
+            }),
             None => None,
         },
         [b'-', name @ ..] => match find_flag(name) {
-            Some(flag) => Some((!flag.plus_sets, flag.bit)),
+            Some(flag) => Some(FlagChange {
+                set: !flag.plus_sets,
+                bit: flag.bit,
+            }),
             None => None,
         },
         _ => None,
@@ -160,4 +172,25 @@ pub fn flags_in(alloc: Global, attributes: u32) -> Result<Vec<Flag>, MemoryOut>
 {
     let flags = set_among(alloc, known_flags(), attributes)?;
     Ok(flags)
+}
+
+fn with_flag(attributes: u32, change: FlagChange) -> u32
+    ensures { result ≡ with_flag attributes change }
+{
+    if change.set {
+        attributes | change.bit
+    } else {
+        attributes & !change.bit
+    }
+}
+
+/// The attributes behind these flags, of which the last on a bit counts.
+#[tactic(auto, unfolding(crate::specs::Flags::with_flags))]
+pub fn with_flags(attributes: u32, changes: &[FlagChange]) -> u32
+    ensures { result ≡ with_flags attributes changes.now }
+{
+    changes.iter().fold(
+        attributes,
+        |attributes, change| with_flag(attributes, *change),
+    )
 }

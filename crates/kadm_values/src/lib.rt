@@ -4,13 +4,17 @@
 
 pub mod bytes;
 pub mod durations;
+pub mod etypes;
 pub mod flags;
 pub mod numbers;
+pub mod points;
 #[cfg(test)]
 mod tests;
 pub mod times;
 
 pub use durations::{Unit, read_duration};
-pub use flags::{Flag, flags_in, read_flag};
+pub use etypes::{EtypeWord, read_etype, read_etypes};
+pub use flags::{Flag, FlagChange, flags_in, read_flag, with_flags};
 pub use numbers::read_number;
+pub use points::push_point;
 pub use times::{print_time, read_time};

@@ -1,4 +1,8 @@
-use crate::{flags_in, print_time, read_duration, read_flag, read_number, read_time};
+use crate::{
+    FlagChange, flags_in, print_time, push_point, read_duration, read_etype, read_etypes,
+    read_flag, read_number, read_time, with_flags,
+};
+use kdb_base::{Etype, Point, Time};
 use std::test::Fail;
 
 // Dates of the Gregorian calendar with the seconds that `date -u` of GNU coreutils gives for them.
@@ -62,12 +66,16 @@ fn numbers_and_durations(rt: HostRuntime) -> Result<(), Fail> {
     Ok(())
 }
 
+fn change(set: bool, bit: u32) -> Option<FlagChange> {
+    Some(FlagChange { set, bit })
+}
+
 #[test]
 fn flags(rt: HostRuntime) -> Result<(), Fail> {
-    assert_eq!(rt; read_flag(b"+requires_preauth"), Some((true, 0x80)));
-    assert_eq!(rt; read_flag(b"-requires_preauth"), Some((false, 0x80)));
-    assert_eq!(rt; read_flag(b"-allow_tix"), Some((true, 0x40)));
-    assert_eq!(rt; read_flag(b"+allow_tix"), Some((false, 0x40)));
+    assert_eq!(rt; read_flag(b"+requires_preauth"), change(true, 0x80));
+    assert_eq!(rt; read_flag(b"-requires_preauth"), change(false, 0x80));
+    assert_eq!(rt; read_flag(b"-allow_tix"), change(true, 0x40));
+    assert_eq!(rt; read_flag(b"+allow_tix"), change(false, 0x40));
     assert_eq!(rt; read_flag(b"+allow"), None);
     assert_eq!(rt; read_flag(b""), None);
     let set = flags_in(rt.alloc(), 0x2280).expect(&rt, "memory");
@@ -75,5 +83,75 @@ fn flags(rt: HostRuntime) -> Result<(), Fail> {
     assert_eq!(rt; set[0].word, b"requires_preauth".as_slice());
     assert_eq!(rt; set[1].bit, 0x200);
     assert!(rt; set[2].plus_sets);
+    let changes = [
+        FlagChange {
+            set: true,
+            bit: 0x80,
+        },
+        FlagChange {
+            set: false,
+            bit: 0x40,
+        },
+        FlagChange {
+            set: false,
+            bit: 0x80,
+        },
+    ];
+    assert_eq!(rt; with_flags(0x2c0, &changes), 0x200);
+    Ok(())
+}
+
+// Words, and texts near them that are none.
+const WORDS: [(&str, Option<Etype>); 8] = [
+    ("aes256-cts-hmac-sha1-96", Some(Etype::Aes256)),
+    ("aes128-cts", Some(Etype::Aes128)),
+    ("aes256-sha2", Some(Etype::Aes256Sha2)),
+    ("aes128-cts-hmac-sha256-128", Some(Etype::Aes128Sha2)),
+    ("aes256-cts-hmac-sha384-19", None),
+    ("AES256-CTS", None),
+    ("aes256-cts:normal", None),
+    ("", None),
+];
+
+// Lists, with how many types they have and the first one, and texts near them that are none.
+const LISTS: [(&str, Option<(usize, Etype)>); 9] = [
+    ("aes256-cts,aes128-cts", Some((2, Etype::Aes256))),
+    (
+        "aes128-sha2:normal,aes256-sha1",
+        Some((2, Etype::Aes128Sha2)),
+    ),
+    ("aes256-sha2", Some((1, Etype::Aes256Sha2))),
+    ("aes256-cts,aes256-sha1", None),
+    ("aes256-cts,", None),
+    ("", None),
+    ("aes256-cts:special", None),
+    ("aes256-cts:normal:normal", None),
+    ("aes256-cts, aes128-cts", None),
+];
+
+#[test]
+fn encryption_types(rt: HostRuntime) -> Result<(), Fail> {
+    for (word, etype) in WORDS {
+        assert_eq!(rt; read_etype(word.as_bytes()), etype, "{word}");
+    }
+    for (text, told) in LISTS {
+        let found = read_etypes(rt.alloc(), text.as_bytes()).expect(&rt, "memory");
+        match found {
+            Some(etypes) => assert_eq!(rt; Some((etypes.len(), etypes[0])), told, "{text}"),
+            None => assert_eq!(rt; None, told, "{text}"),
+        }
+    }
+    Ok(())
+}
+
+#[test]
+fn points(rt: HostRuntime) -> Result<(), Fail> {
+    let mut text = Vec::new(rt.alloc());
+    let point = Point {
+        sno: 7,
+        time: Time::new(1_700_000_000, 42),
+    };
+    push_point(rt.alloc(), &mut text, &point).expect(&rt, "memory");
+    assert_eq!(rt; text.as_slice(), b"7 1700000000.000042".as_slice());
     Ok(())
 }

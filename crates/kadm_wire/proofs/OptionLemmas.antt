@@ -3,6 +3,7 @@ use Rattle.std.proofs.Common.{◌≡◌, ℕ, Bool, true, false, List, map, Opti
 use Rattle.std.specs.List.{list_all}
 use Rattle.std.specs.Str.{bytes_eq}
 use Rattle.kadm_values.specs.Flags.{flag_change}
+use Rattle.kadm_values.specs.declared.flags.FlagChange.{FlagChange}
 use Rattle.kadm_wire.specs.Arguments.{VerbRow, verb_row, verb_rows, verb_named, opening_among, single_openings, opening_named, or_flag, flag_opening, takes, taken, option_named, opens_with, are_single}
 use Rattle.kadm_wire.specs.declared.verbs.Verb.{Verb}
 use Rattle.kadm_wire.specs.declared.verbs.VerbWord.{VerbWord}
@@ -28,7 +29,7 @@ unfolding opening_named
 opening_found r table word is found =
     ap (λ (o : Option Opening). or_flag o word) (found ∙ ap (λ (openings : List Opening). opening_among openings word) is)
 
-pub flag_found : (change : Option (Bool × ℕ)) (table : List Opening) (word : List ℕ) → table ≡ single_openings → None ≡ opening_among table word
+pub flag_found : (change : Option FlagChange) (table : List Opening) (word : List ℕ) → table ≡ single_openings → None ≡ opening_among table word
     → change ≡ flag_change word → flag_opening change ≡ opening_named word
 flag_found change table word is found flag = ap flag_opening flag ∙ opening_found None table word is found
 

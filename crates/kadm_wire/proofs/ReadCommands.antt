@@ -7,6 +7,7 @@ use Rattle.std.proofs.lemmas.List.Sums.{AllPass-from_list_all}
 use Rattle.std.proofs.lemmas.Option.{cond_some}
 use Rattle.kadm_wire.specs.Arguments.{Shape, opening_among, opening_word, single_openings, or_flag, flag_opening, opening_named, takes, taken, option_named, SpellsOptions}
 use Rattle.kadm_values.specs.Durations.{SpellsDuration}
+use Rattle.kadm_values.specs.declared.flags.FlagChange.{FlagChange as FlagRead}
 use Rattle.kadm_values.specs.Flags.{FlagRow, flag_rows, flag_named, signed_bit, flag_change}
 use Rattle.kadm_wire.specs.Lines.{IsOn, SpellsCommand, Gives, IsReading}
 use Rattle.kadm_values.specs.Times.{SpellsTime}
@@ -68,19 +69,19 @@ row_known : (word : List ℕ) (row : FlagRow) → flag_named word ≡ Some row �
 unfolding flag_named flag_rows are_attributes
 row_known word row e = found_passes (λ r. bytes_eq r.word word) (λ r. are_attributes r.bit) flag_rows row e refl
 
-signed_known : (plus : Bool) (word : List ℕ) (r : Option FlagRow) (change : Bool × ℕ) → flag_named word ≡ r → signed_bit plus r ≡ Some change → are_attributes change.1 ≡ true
+signed_known : (plus : Bool) (word : List ℕ) (r : Option FlagRow) (change : FlagRead) → flag_named word ≡ r → signed_bit plus r ≡ Some change → are_attributes change.bit ≡ true
 signed_known plus word None change named e = cc
 signed_known plus word (Some row) change named e =
-    let bit : row.bit ≡ change.1 = cc in
+    let bit : row.bit ≡ change.bit = cc in
     subst (λ (n : ℕ). are_attributes n ≡ true) bit (row_known word row named)
 
-sign_known : (plus minus : Bool) (word : List ℕ) (change : Bool × ℕ)
-    → cond plus (signed_bit true (flag_named word)) (cond minus (signed_bit false (flag_named word)) None) ≡ Some change → are_attributes change.1 ≡ true
+sign_known : (plus minus : Bool) (word : List ℕ) (change : FlagRead)
+    → cond plus (signed_bit true (flag_named word)) (cond minus (signed_bit false (flag_named word)) None) ≡ Some change → are_attributes change.bit ≡ true
 sign_known true minus word change e = signed_known true word (flag_named word) change refl e
 sign_known false true word change e = signed_known false word (flag_named word) change refl e
 sign_known false false word change e = cc
 
-change_known : (word : List ℕ) (change : Bool × ℕ) → flag_change word ≡ Some change → are_attributes change.1 ≡ true
+change_known : (word : List ℕ) (change : FlagRead) → flag_change word ≡ Some change → are_attributes change.bit ≡ true
 unfolding flag_change
 change_known [] change e = cc
 change_known (sign ∷ word) change e = sign_known (nat_eq sign 43) (nat_eq sign 45) word change e
@@ -96,10 +97,10 @@ unfolding single_openings is_no_flag
 single_no_flag word change e =
     let not = found_passes (λ o. bytes_eq (opening_word o) word) is_no_flag single_openings (opening.Flag change) e refl in cc
 
-flag_known : (word : List ℕ) (r : Option (Bool × ℕ)) (change : FlagChange) → flag_change word ≡ r → flag_opening r ≡ Some (opening.Flag change) → are_attributes change.bit ≡ true
+flag_known : (word : List ℕ) (r : Option FlagRead) (change : FlagChange) → flag_change word ≡ r → flag_opening r ≡ Some (opening.Flag change) → are_attributes change.bit ≡ true
 flag_known word None change is e = cc
 flag_known word (Some found) change is e =
-    let same : record { set = found.0; bit = found.1 } ≡ change = cc in
+    let same : record { set = found.set; bit = found.bit } ≡ change = cc in
     subst (λ (c : FlagChange). are_attributes c.bit ≡ true) same (change_known word found is)
 
 named_known : (word : List ℕ) (r : Option Opening) (change : FlagChange) → opening_among single_openings word ≡ r → or_flag r word ≡ Some (opening.Flag change)

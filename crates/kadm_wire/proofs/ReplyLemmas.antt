@@ -1,17 +1,10 @@
 -- Texts that are written piece by piece.
-use Rattle.std.proofs.Common.{◌≡◌, ℕ, ◌-◌, ◌^◌, false, List, [], ◌∷◌, ◌++◌, codes, length, map, refl, sym, ap, ◌∙◌, append_assoc, append-nil, arith}
-use Rattle.std.specs.Fmt.{decimal, padded_integral, char_count, format_spec}
+use Rattle.std.proofs.Common.{◌≡◌, ℕ, List, [], ◌∷◌, ◌++◌, codes, length, map, refl, sym, ap, ◌∙◌, append_assoc, arith}
 use Rattle.std.specs.List.{flat_map}
-use Rattle.std.proofs.Math.Nat.{sub-zero}
 use Rattle.std.proofs.lemmas.List.Folds.{flat_map-map}
 use Rattle.kadm_values.specs.Flags.{row_of}
-use Rattle.kadm_wire.specs.Replies.{six_digits, flag_text, flag_texts}
+use Rattle.kadm_wire.specs.Replies.{flag_text, flag_texts}
 use Rattle.kadm_values.specs.declared.flags.Flag.{Flag}
-
--- six digits are written with zeros in front
-pub padded_six : (n : ℕ) → padded_integral (format_spec 32 0 4 6 (2 ^ 64 - 1)) false [] (decimal n) ≡ six_digits n
-unfolding padded_integral char_count
-padded_six n = simp (append-nil, sub-zero) refl
 
 -- ---- pieces one behind the other
 

@@ -3,6 +3,7 @@ use Rattle.std.specs.Prelude.{ℕ, ◌≡◌, ◌⊎◌, Bool, true, false, not,
 use Rattle.std.specs.List.{list_all, list_any}
 use Rattle.std.specs.Str.{bytes_eq}
 use Rattle.kadm_values.specs.Flags.{flag_change}
+use Rattle.kadm_values.specs.declared.flags.FlagChange.{FlagChange}
 use Rattle.kadm_wire.specs.declared.verbs.Verb.{Verb}
 use Rattle.kadm_wire.specs.declared.verbs.Verb.TheVariants.{AddPrinc, ModPrinc, DelPrinc, GetPrinc, ListPrincs}
 use Rattle.kadm_wire.specs.declared.verbs.VerbWord.{VerbWord}
@@ -69,9 +70,9 @@ single_openings =
 abbrev pub opening_among : List Opening → List ℕ → Option Opening
 opening_among openings word = find (λ o. bytes_eq (opening_word o) word) openings
 
-abbrev pub flag_opening : Option (Bool × ℕ) → Option Opening
+abbrev pub flag_opening : Option FlagChange → Option Opening
 flag_opening None = None
-flag_opening (Some change) = Some (opening.Flag (record { set = change.0; bit = change.1 }))
+flag_opening (Some change) = Some (opening.Flag (record { set = change.set; bit = change.bit }))
 
 abbrev pub or_flag : Option Opening → List ℕ → Option Opening
 or_flag None word = flag_opening (flag_change word)

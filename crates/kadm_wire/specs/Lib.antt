@@ -3,6 +3,7 @@ pub mod Judged
 pub mod LineReadings
 pub mod Lines
 pub mod Reads
+pub mod Refusals
 pub mod Replies
 pub mod Split
 pub mod Splitting

@@ -2,49 +2,22 @@
 use Rattle.std.specs.Prelude.{ℕ, ◌-◌, ◌==◌, List, [], ◌∷◌, ◌++◌, codes, length, replicate, Option, Some, None, unwrap_or, if◌then◌else◌}
 use Rattle.std.specs.Fmt.{decimal}
 use Rattle.std.specs.List.{flat_map}
-use Rattle.kadm_values.specs.Calendar.{civil_text_at}
+use Rattle.kadm_values.specs.Points.{point_text}
 use Rattle.kadm_values.specs.Flags.{FlagRow, set_flags}
-use Rattle.kdb_base.specs.Outcomes.{field_word}
 use Rattle.kdb_base.specs.declared.keys.Etype.{Etype}
-use Rattle.kdb_base.specs.declared.keys.Etype.TheVariants.{Aes128, Aes256}
+use Rattle.kdb_base.specs.declared.keys.Etype.TheVariants.{Aes128, Aes256, Aes128Sha2, Aes256Sha2}
 use Rattle.kdb_base.specs.declared.keys.Salt.{Salt}
 use Rattle.kdb_base.specs.declared.keys.Salt.TheVariants.{Normal, Special}
 use Rattle.kdb_base.specs.declared.moments.Point.{Point}
-use Rattle.kdb_base.specs.declared.outcomes.Refusal.{Refusal}
-use Rattle.kdb_base.specs.declared.outcomes.Refusal.TheVariants.{BadLine, BadName, Duplicate, UnknownPrincipal, Protected, PassTooShort, PassClasses, BadValue, NotADatabase, AlreadyThere, Damaged, TimeEnd, LineTooLong, RowsFull, RecordTooLarge}
+use Rattle.kadm_wire.specs.Refusals.{line_feed, refusal_text, time_text}
 use Rattle.kdb_model.specs.declared.replies.Reply.{Reply}
 use Rattle.kdb_model.specs.declared.replies.Reply.TheVariants.{Done, Shown, Listed, Refused}
 use Rattle.princ_record.specs.declared.keys.KeyItem.{KeyItem}
 use Rattle.princ_record.specs.declared.princs.Princ.{Princ}
 
-abbrev pub line_feed : List ℕ
-line_feed = codes "\n"
-
--- six digits
-abbrev pub six_digits : ℕ → List ℕ
-six_digits n = replicate (6 - length (decimal n)) 48 ++ decimal n
-
--- a serial, and the time with six digits of microseconds
+-- a point
 unfoldable pub done_text : Point → List ℕ
-done_text point = codes "ok " ++ decimal point.sno ++ codes " " ++ decimal point.time.secs ++ codes "." ++ six_digits point.time.usecs ++ line_feed
-
--- a number, the name, and what is told of the cause
-unfoldable pub refusal_text : Refusal → List ℕ
-refusal_text BadLine = codes "err 1 BadLine\n"
-refusal_text (BadName offset) = codes "err 2 BadName " ++ decimal offset ++ line_feed
-refusal_text Duplicate = codes "err 3 Duplicate\n"
-refusal_text UnknownPrincipal = codes "err 4 UnknownPrincipal\n"
-refusal_text Protected = codes "err 8 Protected\n"
-refusal_text PassTooShort = codes "err 9 PassTooShort\n"
-refusal_text PassClasses = codes "err 10 PassClasses\n"
-refusal_text (BadValue field) = codes "err 13 BadValue " ++ field_word field ++ line_feed
-refusal_text (RecordTooLarge size) = codes "err 14 RecordTooLarge " ++ decimal size ++ line_feed
-refusal_text NotADatabase = codes "err 20 NotADatabase\n"
-refusal_text AlreadyThere = codes "err 21 AlreadyThere\n"
-refusal_text (Damaged file place) = codes "err 22 Damaged " ++ (decimal file ++ (codes " " ++ (decimal place ++ line_feed)))
-refusal_text TimeEnd = codes "err 23 TimeEnd\n"
-refusal_text LineTooLong = codes "err 27 LineTooLong\n"
-refusal_text (RowsFull limit) = codes "err 29 RowsFull " ++ decimal limit ++ line_feed
+done_text point = codes "ok " ++ (point_text point ++ line_feed)
 
 -- ---- lines of data
 
@@ -56,10 +29,6 @@ field_line word text = data_line (word ++ codes " " ++ text)
 
 unfoldable pub names_text : List (List ℕ) → List ℕ
 names_text names = flat_map data_line names
-
--- 0 is never
-unfoldable pub time_text : ℕ → List ℕ
-time_text secs = if secs == 0 then codes "never" else civil_text_at secs
 
 -- the sign that sets the flag, and its word
 unfoldable pub flag_text : FlagRow → List ℕ
@@ -94,6 +63,8 @@ rest_text p =
 unfoldable pub etype_text : Etype → List ℕ
 etype_text Aes128 = codes "aes128-cts-hmac-sha1-96"
 etype_text Aes256 = codes "aes256-cts-hmac-sha1-96"
+etype_text Aes128Sha2 = codes "aes128-cts-hmac-sha256-128"
+etype_text Aes256Sha2 = codes "aes256-cts-hmac-sha384-192"
 
 unfoldable pub salt_text : Salt → List ℕ
 salt_text Normal = codes "normal"

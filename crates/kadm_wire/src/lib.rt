@@ -5,6 +5,7 @@ mod arguments;
 pub mod laws;
 pub mod lines;
 pub mod options;
+pub mod refusals;
 pub mod replies;
 #[cfg(test)]
 mod tests;
@@ -13,4 +14,5 @@ pub mod verbs;
 mod words;
 
 pub use lines::{Reading, parse_line, read_line};
-pub use replies::{print_refusal, print_reply};
+pub use refusals::print_refusal;
+pub use replies::print_reply;

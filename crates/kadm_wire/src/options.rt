@@ -107,7 +107,10 @@ fn find_opening(word: &[u8]) -> Option<Opening>
     match find_among(known_openings(), word) {
         Some(opening) => Some(opening),
         None => match read_flag(word) {
-            Some((set, bit)) => Some(Opening::Flag(FlagChange { set, bit })),
+            Some(change) => Some(Opening::Flag(FlagChange {
+                set: change.set,
+                bit: change.bit,
+            })),
             None => None,
         },
     }

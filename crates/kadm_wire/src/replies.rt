@@ -1,24 +1,19 @@
 //! The texts of replies.
 
-ghost use Rattle.std.specs.Prelude.{List, ℕ, ◌≡◌, ◌++◌, ◌∷◌, [], codes, IfOk, OnOk, map, string_bytes};
+ghost use Rattle.std.specs.Prelude.{List, ℕ, ◌≡◌, ◌++◌, ◌∷◌, [], codes, IfOk, OnOk, map};
 ghost use Rattle.std.specs.Fmt.{decimal};
 ghost use Rattle.std.specs.List.{flat_map};
 ghost use Rattle.kadm_values.specs.Flags.{row_of, set_flags};
-ghost use Rattle.kadm_wire.specs.Replies.{data_line, done_text, etype_text, field_line, flag_text, flag_texts, key_line, keys_text, lives_text, names_text, policy_text, refusal_text, reply_text, rest_text, salt_text, shown_text, six_digits, time_text, times_text};
+ghost use Rattle.kadm_wire.specs.Refusals.{time_text};
+ghost use Rattle.kadm_wire.specs.Replies.{data_line, done_text, etype_text, field_line, flag_text, flag_texts, key_line, keys_text, lives_text, names_text, policy_text, reply_text, rest_text, salt_text, shown_text, times_text};
 
+use crate::refusals::{print_refusal, push, time_text};
 use kadm_values::flags::{Flag, flags_in};
-use kadm_values::times::print_time;
-use kdb_base::{Blob, Etype, Field, MemoryOut, Point, Refusal, Salt};
+use kadm_values::points::push_point;
+use kdb_base::{Blob, Etype, MemoryOut, Point, Salt};
 use kdb_model::Reply;
 use princ_record::{KeyItem, Princ};
 use std::alloc::Global;
-
-fn push(out: &mut Vec<u8>, text: &[u8]) -> Result<(), MemoryOut>
-    ensures { OnOk result (out.new.items ≡ out.old.items ++ text.now) }
-{
-    out.extend_from_slice(text)?;
-    Ok(())
-}
 
 // A line of data.
 #[tactic(auto, unfolding(crate::specs::Replies::data_line))]
@@ -50,18 +45,6 @@ fn push_number(alloc: Global, out: &mut Vec<u8>, word: &[u8], number: u32) -> Re
     let text = format!(in alloc; "{number}")?;
     push_field(out, word, text.as_bytes())?;
     Ok(())
-}
-
-// The text of a time.
-#[tactic(auto, unfolding(crate::specs::Replies::time_text))]
-fn time_text(alloc: Global, secs: u32) -> Result<Blob, MemoryOut>
-    ensures { IfOk result (λ text. text ≡ time_text secs) }
-{
-    if secs == 0 {
-        return Blob::from_bytes(alloc, b"never");
-    }
-    let text = print_time(secs);
-    Blob::from_bytes(alloc, text.as_slice())
 }
 
 fn push_time(alloc: Global, out: &mut Vec<u8>, word: &[u8], secs: u32) -> Result<(), MemoryOut>
@@ -183,6 +166,8 @@ fn etype_text(etype: Etype) -> &'static str
     match etype {
         Etype::Aes128 => "aes128-cts-hmac-sha1-96",
         Etype::Aes256 => "aes256-cts-hmac-sha1-96",
+        Etype::Aes128Sha2 => "aes128-cts-hmac-sha256-128",
+        Etype::Aes256Sha2 => "aes256-cts-hmac-sha384-192",
     }
 }
 
@@ -261,69 +246,15 @@ fn print_listed(alloc: Global, names: &[Blob]) -> Result<Blob, MemoryOut>
     Ok(Blob::from_vec(out))
 }
 
-// Six digits.
-fn print_micros(alloc: Global, usecs: u32) -> Result<String, MemoryOut>
-    ensures { IfOk result (λ text. string_bytes text ≡ six_digits usecs) }
-{
-    Ok(format!(in alloc; "{usecs:06}")?)
-}
-
 #[tactic(auto, unfolding(crate::specs::Replies::done_text))]
-fn print_done(alloc: Global, point: &Point) -> Result<String, MemoryOut>
-    ensures { IfOk result (λ text. string_bytes text ≡ done_text point.now) }
+fn print_done(alloc: Global, point: &Point) -> Result<Blob, MemoryOut>
+    ensures { IfOk result (λ text. text ≡ done_text point.now) }
 {
-    let sno = point.sno;
-    let secs = point.time.secs();
-    let micros = print_micros(alloc, point.time.usecs())?;
-    let micros = micros.as_str();
-    Ok(format!(in alloc; "ok {sno} {secs}.{micros}\n")?)
-}
-
-/// The text of a refusal, with the line feed that ends it.
-#[tactic(auto, unfolding(crate::specs::Replies::refusal_text))]
-pub fn print_refusal(alloc: Global, refusal: &Refusal) -> Result<String, MemoryOut>
-    ensures { IfOk result (λ text. string_bytes text ≡ refusal_text refusal.now) }
-{
-    match refusal {
-        Refusal::BadLine => Ok(String::from_str(alloc, "err 1 BadLine\n")?),
-        Refusal::BadName { offset } => Ok(format!(in alloc; "err 2 BadName {offset}\n")?),
-        Refusal::Duplicate => Ok(String::from_str(alloc, "err 3 Duplicate\n")?),
-        Refusal::UnknownPrincipal => Ok(String::from_str(alloc, "err 4 UnknownPrincipal\n")?),
-        Refusal::Protected => Ok(String::from_str(alloc, "err 8 Protected\n")?),
-        Refusal::PassTooShort => Ok(String::from_str(alloc, "err 9 PassTooShort\n")?),
-        Refusal::PassClasses => Ok(String::from_str(alloc, "err 10 PassClasses\n")?),
-        Refusal::BadValue { field } => print_bad_value(alloc, *field),
-        Refusal::RecordTooLarge { size } => {
-            Ok(format!(in alloc; "err 14 RecordTooLarge {size}\n")?)
-        }
-        Refusal::NotADatabase => Ok(String::from_str(alloc, "err 20 NotADatabase\n")?),
-        Refusal::AlreadyThere => Ok(String::from_str(alloc, "err 21 AlreadyThere\n")?),
-        Refusal::Damaged { file, place } => print_damaged(alloc, *file, *place),
-        Refusal::TimeEnd => Ok(String::from_str(alloc, "err 23 TimeEnd\n")?),
-        Refusal::LineTooLong => Ok(String::from_str(alloc, "err 27 LineTooLong\n")?),
-        Refusal::RowsFull { limit } => Ok(format!(in alloc; "err 29 RowsFull {limit}\n")?),
-    }
-}
-
-#[tactic(auto, unfolding(crate::specs::Replies::refusal_text))]
-fn print_bad_value(alloc: Global, field: Field) -> Result<String, MemoryOut>
-    ensures { IfOk result (λ text. string_bytes text ≡ refusal_text (Refusal.BadValue field)) }
-{
-    let word = field.word();
-    Ok(format!(in alloc; "err 13 BadValue {word}\n")?)
-}
-
-#[tactic(auto, unfolding(crate::specs::Replies::refusal_text))]
-fn print_damaged(alloc: Global, file: u8, place: u64) -> Result<String, MemoryOut>
-    ensures { IfOk result (λ text. string_bytes text ≡ refusal_text (Refusal.Damaged file place)) }
-{
-    Ok(format!(in alloc; "err 22 Damaged {file} {place}\n")?)
-}
-
-fn blob_of(text: String) -> Blob
-    ensures { result ≡ string_bytes text }
-{
-    Blob::from_vec(text.into_bytes())
+    let mut out = Vec::new(alloc);
+    push(&mut out, b"ok ")?;
+    push_point(alloc, &mut out, point)?;
+    push(&mut out, b"\n")?;
+    Ok(Blob::from_vec(out))
 }
 
 /// The text of a reply, whose last line says `ok` or `err`. Times are civil ones, and `never` stands for 0.
@@ -333,15 +264,9 @@ pub fn print_reply(alloc: Global, reply: &Reply) -> Result<Blob, MemoryOut>
     ensures { IfOk result (λ text. text ≡ reply_text reply.now) }
 {
     match reply {
-        Reply::Done(point) => {
-            let text = print_done(alloc, point)?;
-            Ok(blob_of(text))
-        }
+        Reply::Done(point) => print_done(alloc, point),
         Reply::Shown(princ) => print_shown(alloc, princ),
         Reply::Listed(names) => print_listed(alloc, names.as_slice()),
-        Reply::Refused(refusal) => {
-            let text = print_refusal(alloc, refusal)?;
-            Ok(blob_of(text))
-        }
+        Reply::Refused(refusal) => print_refusal(alloc, refusal),
     }
 }

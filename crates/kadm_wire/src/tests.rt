@@ -7,6 +7,7 @@ use princ_name::{Name, print_name};
 use princ_record::{KeyItem, Keys, OldSets, Princ};
 use std::alloc::Global;
 use std::test::Fail;
+use tagged_data::string_attributes::StringAttributes;
 
 // The name of a value, and the value.
 fn put_value(
@@ -71,7 +72,10 @@ fn told(alloc: Global, line: &[u8]) -> Result<Blob, MemoryOut> {
         Ok(Some(command)) => told_command(alloc, &command),
         Err(Stop::Refused(refusal)) => {
             let text = print_refusal(alloc, &refusal)?;
-            Blob::from_bytes(alloc, text.trim_end().as_bytes())
+            match text.as_slice().strip_suffix(b"\n") {
+                Some(text) => Blob::from_bytes(alloc, text),
+                None => Blob::from_bytes(alloc, b"no line feed"),
+            }
         }
         Err(Stop::Halt(_)) => Err(MemoryOut),
     }
@@ -174,6 +178,7 @@ fn bob(alloc: Global) -> Result<Princ, MemoryOut> {
         policy: None,
         old: OldSets::from_vec(Vec::new(alloc)),
         chain: None,
+        strings: StringAttributes::new(alloc),
     })
 }
 
@@ -245,14 +250,26 @@ const CAROL: &str = "- principal carol@R.ORG
 ok
 ";
 
-const REFUSALS: [(Refusal, &str); 15] = [
+const REFUSALS: [(Refusal, &str); 35] = [
     (Refusal::BadLine, "err 1 BadLine\n"),
     (Refusal::BadName { offset: 7 }, "err 2 BadName 7\n"),
     (Refusal::Duplicate, "err 3 Duplicate\n"),
     (Refusal::UnknownPrincipal, "err 4 UnknownPrincipal\n"),
+    (Refusal::UnknownPolicy, "err 5 UnknownPolicy\n"),
+    (Refusal::PolicyInUse { count: 3 }, "err 6 PolicyInUse 3\n"),
+    (Refusal::Denied { line: 0 }, "err 7 Denied 0\n"),
     (Refusal::Protected, "err 8 Protected\n"),
     (Refusal::PassTooShort, "err 9 PassTooShort\n"),
     (Refusal::PassClasses, "err 10 PassClasses\n"),
+    (Refusal::PassReused, "err 11 PassReused\n"),
+    (
+        Refusal::PassTooSoon { until: 951_827_445 },
+        "err 12 PassTooSoon 2000-02-29T12:30:45Z\n",
+    ),
+    (
+        Refusal::PassTooSoon { until: 0 },
+        "err 12 PassTooSoon never\n",
+    ),
     (
         Refusal::BadValue {
             field: Field::MaxRenewLife,
@@ -265,6 +282,17 @@ const REFUSALS: [(Refusal, &str); 15] = [
         },
         "err 14 RecordTooLarge 4294967296\n",
     ),
+    (
+        Refusal::TooManyMasters { limit: 4 },
+        "err 15 TooManyMasters 4\n",
+    ),
+    (
+        Refusal::UnknownMaster { version: 9 },
+        "err 16 UnknownMaster 9\n",
+    ),
+    (Refusal::NoActiveMaster, "err 17 NoActiveMaster\n"),
+    (Refusal::StashMissing, "err 18 StashMissing\n"),
+    (Refusal::StashWrong, "err 19 StashWrong\n"),
     (Refusal::NotADatabase, "err 20 NotADatabase\n"),
     (Refusal::AlreadyThere, "err 21 AlreadyThere\n"),
     (
@@ -272,11 +300,23 @@ const REFUSALS: [(Refusal, &str); 15] = [
         "err 22 Damaged 2 40\n",
     ),
     (Refusal::TimeEnd, "err 23 TimeEnd\n"),
+    (Refusal::DumpBad { line: 5 }, "err 24 DumpBad 5\n"),
+    (Refusal::Busy, "err 25 Busy\n"),
+    (Refusal::Closed, "err 26 Closed\n"),
     (Refusal::LineTooLong, "err 27 LineTooLong\n"),
+    (Refusal::KeysFull, "err 28 KeysFull\n"),
     (
         Refusal::RowsFull { limit: 100_000 },
         "err 29 RowsFull 100000\n",
     ),
+    (
+        Refusal::StringsFull { limit: 16 },
+        "err 30 StringsFull 16\n",
+    ),
+    (Refusal::UnknownString, "err 31 UnknownString\n"),
+    (Refusal::LockedDown, "err 32 LockedDown\n"),
+    (Refusal::BadKeytab { place: 14 }, "err 33 BadKeytab 14\n"),
+    (Refusal::UnknownEntry, "err 34 UnknownEntry\n"),
 ];
 
 #[test]

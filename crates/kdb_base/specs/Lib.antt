@@ -3,6 +3,8 @@ pub mod Moments
 pub mod Causes
 pub mod Outcomes
 pub mod Etypes
+pub mod EtypeLaws
 pub mod Key
+pub mod Limits
 pub mod KeyBytes
 pub mod Versions

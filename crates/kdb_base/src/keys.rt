@@ -1,16 +1,20 @@
 ghost use Rattle.std.specs.Prelude.{◌≡◌, length};
-ghost use Rattle.kdb_base.specs.Etypes.{key_len, number_of, etype_of};
+ghost use Rattle.kdb_base.specs.Etypes.{key_len, tag_len, product_rounds, number_of, etype_of};
 
 use crate::blobs::Blob;
 use std::marker::Model;
 
-/// An encryption type (RFC 3962, section 7).
+/// An encryption type (RFC 3962, section 7; RFC 8009, section 7).
 #[derive(Clone, Copy, Debug, PartialEq, Eq)]
 pub enum Etype {
     /// aes128-cts-hmac-sha1-96, number 17.
     Aes128,
     /// aes256-cts-hmac-sha1-96, number 18.
     Aes256,
+    /// aes128-cts-hmac-sha256-128, number 19.
+    Aes128Sha2,
+    /// aes256-cts-hmac-sha384-192, number 20.
+    Aes256Sha2,
 }
 
 impl Etype {
@@ -21,6 +25,8 @@ impl Etype {
         match self {
             Etype::Aes128 => 17,
             Etype::Aes256 => 18,
+            Etype::Aes128Sha2 => 19,
+            Etype::Aes256Sha2 => 20,
         }
     }
 
@@ -31,6 +37,8 @@ impl Etype {
         match number {
             17 => Some(Etype::Aes128),
             18 => Some(Etype::Aes256),
+            19 => Some(Etype::Aes128Sha2),
+            20 => Some(Etype::Aes256Sha2),
             _ => None,
         }
     }
@@ -40,14 +48,37 @@ impl Etype {
         ensures { result ≡ key_len self }
     {
         match self {
-            Etype::Aes128 => 16,
-            Etype::Aes256 => 32,
+            Etype::Aes128 | Etype::Aes128Sha2 => 16,
+            Etype::Aes256 | Etype::Aes256Sha2 => 32,
+        }
+    }
+
+    /// The bytes of the tag behind what is sealed under a key of this type: 96 bits (RFC 3962, section 6),
+    /// and 128 or 192 bits (RFC 8009, section 5).
+    pub fn tag_len(self) -> usize
+        ensures { result ≡ tag_len self }
+    {
+        match self {
+            Etype::Aes128 | Etype::Aes256 => 12,
+            Etype::Aes128Sha2 => 16,
+            Etype::Aes256Sha2 => 24,
+        }
+    }
+
+    /// The rounds of PBKDF2 in which the product makes a password's key: the defaults of RFC 3962,
+    /// section 4, and of RFC 8009, section 4.
+    pub fn product_rounds(self) -> u32
+        ensures { result ≡ product_rounds self }
+    {
+        match self {
+            Etype::Aes128 | Etype::Aes256 => 4096,
+            Etype::Aes128Sha2 | Etype::Aes256Sha2 => 32768,
         }
     }
 }
 
 /// What is mixed into a password before a key is made of it.
-#[derive(Debug, Drop)]
+#[derive(Debug, Drop, PartialEq, Eq)]
 pub enum Salt {
     /// The realm and the components of the principal's own name.
     Normal,

@@ -1,6 +1,8 @@
 //! What is kept by the version of a master key: when it becomes active, the key itself, and the
 //! auxiliary keys.
 ghost use Rattle.std.specs.Prelude.{◌≡◌, [], map};
+ghost use Rattle.std.proofs.Common.{rules};
+ghost use Rattle.std.specs.Cmp.Rules.{comparing};
 ghost use Rattle.kdb_base.specs.Versions.{AreRising};
 
 use crate::blobs::Blob;
@@ -68,8 +70,26 @@ impl Activations {
     }
 }
 
+impl PartialEq for Activations {
+    ghost use Rattle.std.specs.Cmp.Lexicographic.{pointwise, lists_per};
+
+    ghost eq = { pointwise ⟦<Activation as PartialEq>⟧.eq };
+
+    ghost laws = { lists_per (Prim.search (comparing, rules)) };
+
+    fn eq(&self, other: &Activations) -> bool {
+        self.as_slice() == other.as_slice()
+    }
+}
+
+impl Eq for Activations {
+    ghost use Rattle.std.specs.Cmp.Lexicographic.{lists_equiv};
+
+    ghost laws = { lists_equiv (Prim.search (comparing, rules)) };
+}
+
 /// The newest master key, wrapped under the master key of an older version.
-#[derive(Debug, Drop)]
+#[derive(Debug, Drop, PartialEq, Eq)]
 pub struct AuxKey {
     /// The older version.
     pub version: u16,
@@ -121,6 +141,25 @@ impl AuxList {
     }
 }
 
+impl PartialEq for AuxList {
+    ghost use Rattle.std.specs.Cmp.Lexicographic.{pointwise, lists_equiv};
+    ghost use Rattle.std.specs.Cmp.{partial_equiv_from_equiv};
+
+    ghost eq = { pointwise ⟦<AuxKey as PartialEq>⟧.eq };
+
+    ghost laws = { partial_equiv_from_equiv (lists_equiv (Prim.search (comparing, rules))) };
+
+    fn eq(&self, other: &AuxList) -> bool {
+        self.as_slice() == other.as_slice()
+    }
+}
+
+impl Eq for AuxList {
+    ghost use Rattle.std.specs.Cmp.Lexicographic.{lists_equiv};
+
+    ghost laws = { lists_equiv (Prim.search (comparing, rules)) };
+}
+
 /// A master key and its version.
 #[derive(Clone, Copy, PartialEq, Eq)]
 pub struct Master {
@@ -169,4 +208,22 @@ impl Masters {
     {
         &self.items
     }
+}
+
+impl PartialEq for Masters {
+    ghost use Rattle.std.specs.Cmp.Lexicographic.{pointwise, lists_per};
+
+    ghost eq = { pointwise ⟦<Master as PartialEq>⟧.eq };
+
+    ghost laws = { lists_per (Prim.search (comparing, rules)) };
+
+    fn eq(&self, other: &Masters) -> bool {
+        self.as_slice() == other.as_slice()
+    }
+}
+
+impl Eq for Masters {
+    ghost use Rattle.std.specs.Cmp.Lexicographic.{lists_equiv};
+
+    ghost laws = { lists_equiv (Prim.search (comparing, rules)) };
 }

@@ -23,5 +23,5 @@ next {at} {front} {out} n bytes after so_far put_down long fits =
           ∙ sym (append_assoc front bytes (zeros (63 - (at + n))));
     }
 
-pub in_order : (a b d e f g h i j k z : List ℕ) → (((((((((a ++ b) ++ d) ++ e) ++ f) ++ g) ++ h) ++ i) ++ j) ++ k) ++ z ≡ a ++ (b ++ (d ++ (e ++ (f ++ (g ++ (h ++ ((i ++ (j ++ k)) ++ z)))))))
-in_order a b d e f g h i j k z = simp (append_assoc) refl
+pub in_order : (a x b d e f g h i j k z : List ℕ) → ((((((((((a ++ x) ++ b) ++ d) ++ e) ++ f) ++ g) ++ h) ++ i) ++ j) ++ k) ++ z ≡ a ++ (x ++ (b ++ (d ++ (e ++ (f ++ (g ++ (h ++ ((i ++ (j ++ k)) ++ z))))))))
+in_order a x b d e f g h i j k z = simp (append_assoc) refl

@@ -1,19 +1,19 @@
 -- How a run of calls on the control file goes on.
-use Rattle.std.proofs.Common.{◌≡◌, ◌≢◌, ℕ, ◌≤◌, ◌<◌, ◌⊎◌, inl, inr, ⊎_elim, ◌+◌, List, [], ◌∷◌, length, get_or, take, drop, refl, sym, ◌∙◌, ap, arith}
-use Rattle.std.specs.Prelude.{Result, Ok, Err, OnOk}
+use Rattle.std.proofs.Common.{◌≡◌, ◌≢◌, ℕ, ◌≤◌, ◌<◌, ◌⊎◌, inl, inr, ⊎_elim, ◌+◌, List, [], ◌∷◌, ◌++◌, length, get_or, take, drop, refl, sym, ◌∙◌, ap, subst, arith, length-drop, take-append-drop}
+use Rattle.std.specs.Prelude.{Result, Ok, Err, OnOk, Option, Some, option_map}
 use Rattle.std.proofs.lemmas.Bool.{cases_eq}
-use Rattle.std.proofs.lemmas.List.{get_or-take, drop-take}
+use Rattle.std.proofs.lemmas.List.{get_or-take, get_or-drop, drop-take, drop-drop}
 use Rattle.kdb_disk.specs.Files.{Files, put}
 use Rattle.kdb_disk.specs.View.{View, Torn, IsAfter, Looks}
 use Rattle.kdb_disk.specs.Moments.{LeavesOnly, Stands, Keeps}
-use Rattle.kdb_disk.proofs.Puts.{written-same, written-other, take-put, between-put, length-put, get_or-put_before}
+use Rattle.kdb_disk.proofs.Puts.{written-same, written-other, take-put, between-put, length-put, put_split, get_or-put_before, get_or-put_behind}
 use Rattle.kdb_disk.proofs.Runs.{started, then_on, weaken, at_end, looked, stands_here, stands_other, no_shorter, stands_byte}
 use Rattle.kdb_control.specs.declared.force.Force.{Force}
 use Rattle.kdb_control.specs.declared.force.Force.TheVariants.{Is}
 use Rattle.kdb_control.specs.Force.{in_force}
 use Rattle.kdb_control.specs.Choice.{Choice}
 use Rattle.kdb_control.specs.Bodies.{body, IsBody}
-use Rattle.kdb_control.specs.Moments.{Leaves, LeavesEither, IsDurable, IsPlace, IsShut, IsReady, IsFilled, HasInForce, IsFirst, without}
+use Rattle.kdb_control.specs.Moments.{Leaves, LeavesEither, IsDurable, IsPlace, IsShut, IsReady, IsFilled, HasInForce, IsFirst, without, force_of}
 use Rattle.kdb_control.proofs.Effects.{gate_closed, shut_torn, begun_torn, without-put, gate_within}
 
 -- nothing was done yet
@@ -63,6 +63,13 @@ looks_keeps {old} look = record { seen = look.seen; leaves = looked (started old
 
 pub durable_stands : {old new : View} {from : ℕ} {bytes : List ℕ} → Stands 0 from bytes old new → IsDurable new
 durable_stands stands = record { durable = stands.durable }
+
+-- what a choice that is there has in force
+pub force_some : {T : Type 0} (f : T → Choice) (o : Option T) (x : T) → o ≡ Some x → Is (f x) ≡ force_of (option_map f o)
+force_some {T} f o x is = ap (λ (given : Option T). force_of (option_map f given)) (sym is)
+
+pub same_force : {one same other : Force} {old new : View} → one ≡ same → LeavesOnly old new (LeavesEither one other old) → LeavesOnly old new (LeavesEither same other old)
+same_force {other = other} {old = old} {new = new} is run = subst (λ (force : Force). LeavesOnly old new (LeavesEither force other old)) is run
 
 -- calls that look come first
 pub behind_look : {one other : Force} {old mid new : View} → IsDurable old → in_force (old.seen 0) ≡ one → Looks old mid → LeavesOnly mid new (LeavesEither one other mid) → LeavesOnly old new (LeavesEither one other old)
@@ -159,10 +166,34 @@ ready_on {mid} {new} {next} ready shut = record {
   durable = shut.durable;
 }
 
+-- the other slot stays as it is while a gate is opened
+pub other_stays : {old new : View} {byte : ℕ} (at : ℕ) → IsPlace at → at < length (old.seen 0) → Stands 0 at (byte ∷ []) old new → without at (new.seen 0) ≡ without at (old.seen 0)
+other_stays {old} {new} {byte} at place within stands =
+    ap (without at) (stands_here stands) ∙ without-put at at (byte ∷ []) (old.seen 0) place (omega arith) (omega arith) (omega (arith, within))
+
+one_byte : (byte : ℕ) (xs : List ℕ) → length xs ≡ 1 → get_or xs 0 0 ≡ byte → xs ≡ byte ∷ []
+one_byte byte [] long is = absurd (omega (arith, long))
+one_byte byte (x ∷ []) long is = ap (λ (b : ℕ). b ∷ []) is
+one_byte byte (x ∷ (y ∷ rest)) long is = absurd (omega (arith, long))
+
+-- an open gate, a body, and a closed gate
+first_bytes : (file bytes : List ℕ) → length file ≡ 65 → take 63 (drop 1 file) ≡ bytes → get_or file 64 0 ≡ 0 → put 0 (165 ∷ []) file ≡ 165 ∷ (bytes ++ (0 ∷ []))
+first_bytes file bytes long there gate =
+    let last : drop 63 (drop 1 file) ≡ 0 ∷ [] = drop-drop 63 1 file ∙ one_byte 0 (drop 64 file) (omega (arith, length-drop 64 file, long)) (get_or-drop 64 file 0 0 ∙ gate) in
+    put_split 0 (165 ∷ []) file
+    ∙ ap (λ (l : List ℕ). 165 ∷ l) (sym (take-append-drop 63 (drop 1 file)) ∙ ap (λ (l : List ℕ). l ++ drop 63 (drop 1 file)) there ∙ ap (λ (l : List ℕ). bytes ++ l) last)
+
 -- the first choice is in force, behind which the second slot is closed
-pub first_made : {T E : Type 0} (r : Result T E) (old new : List ℕ) (next : Choice) → get_or old 64 0 ≢ 165 → 64 < length old
-    → OnOk r (in_force new ≡ Is next) → OnOk r (get_or new 64 0 ≡ get_or old 64 0) → OnOk r (length new ≡ length old) → OnOk r (IsFirst next new)
-first_made (Ok x) old new next gate begun force same long =
+pub first_made : {T E : Type 0} (r : Result T E) (old mid new : List ℕ) (next : Choice) → get_or mid 64 0 ≢ 165 → 64 < length mid
+    → (length old ≤ 64 → (length mid ≡ 65) × (get_or mid 64 0 ≡ 0)) → take 63 (drop 1 mid) ≡ body next
+    → OnOk r (in_force new ≡ Is next) → OnOk r (new ≡ put 0 (165 ∷ []) mid) → OnOk r (IsFirst next old new)
+first_made (Ok x) old mid new next gate begun fresh bytes force opened =
+    let same : get_or new 64 0 ≡ get_or mid 64 0 = ap (λ (l : List ℕ). get_or l 64 0) opened ∙ get_or-put_behind 64 0 (165 ∷ []) mid 0 (omega arith) (omega arith) in
     let shut : get_or new 64 0 ≢ 165 = λ e. gate (sym same ∙ e) in
-    record { here = sym (gate_closed 64 new (inr refl) shut) ∙ force; gate = shut; begun = omega (arith, long, begun) }
-first_made (Err e) old new next gate begun force same long = tt
+    record {
+      here = sym (gate_closed 64 new (inr refl) shut) ∙ force;
+      gate = shut;
+      begun = omega (arith, ap (λ (l : List ℕ). length l) opened, length-put 0 (165 ∷ []) mid (omega arith), begun);
+      fresh = λ le. opened ∙ first_bytes mid (body next) (fresh le).0 bytes (fresh le).1;
+    }
+first_made (Err e) old mid new next gate begun fresh bytes force opened = tt

@@ -17,14 +17,16 @@ of_body None = Torn
 
 -- A slot is whole where it has 64 bytes, and open where its gate is a5 hexadecimal. All else is closed.
 unfoldable pub slot : List ℕ → Slot
-slot bytes = if nat_lt (length bytes) 64 then Closed else if nat_eq (slice_index bytes 0) 165 then of_body (body_at (drop 1 bytes)) else Closed
+slot bytes = if nat_lt (length bytes) 64 then Closed
+    else if nat_eq (slice_index bytes 0) 165 then of_body (body_at (drop 1 bytes)) else Closed
 
 unfoldable pub turn_after : ℕ → ℕ
 turn_after turn = (turn + 1) % 3
 
 -- of two open slots the one whose turn comes after the other's
 unfoldable pub newer_of : Choice → Choice → Force
-newer_of first second = if nat_eq second.turn (turn_after first.turn) then Is second else if nat_eq first.turn (turn_after second.turn) then Is first else Broken 64
+newer_of first second = if nat_eq second.turn (turn_after first.turn) then Is second
+    else if nat_eq first.turn (turn_after second.turn) then Is first else Broken 64
 
 unfoldable pub newer : Slot → Slot → Force
 newer Torn second = Broken 0

@@ -3,13 +3,13 @@ ghost use Rattle.kdb_format.specs.Answers.{Reads, ReadsAs};
 ghost use Rattle.kdb_format.specs.Readings.{literal_at};
 ghost use Rattle.kdb_control.specs.Bodies.{magic, body_at, body, IsBody};
 
-use crate::choice::{Control, in_ranges};
+use crate::choice::{Control, in_ranges, is_format};
 use kdb_format::moments::read_point;
-use kdb_format::placing::{put_bytes, put_u8, put_u32};
+use kdb_format::placing::{put_bytes, put_u8, put_u16, put_u32};
 use kdb_format::{Malformed, Reader};
 
-// The text KDBP, and format 1.
-const MAGIC: [u8; 6] = [75, 68, 66, 80, 0, 1];
+// The text KDBP.
+const MAGIC: [u8; 4] = [75, 68, 66, 80];
 
 #[tactic(auto, unfolding(crate::specs::Bodies::magic))]
 fn read_magic(reader: &mut Reader) -> Result<(), Malformed>
@@ -24,6 +24,7 @@ pub(crate) fn read_body(reader: &mut Reader) -> Result<Control, Malformed>
     ensures { Reads result reader.new (body_at reader.old) }
 {
     read_magic(reader)?;
+    let format = reader.u16()?;
     let turn = reader.u8()?;
     let image = reader.u8()?;
     let log = reader.u8()?;
@@ -32,10 +33,11 @@ pub(crate) fn read_body(reader: &mut Reader) -> Result<Control, Malformed>
     let block = reader.u32()?;
     let base = read_point(reader)?;
     reader.zeros(33)?;
-    if !in_ranges(turn, image, log, stash, size, block) {
+    if !(is_format(format) && in_ranges(turn, image, log, stash, size, block)) {
         return Err(Malformed);
     }
     Ok(Control {
+        format,
         turn,
         image,
         log,
@@ -56,6 +58,7 @@ pub(crate) fn write_body(control: &Control) -> [u8; BODY]
 {
     let mut out = [0; BODY];
     put_bytes(&mut out, 0, &MAGIC);
+    put_u16(&mut out, 4, control.format);
     put_u8(&mut out, 6, control.turn);
     put_u8(&mut out, 7, control.image);
     put_u8(&mut out, 8, control.log);

@@ -1,9 +1,10 @@
-ghost use Rattle.std.specs.Prelude.{◌≡◌, ◌≤◌, IsErrOf};
-ghost use Rattle.kdb_base.specs.Causes.{Rose};
+ghost use Rattle.std.specs.Prelude.{◌≡◌, IsErrOf};
 ghost use Rattle.kdb_disk.specs.View.{View};
 ghost use Rattle.kdb_disk.specs.Moments.{Keeps};
+ghost use Rattle.kdb_disk.specs.Frames.{IsCall};
 ghost use Rattle.kdb_control.specs.Force.{in_force};
 ghost use Rattle.kdb_control.specs.Answers.{Answers};
+ghost use Rattle.kdb_control.specs.Moments.{control_file};
 ghost use Rattle.kdb_control.specs.declared.reading.ControlStop.TheVariants.{DiskFault};
 
 use crate::choice::Control;
@@ -27,11 +28,9 @@ pub enum ControlStop {
 
 /// What the control file has in force. It changes no file, and takes no memory.
 pub fn read<D: Disk>(disk: &mut D) -> Result<Control, ControlStop>
-    ensures force { D.tells → Answers result (in_force ((D.view disk.old).seen 0)) }
+    ensures force { D.tells → Answers result (in_force (control_file D.Disk disk.old)) }
     ensures keeps { D.tells → Keeps (D.view disk.old) (D.view disk.new) }
-    ensures same { D.loans disk.new ≡ D.loans disk.old }
-    ensures later { D.faults disk.old ≤ D.faults disk.new }
-    ensures cause { IsErrOf result DiskFault → Rose (D.faults disk.old) (D.faults disk.new) }
+    ensures call { IsCall D.Disk disk.old disk.new (IsErrOf result DiskFault) }
 {
     match find(disk) {
         Ok(force) => answer(force),

@@ -1,10 +1,10 @@
-ghost use Rattle.std.specs.Prelude.{◌≡◌, ◌≤◌, ◌<◌, length, IfOk, nat_eq, if◌then◌else◌};
-ghost use Rattle.kdb_base.specs.Causes.{HasCause};
+ghost use Rattle.std.specs.Prelude.{◌≡◌, ◌≤◌, ◌<◌, length, IfOk, IsErr, nat_eq, if◌then◌else◌};
 ghost use Rattle.kdb_disk.specs.View.{View};
 ghost use Rattle.kdb_disk.specs.Moments.{Keeps};
+ghost use Rattle.kdb_disk.specs.Frames.{IsCall};
 ghost use Rattle.kdb_control.specs.declared.force.Force.TheVariants.{Is};
 ghost use Rattle.kdb_control.specs.Force.{slot, slot_bytes, in_force};
-ghost use Rattle.kdb_control.specs.Moments.{IsPlace, without, spare_at};
+ghost use Rattle.kdb_control.specs.Moments.{IsPlace, control_file, without, spare_at};
 
 use crate::choice::Control;
 use crate::force::{FIRST, SECOND, Slot};
@@ -32,14 +32,13 @@ fn place_by_turn(turn: u8, now: u8) -> u64
 
 // The place of the slot that is not the newer one.
 pub(crate) fn spare_place<D: Disk>(disk: &mut D, now: &Control) -> Result<u64, DiskFailed>
-    requires now { D.tells → in_force ((D.view disk.old).seen 0) ≡ Is now.now }
+    requires now { D.tells → in_force (control_file D.Disk disk.old) ≡ Is now.now }
     ensures place { IfOk result IsPlace }
     ensures turn { IfOk result (λ _. now.now.turn < 3) }
-    ensures spare { D.tells → IfOk result (λ at. without at ((D.view disk.old).seen 0) ≡ Is now.now) }
-    ensures within { D.tells → IfOk result (λ at. at ≤ length ((D.view disk.old).seen 0)) }
+    ensures spare { D.tells → IfOk result (λ at. without at (control_file D.Disk disk.old) ≡ Is now.now) }
+    ensures within { D.tells → IfOk result (λ at. at ≤ length (control_file D.Disk disk.old)) }
     ensures keeps { D.tells → Keeps (D.view disk.old) (D.view disk.new) }
-    ensures same { D.loans disk.new ≡ D.loans disk.old }
-    ensures cause { HasCause (D.faults disk.old) (D.faults disk.new) result }
+    ensures call { IsCall D.Disk disk.old disk.new (IsErr result) }
 {
     match first_slot(disk) {
         Ok(first) => Ok(place_by(first, now)),

@@ -17,6 +17,7 @@ fn first() -> Control
     ensures { result.turn ≡ 0 }
 {
     Control {
+        format: 1,
         turn: 0,
         image: 1,
         log: 3,
@@ -35,12 +36,13 @@ fn second() -> Control
     ensures { result.turn ≡ 1 }
 {
     Control {
+        format: 2,
         turn: 1,
         image: 2,
         log: 3,
         stash: 5,
         size: 1000,
-        block: 2048,
+        block: 16384,
         base: Point {
             sno: 1,
             time: Time::new(1_700_000_000, 0),

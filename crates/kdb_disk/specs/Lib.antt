@@ -8,3 +8,5 @@ pub mod Parts
 pub mod Reader
 pub mod Untold
 pub mod Replays
+pub mod Frames
+pub mod Descriptors

@@ -8,6 +8,7 @@ pub mod folder;
 pub mod gate;
 pub mod lent;
 pub mod memory;
+mod opening;
 pub mod reader;
 mod record;
 mod replay;

@@ -7,3 +7,5 @@ pub mod Answers
 pub mod Moments
 pub mod Lengths
 pub mod Items
+pub mod Etypes
+pub mod EtypeLaws

@@ -3,6 +3,7 @@
 #![tactic(auto)]
 
 pub mod counted;
+pub mod etypes;
 pub mod faults;
 pub mod format;
 pub mod lists;

@@ -1,9 +1,10 @@
 use super::*;
+use crate::etypes::{push_etype, push_etype_le, read_etype, read_etype_le};
 use crate::lists::{read_items, read_list_u16, read_list_u32, write_list_u16, write_list_u32};
 use crate::moments::{push_point, read_point};
 use crate::placing::{put_u8, put_u16, put_u32, put_u64};
 use crate::writing::{push_u16, push_u16_le, push_u32, push_u32_le, push_u64, push_zeros};
-use kdb_base::{Blob, Point, Time};
+use kdb_base::{Blob, Etype, Point, Time};
 use std::test::*;
 
 // 1700000000 is 6553f100 in hexadecimal, and 999999 is f423f.
@@ -40,6 +41,26 @@ fn what_is_malformed(rt: HostRuntime) {
     }
     assert!(rt; Reader::new(b"KDBB").literal(b"KDBA").is_err());
     assert!(rt; Reader::new(b"\0\x01").zeros(2).is_err());
+}
+
+#[test]
+fn encryption_types_stand_in_both_orders(rt: HostRuntime) -> Result<(), Fail> {
+    let mut out = Vec::new(rt.alloc());
+    push_etype(&mut out, Etype::Aes256)?;
+    push_etype_le(&mut out, Etype::Aes256Sha2)?;
+    assert_eq!(rt; out.as_slice(), b"\0\x12\x14\0".as_slice());
+    assert_eq!(rt;
+        read_etype(&mut Reader::new(b"\0\x13")).ok(),
+        Some(Etype::Aes128Sha2)
+    );
+    assert_eq!(rt;
+        read_etype_le(&mut Reader::new(b"\x11\0")).ok(),
+        Some(Etype::Aes128)
+    );
+    assert!(rt; read_etype(&mut Reader::new(b"\0\x10")).is_err());
+    assert!(rt; read_etype_le(&mut Reader::new(b"\0\x13")).is_err());
+    assert!(rt; read_etype(&mut Reader::new(b"\x12")).is_err());
+    Ok(())
 }
 
 #[test]

@@ -3,19 +3,20 @@ use Rattle.std.proofs.Common.{◌≡◌, ℕ, ◌+◌, ◌^◌, ◌<◌, ◌≤�
 use Rattle.std.specs.Prelude.{nat_le, nat_lt, option_map, IsTrue, IfSome, Ok, codes, if◌then◌else◌}
 use Rattle.std.specs.List.{All}
 use Rattle.std.proofs.lemmas.Bool.{ltb-false}
+use Rattle.kdb_base.specs.Limits.{most_rows, longest_row}
 use Rattle.princ_name.specs.Names.{NameParts, printed}
-use Rattle.princ_record.specs.Effects.{effect, put_princ, drop_princ, IsRoom}
-use Rattle.princ_record.specs.Entries.{IsOp}
+use Rattle.princ_rows.specs.Effects.{effect, put_princ, drop_princ, IsRoom}
+use Rattle.princ_rows.specs.Entries.{IsOp}
 use Rattle.princ_record.specs.PrintedNames.{IsPrinted}
 use Rattle.princ_record.specs.Princs.{princ}
-use Rattle.princ_record.specs.Rows.{AreRows, RowLists}
+use Rattle.princ_rows.specs.Rows.{AreRows, RowLists}
 use Rattle.princ_record.specs.declared.princs.Princ.{Princ}
-use Rattle.princ_record.specs.declared.entries.Op.{Op}
-use Rattle.princ_record.specs.declared.entries.Op.TheVariants.{PutPrinc, DropPrinc, Rename, PutPolicy, DropPolicy}
-use Rattle.princ_record.proofs.Orders.{put_princ_rows, drop_princ_rows, put_policy_rows, drop_policy_rows, put_each, drop_each}
+use Rattle.princ_rows.specs.declared.entries.Op.{Op}
+use Rattle.princ_rows.specs.declared.entries.Op.TheVariants.{PutPrinc, DropPrinc, Rename, PutPolicy, DropPolicy}
+use Rattle.princ_rows.proofs.Orders.{put_princ_rows, drop_princ_rows, put_policy_rows, drop_policy_rows, put_each, drop_each}
 use Rattle.kdb_model.specs.Changes.{entry_of, with_options, fresh_princ, IsCommand}
 use Rattle.kdb_model.specs.Plans.{refusal_at, IsChange}
-use Rattle.kdb_model.specs.Refusals.{is_protected, first, most_rows, most_bytes, too_large}
+use Rattle.kdb_model.specs.Refusals.{is_protected, first, too_large}
 use Rattle.kdb_model.specs.States.{princ_named, has_policy}
 use Rattle.kdb_model.specs.declared.commands.AddPrinc.{AddPrinc}
 use Rattle.kdb_model.specs.declared.commands.ModPrinc.{ModPrinc}
@@ -37,11 +38,11 @@ not_both : {A : Type 0} {x : A} (o : Option A) → o ≡ Some x → o ≡ None �
 not_both o a b = cc
 
 -- a size that is no cause to refuse
-short_enough : (p : Princ) → first (too_large (Some (PutPrinc p)) ∷ []) ≡ None → length (princ p) ≤ most_bytes
+short_enough : (p : Princ) → first (too_large (Some (PutPrinc p)) ∷ []) ≡ None → length (princ p) ≤ longest_row
 unfolding first
-short_enough p e = elim (truth (nat_lt most_bytes (length (princ p)))) [
+short_enough p e = elim (truth (nat_lt longest_row (length (princ p)))) [
   | inl over ↦ absurd (let h = rw over at e in cc)
-  | inr short ↦ ltb-false most_bytes (length (princ p)) short
+  | inr short ↦ ltb-false longest_row (length (princ p)) short
 ]
 
 module _ (realm : List ℕ) (rows : RowLists) (client : List ℕ) (secs : ℕ) where

@@ -6,10 +6,10 @@ use Rattle.std.proofs.Math.Bool.{and-false, and-true}
 use Rattle.kdb_base.specs.declared.outcomes.Refusal.{Refusal}
 use Rattle.kdb_base.specs.declared.outcomes.Refusal.TheVariants.{TimeEnd}
 use Rattle.princ_name.specs.Names.{printed}
-use Rattle.princ_record.specs.Rows.{RowLists}
+use Rattle.princ_rows.specs.Rows.{RowLists}
 use Rattle.princ_record.specs.declared.princs.Princ.{Princ}
-use Rattle.princ_record.specs.declared.entries.Op.{Op}
-use Rattle.princ_record.specs.declared.entries.Op.TheVariants.{PutPrinc, Rename}
+use Rattle.princ_rows.specs.declared.entries.Op.{Op}
+use Rattle.princ_rows.specs.declared.entries.Op.TheVariants.{PutPrinc, Rename}
 use Rattle.kdb_model.specs.Calls.{Call, before_end_of}
 use Rattle.kdb_model.specs.Changes.{entry_of, entry, moment_of, with_options}
 use Rattle.kdb_model.specs.Plans.{refusal_of, refusal_at}

@@ -1,14 +1,16 @@
 -- The records that commands put have a spelling.
-use Rattle.std.proofs.Common.{◌≡◌, ℕ, ◌^◌, ◌<◌, Bool, true, false, List, [], codes, Option, Some, None, refl, sym, arith}
+use Rattle.std.proofs.Common.{◌≡◌, ℕ, ◌^◌, ◌<◌, Bool, true, false, List, [], codes, Option, Some, None, refl, sym, ◌∙◌, arith}
 use Rattle.std.specs.Prelude.{if◌then◌else◌}
 use Rattle.policy_rules.specs.Names.{is_policy_name}
 use Rattle.princ_record.specs.PrintedNames.{IsPrinted}
 use Rattle.princ_record.specs.Princs.{are_attributes, IsPolicyOr, IsPrinc}
 use Rattle.princ_record.specs.Keys.{IsKey, are_ordered}
 use Rattle.princ_record.specs.Remembered.{IsOldSet}
+use Rattle.std.proofs.lemmas.Bool.{false≢true}
 use Rattle.std.proofs.lemmas.List.Elements.{All-from_recursion}
+use Rattle.tagged_data.specs.StringLaws.{no_strings as without_strings}
 use Rattle.princ_record.specs.Printed.{is_master}
-use Rattle.princ_record.specs.Rows.{RowLists}
+use Rattle.princ_rows.specs.Rows.{RowLists}
 use Rattle.princ_record.specs.declared.princs.Princ.{Princ}
 use Rattle.kdb_model.specs.Changes.{AreOptions, IsBelow32, value_or, with_options, fresh_princ}
 use Rattle.kdb_model.specs.Flags.{with_flags}
@@ -40,6 +42,7 @@ options_fit o client secs p are f =
       };
       facts = f.facts;
       keys = f.keys;
+      masters = f.masters;
       policy = f.policy;
       old = f.old;
     }
@@ -57,8 +60,11 @@ marked_fits client secs p printed short f = record {
     mkvno = f.facts.mkvno;
     chain_there = f.facts.chain_there;
     chain = f.facts.chain;
+    strings = f.facts.strings;
+    no_strings = f.facts.no_strings;
   };
   keys = f.keys;
+  masters = f.masters;
   policy = f.policy;
   old = f.old;
 }
@@ -78,8 +84,9 @@ fresh_fits rows name client secs printed other by short = record {
   attributes = refl;
   attributes_short = omega arith;
   lives = record { max_life = omega arith; max_renew = omega arith; expire = omega arith; pw_expire = omega arith };
-  facts = record { pw_changed = tt; modified = short; modifier = by; mkvno = record { some = omega arith; short = omega arith }; chain_there = sym other; chain = tt };
+  facts = record { pw_changed = tt; modified = short; modifier = by; mkvno = record { some = omega arith; short = omega arith }; chain_there = sym other; chain = tt; strings = without_strings; no_strings = λ _. refl };
   keys = record { few = omega arith; each = All-from_recursion IsKey [] tt; ordered = refl };
+  masters = λ master. absurd (false≢true (sym other ∙ master));
   policy = either_policy (has_policy (codes "default") rows);
   old = record { few = omega arith; each = All-from_recursion IsOldSet [] tt };
 }

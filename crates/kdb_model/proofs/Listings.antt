@@ -4,8 +4,8 @@ use Rattle.std.specs.Prelude.{filter}
 use Rattle.std.specs.List.Sorted.{IsStrictlySortedBy}
 use Rattle.std.specs.declared.cmp.Ordering.TheVariants.{Less}
 use Rattle.std.proofs.lemmas.List.{drop_more, drop_all}
-use Rattle.princ_record.specs.Rows.{key_cmp, AreInOrder}
-use Rattle.princ_record.proofs.Orders.{each_passed}
+use Rattle.princ_rows.specs.Rows.{key_cmp, AreInOrder}
+use Rattle.princ_rows.proofs.Orders.{each_passed}
 use Rattle.kdb_model.specs.Globs.{is_listed}
 use Rattle.kdb_model.specs.Steps.{listed}
 use Rattle.princ_record.specs.declared.princs.Princ.{Princ}

@@ -2,19 +2,20 @@
 use Rattle.std.proofs.Common.{◌≡◌, ℕ, ◌+◌, ◌^◌, ◌<◌, ◌≤◌, true, false, List, [], ◌∷◌, length, Option, Some, None, refl, sym, ap, subst, ◌∙◌, arith}
 use Rattle.std.specs.Prelude.{nat_le, nat_lt, Result, Ok, Err}
 use Rattle.std.proofs.lemmas.Bool.{lt-ltb, le-ltb, leb-false}
+use Rattle.kdb_base.specs.Limits.{most_rows, longest_row}
 use Rattle.kdb_base.specs.declared.outcomes.Refusal.{Refusal}
 use Rattle.kdb_base.specs.declared.outcomes.Refusal.TheVariants.{Protected, Duplicate, UnknownPrincipal, RowsFull}
 use Rattle.princ_name.specs.Names.{NameParts, printed}
-use Rattle.princ_record.specs.Effects.{effect, IsRoom}
-use Rattle.princ_record.specs.Entries.{IsRow}
+use Rattle.princ_rows.specs.Effects.{effect, IsRoom}
+use Rattle.princ_record.specs.RowLimits.{IsRow}
 use Rattle.princ_record.specs.PrintedNames.{IsPrinted}
 use Rattle.princ_record.specs.Princs.{IsPrinc, princ}
-use Rattle.princ_record.specs.Rows.{AreRows, RowLists}
+use Rattle.princ_rows.specs.Rows.{AreRows, RowLists}
 use Rattle.princ_record.specs.declared.princs.Princ.{Princ}
-use Rattle.princ_record.specs.declared.entries.Op.TheVariants.{PutPrinc, DropPrinc}
+use Rattle.princ_rows.specs.declared.entries.Op.TheVariants.{PutPrinc, DropPrinc}
 use Rattle.kdb_model.specs.Changes.{entry_of, with_options, fresh_princ, IsCommand}
 use Rattle.kdb_model.specs.Plans.{refusal_of, refusal_at, IsAnswer, IsChange, IsPlanned, IsPlan, IsPut}
-use Rattle.kdb_model.specs.Refusals.{is_protected, is_there, first, most_rows, most_bytes, too_large}
+use Rattle.kdb_model.specs.Refusals.{is_protected, is_there, first, too_large}
 use Rattle.kdb_model.specs.States.{princ_named, princ_names}
 use Rattle.kdb_model.specs.Steps.{listed}
 use Rattle.kdb_model.specs.declared.commands.AddPrinc.{AddPrinc}
@@ -98,12 +99,12 @@ module _ (realm : List ℕ) (rows : RowLists) (client : List ℕ) (secs : ℕ) w
       → refusal_at realm rows client secs command ≡ first (too_large (Some (PutPrinc p)) ∷ []) → IsRoom (effect (Some (PutPrinc p)) rows) → IsPlan realm rows client secs command plan
   unfolding first
   sized_plan command p (Ok planned) fits is entry left room =
-      let short : length (princ p) ≤ 8000 = is.1 in
-      let not_over : nat_lt most_bytes (length (princ p)) ≡ false = le-ltb 8000 (length (princ p)) short in
+      let short : length (princ p) ≤ longest_row = is.1 in
+      let not_over : nat_lt longest_row (length (princ p)) ≡ false = le-ltb longest_row (length (princ p)) short in
       subst (IsPlanned realm rows client secs command) (sym is.0)
       (record { accepted = left ∙ rw not_over refl; entry_is = entry; fits = record { fits = fits; short = short }; room = room })
   sized_plan command p (Err refusal) fits is entry left room =
-      let over : nat_lt most_bytes (length (princ p)) ≡ true = lt-ltb 8000 (length (princ p)) is.1 in
+      let over : nat_lt longest_row (length (princ p)) ≡ true = lt-ltb longest_row (length (princ p)) is.1 in
       left ∙ rw over (ap Some (sym is.0))
 
   pub adds_princ : (c : AddPrinc) (p : Princ) (plan : Result Planned Refusal) → is_protected realm c.name ≡ false → princ_named (printed c.name) rows ≡ None

@@ -2,12 +2,13 @@
 use Rattle.std.proofs.Common.{◌≡◌, ℕ, ◌+◌, ◌<◌, ◌≤◌, List, ◌∷◌, length, Some, sym, ap, ◌∙◌, arith}
 use Rattle.std.specs.Prelude.{filter}
 use Rattle.std.proofs.lemmas.List.{length-set, length-append}
-use Rattle.princ_record.specs.Effects.{is_lower, is_higher, put_by, drop_by, put_princ, drop_princ, effect, IsRoom}
-use Rattle.princ_record.specs.Rows.{AreRows, RowLists}
+use Rattle.kdb_base.specs.Limits.{most_rows}
+use Rattle.princ_rows.specs.Effects.{is_lower, is_higher, put_by, drop_by, put_princ, drop_princ, effect, IsRoom}
+use Rattle.princ_rows.specs.Rows.{AreRows, RowLists}
 use Rattle.princ_record.specs.declared.princs.Princ.{Princ}
-use Rattle.princ_record.specs.declared.entries.Op.TheVariants.{PutPrinc, DropPrinc}
-use Rattle.princ_record.proofs.Edits.{set_is_put}
-use Rattle.princ_record.proofs.Orders.{drop_short}
+use Rattle.princ_rows.specs.declared.entries.Op.TheVariants.{PutPrinc, DropPrinc}
+use Rattle.princ_rows.proofs.Edits.{set_is_put}
+use Rattle.princ_rows.proofs.Orders.{drop_short}
 use Rattle.kdb_model.specs.States.{princ_named}
 use Rattle.kdb_model.proofs.Finds.{named_place}
 
@@ -19,7 +20,7 @@ put_short key x xs =
     let high = filter (is_higher key (key x)) xs in
     omega (arith, drop_short key (key x) xs, length-append low high, length-append low (x ∷ high))
 
-pub room_for_one : (p : Princ) (rows : RowLists) → length rows.princs + length rows.policies < 100000 → IsRoom (effect (Some (PutPrinc p)) rows)
+pub room_for_one : (p : Princ) (rows : RowLists) → length rows.princs + length rows.policies < most_rows → IsRoom (effect (Some (PutPrinc p)) rows)
 unfolding effect put_princ
 room_for_one p rows lt = omega (arith, put_short (λ (q : Princ). q.name) p rows.princs)
 

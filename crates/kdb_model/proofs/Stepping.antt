@@ -6,8 +6,8 @@ use Rattle.kdb_base.specs.Moments.{later_moment}
 use Rattle.kdb_base.specs.declared.moments.Point.{Point}
 use Rattle.kdb_base.specs.declared.outcomes.MemoryOut.{MemoryOut}
 use Rattle.kdb_base.specs.declared.outcomes.Refusal.{Refusal}
-use Rattle.princ_record.specs.Effects.{effect}
-use Rattle.princ_record.specs.declared.entries.Op.{Op}
+use Rattle.princ_rows.specs.Effects.{effect}
+use Rattle.princ_rows.specs.declared.entries.Op.{Op}
 use Rattle.kdb_model.specs.Calls.{Call, Outcome, plain_call}
 use Rattle.kdb_model.specs.Changes.{entry, moment_of}
 use Rattle.kdb_model.specs.Plans.{IsAnswered, IsChanging, IsGiven}

@@ -5,10 +5,10 @@ use Rattle.kdb_base.specs.Moment.{Moment}
 use Rattle.kdb_base.specs.Moments.{later_moment}
 use Rattle.princ_name.specs.Names.{NameParts, IsName, printed}
 use Rattle.princ_record.specs.Princs.{are_attributes}
-use Rattle.princ_record.specs.Rows.{RowLists}
+use Rattle.princ_rows.specs.Rows.{RowLists}
 use Rattle.princ_record.specs.declared.princs.Princ.{Princ}
-use Rattle.princ_record.specs.declared.entries.Op.{Op}
-use Rattle.princ_record.specs.declared.entries.Op.TheVariants.{PutPrinc, DropPrinc}
+use Rattle.princ_rows.specs.declared.entries.Op.{Op}
+use Rattle.princ_rows.specs.declared.entries.Op.TheVariants.{PutPrinc, DropPrinc}
 use Rattle.kdb_model.specs.Calls.{Call}
 use Rattle.kdb_model.specs.Flags.{with_flags}
 use Rattle.kdb_model.specs.States.{princ_named, has_policy}
@@ -58,6 +58,7 @@ fresh_princ rows name = record {
   policy = default_policy rows;
   old = [];
   chain = None;
+  strings = [];
 }
 
 -- ---- entries

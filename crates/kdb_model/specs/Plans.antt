@@ -1,17 +1,18 @@
 -- What a command comes to where a point is left for one more change: a refusal, an answer or a change.
 use Rattle.std.specs.Prelude.{ℕ, ◌≡◌, ◌≢◌, ◌+◌, ◌<◌, ◌≤◌, false, not, ◌&&◌, nat_le, List, [], ◌∷◌, length, Option, Some, None, Result, Ok, Err}
+use Rattle.kdb_base.specs.Limits.{most_rows, longest_row}
 use Rattle.kdb_base.specs.declared.outcomes.Refusal.{Refusal}
 use Rattle.kdb_base.specs.declared.outcomes.Refusal.TheVariants.{Protected, Duplicate, UnknownPrincipal, RowsFull, RecordTooLarge}
-use Rattle.princ_record.specs.Effects.{effect, IsRoom}
-use Rattle.princ_record.specs.Entries.{IsOp}
+use Rattle.princ_rows.specs.Effects.{effect, IsRoom}
+use Rattle.princ_rows.specs.Entries.{IsOp}
 use Rattle.princ_record.specs.Princs.{princ}
-use Rattle.princ_record.specs.Rows.{RowLists}
+use Rattle.princ_rows.specs.Rows.{RowLists}
 use Rattle.princ_record.specs.declared.princs.Princ.{Princ}
-use Rattle.princ_record.specs.declared.entries.Op.{Op}
-use Rattle.princ_record.specs.declared.entries.Op.TheVariants.{PutPrinc, Rename}
+use Rattle.princ_rows.specs.declared.entries.Op.{Op}
+use Rattle.princ_rows.specs.declared.entries.Op.TheVariants.{PutPrinc, Rename}
 use Rattle.kdb_model.specs.Calls.{Call}
 use Rattle.kdb_model.specs.Changes.{moment_of, entry_of, entry}
-use Rattle.kdb_model.specs.Refusals.{when, changes, adds, on_target, is_protected, is_there, most_rows, most_bytes, too_large, first, refusal}
+use Rattle.kdb_model.specs.Refusals.{when, changes, adds, on_target, is_protected, is_there, too_large, first, refusal}
 use Rattle.kdb_model.specs.Steps.{reading}
 use Rattle.kdb_model.specs.declared.commands.Command.{Command}
 use Rattle.kdb_model.specs.declared.plans.Planned.{Planned}
@@ -57,8 +58,8 @@ IsPlan realm rows client secs command (Err refusal) = refusal_at realm rows clie
 
 -- a put, if its record is short enough
 abbrev pub IsPut : Princ → Result Planned Refusal → Type 0
-IsPut p (Ok planned) = (planned ≡ Change (PutPrinc p)) × (length (princ p) ≤ most_bytes)
-IsPut p (Err refusal) = (refusal ≡ RecordTooLarge (length (princ p))) × (most_bytes < length (princ p))
+IsPut p (Ok planned) = (planned ≡ Change (PutPrinc p)) × (length (princ p) ≤ longest_row)
+IsPut p (Err refusal) = (refusal ≡ RecordTooLarge (length (princ p))) × (longest_row < length (princ p))
 
 -- ---- over states and calls
 

@@ -1,14 +1,15 @@
 -- Why a command is refused. Each cause stands for itself; where several hold, the first of their list is the answer.
 use Rattle.std.specs.Prelude.{ℕ, ◌+◌, Bool, true, false, not, ◌&&◌, ◌||◌, nat_le, nat_lt, List, [], ◌∷◌, codes, length, Option, Some, None, is_some, if◌then◌else◌}
 use Rattle.std.specs.Str.{bytes_eq}
+use Rattle.kdb_base.specs.Limits.{most_rows, longest_row}
 use Rattle.kdb_base.specs.declared.outcomes.Refusal.{Refusal}
 use Rattle.kdb_base.specs.declared.outcomes.Refusal.TheVariants.{Protected, Duplicate, UnknownPrincipal, RowsFull, RecordTooLarge, TimeEnd}
 use Rattle.princ_name.specs.Names.{NameParts, printed}
 use Rattle.kdb_model.specs.Calls.{Call}
 use Rattle.princ_record.specs.Princs.{princ}
-use Rattle.princ_record.specs.Rows.{RowLists}
-use Rattle.princ_record.specs.declared.entries.Op.{Op}
-use Rattle.princ_record.specs.declared.entries.Op.TheVariants.{PutPrinc, DropPrinc, Rename, PutPolicy, DropPolicy}
+use Rattle.princ_rows.specs.Rows.{RowLists}
+use Rattle.princ_rows.specs.declared.entries.Op.{Op}
+use Rattle.princ_rows.specs.declared.entries.Op.TheVariants.{PutPrinc, DropPrinc, Rename, PutPolicy, DropPolicy}
 use Rattle.kdb_model.specs.Changes.{entry}
 use Rattle.kdb_model.specs.States.{princ_named}
 use Rattle.kdb_model.specs.declared.commands.Command.{Command}
@@ -82,13 +83,6 @@ duplicate s command = when (adds command && on_target (is_there s.rows) command)
 abbrev pub unknown : State → Command → Option Refusal
 unknown s command = when (not (adds command) && on_target (λ name. not (is_there s.rows name)) command) UnknownPrincipal
 
--- the most principals and policies of a database, and the most bytes of a record
-abbrev pub most_rows : ℕ
-most_rows = 100000
-
-abbrev pub most_bytes : ℕ
-most_bytes = 8000
-
 -- a row more than a database may have
 abbrev pub full : State → Command → Option Refusal
 full s command = when (adds command && nat_le most_rows (length s.rows.princs + length s.rows.policies)) (RowsFull most_rows)
@@ -104,7 +98,7 @@ bytes_put (Some (DropPolicy name)) = 0
 
 -- the record would be too long
 abbrev pub too_large : Option Op → Option Refusal
-too_large op = when (nat_lt most_bytes (bytes_put op)) (RecordTooLarge (bytes_put op))
+too_large op = when (nat_lt longest_row (bytes_put op)) (RecordTooLarge (bytes_put op))
 
 -- no point is left for a change
 abbrev pub ended : Bool → Command → Option Refusal

@@ -4,7 +4,7 @@ use Rattle.std.specs.List.{All, find, list_any}
 use Rattle.std.specs.Str.{bytes_eq}
 use Rattle.kdb_format.specs.Moments.{IsPoint}
 use Rattle.policy_rules.specs.Rules.{Rules}
-use Rattle.princ_record.specs.Rows.{AreRows, RowLists, princ_keys}
+use Rattle.princ_rows.specs.Rows.{AreRows, RowLists, princ_keys}
 use Rattle.princ_record.specs.declared.princs.Princ.{Princ}
 use Rattle.kdb_model.specs.declared.states.State.{State}
 
@@ -21,7 +21,7 @@ has_policy name rows = list_any (λ (p : Rules). bytes_eq p.name name) rows.poli
 abbrev pub princ_names : RowLists → List (List ℕ)
 princ_names rows = princ_keys rows.princs
 
--- each name stands once and in order, there are at most 100000 rows, and every policy that a principal names is there
+-- each name stands once and in order, there are no more rows than there may be, and every policy that a principal names is there
 pub record IsState (s : State) : Type 0 where
   pub rows : AreRows s.rows
   pub named : All (λ (p : Princ). IfSome p.policy (λ name. IsTrue (has_policy name s.rows))) s.rows.princs

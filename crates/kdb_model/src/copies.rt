@@ -5,27 +5,28 @@ ghost use Rattle.std.specs.Prelude.{◌≡◌, IfOk};
 use crate::states::State;
 use kdb_base::{Blob, MemoryOut};
 use policy_rules::Policy;
-use princ_record::{Princ, Rows, copy, copy_policy};
+use princ_record::{Princ, copy, copy_policy};
+use princ_rows::{Boxed, Rows, push_boxed};
 use std::alloc::Global;
 
-fn copy_princs(alloc: Global, princs: &[Princ]) -> Result<Vec<Princ>, MemoryOut>
+fn copy_princs(alloc: Global, princs: &[Boxed<Princ>]) -> Result<Vec<Boxed<Princ>>, MemoryOut>
     ensures { IfOk result (λ v. v.items ≡ princs.now) }
 {
     let mut out = Vec::with_capacity(alloc, princs.len())?;
     for princ in princs {
-        let princ = copy(alloc, princ)?;
-        out.push(princ)?;
+        let princ = copy(alloc, princ.get())?;
+        push_boxed(&mut out, princ)?;
     }
     Ok(out)
 }
 
-fn copy_policies(alloc: Global, policies: &[Policy]) -> Result<Vec<Policy>, MemoryOut>
+fn copy_policies(alloc: Global, policies: &[Boxed<Policy>]) -> Result<Vec<Boxed<Policy>>, MemoryOut>
     ensures { IfOk result (λ v. v.items ≡ policies.now) }
 {
     let mut out = Vec::with_capacity(alloc, policies.len())?;
     for policy in policies {
-        let policy = copy_policy(alloc, policy)?;
-        out.push(policy)?;
+        let policy = copy_policy(alloc, policy.get())?;
+        push_boxed(&mut out, policy)?;
     }
     Ok(out)
 }

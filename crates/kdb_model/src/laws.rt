@@ -4,9 +4,9 @@ ghost use Rattle.std.specs.Prelude.{List, ◌≡◌, ◌+◌, ◌<◌, ◌++◌,
 ghost use Rattle.kdb_base.specs.Moments.{later_moment};
 ghost use Rattle.kdb_base.specs.declared.outcomes.Refusal.{Refusal};
 ghost use Rattle.kdb_format.specs.Moments.{IsTime};
-ghost use Rattle.princ_record.specs.Effects.{effect};
+ghost use Rattle.princ_rows.specs.Effects.{effect};
 ghost use Rattle.princ_record.specs.PrintedNames.{IsPrinted};
-ghost use Rattle.princ_record.specs.declared.entries.Op.{Op};
+ghost use Rattle.princ_rows.specs.declared.entries.Op.{Op};
 ghost use Rattle.kdb_model.specs.Calls.{Call, before_end_of};
 ghost use Rattle.kdb_model.specs.Changes.{IsCommand, entry};
 ghost use Rattle.kdb_model.specs.Refusals.{changes, refusal};

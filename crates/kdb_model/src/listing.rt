@@ -3,13 +3,14 @@
 ghost use Rattle.std.specs.Prelude.{◌≡◌, IfOk};
 ghost use Rattle.kdb_model.specs.Globs.{is_listed};
 ghost use Rattle.kdb_model.specs.States.{princ_names};
-ghost use Rattle.princ_record.specs.Rows.{princ_keys};
+ghost use Rattle.princ_rows.specs.Rows.{princ_keys};
 ghost use Rattle.kdb_model.specs.Steps.{listed};
 
 use crate::globs::glob_matches;
 use crate::replies::NameList;
 use kdb_base::{Blob, MemoryOut};
-use princ_record::{Princ, Rows};
+use princ_record::Princ;
+use princ_rows::{Boxed, Rows};
 use std::alloc::Global;
 
 fn is_listed(glob: &Option<Blob>, name: &[u8]) -> bool
@@ -24,15 +25,15 @@ fn is_listed(glob: &Option<Blob>, name: &[u8]) -> bool
 /// The names that the glob matches, all without one.
 fn names_listed(
     alloc: Global,
-    princs: &[Princ],
+    princs: &[Boxed<Princ>],
     glob: &Option<Blob>,
 ) -> Result<Vec<Blob>, MemoryOut>
     ensures { IfOk result (λ v. v.items ≡ listed glob.now (princ_keys princs.now)) }
 {
     let mut names = Vec::new(alloc);
     for princ in princs {
-        if is_listed(glob, princ.name.as_slice()) {
-            let name = Blob::from_bytes(alloc, princ.name.as_slice())?;
+        if is_listed(glob, princ.get().name.as_slice()) {
+            let name = Blob::from_bytes(alloc, princ.get().name.as_slice())?;
             names.push(name)?;
         }
     }

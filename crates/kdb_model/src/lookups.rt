@@ -1,12 +1,13 @@
 //! What is found in the rows by name.
 
 ghost use Rattle.std.specs.Prelude.{◌≡◌, ◌+◌, None, length, nat_le, IfSome};
-ghost use Rattle.princ_record.specs.Rows.{AreRows};
-ghost use Rattle.kdb_model.specs.Refusals.{most_rows};
+ghost use Rattle.princ_rows.specs.Rows.{AreRows};
+ghost use Rattle.kdb_base.specs.Limits.{most_rows};
 ghost use Rattle.kdb_model.specs.States.{princ_named, has_policy};
 
-use princ_record::rows::MAX_ROWS;
-use princ_record::{Princ, Rows};
+use kdb_base::limits::MAX_ROWS;
+use princ_record::Princ;
+use princ_rows::Rows;
 
 /// The principal of this printed name.
 #[tactic(auto, unfolding(crate::specs::States::princ_named))]

@@ -15,11 +15,11 @@ use crate::lookups::{is_full, princ_named};
 use crate::names::is_protected;
 use crate::records::{changed_princ, new_princ};
 use crate::replies::Reply;
+use kdb_base::limits::{MAX_ROW_LEN, MAX_ROWS};
 use kdb_base::{Blob, Halt, MemoryOut, Refusal, Stop};
 use princ_name::{Name, print_name};
-use princ_record::entries::MAX_ROW;
-use princ_record::rows::MAX_ROWS;
-use princ_record::{Op, Princ, Rows, copy, encoded_len};
+use princ_record::{Princ, copy, encoded_len};
+use princ_rows::{Op, Rows};
 use std::alloc::Global;
 
 /// What an accepted command comes to.
@@ -37,7 +37,7 @@ fn put(princ: Princ) -> Result<Planned, Refusal>
     ensures { IsPut princ result }
 {
     let size = encoded_len(&princ);
-    if size > usize::from(MAX_ROW) {
+    if size > MAX_ROW_LEN {
         return Err(Refusal::RecordTooLarge { size: size as u64 });
     }
     Ok(Planned::Change(Op::PutPrinc(princ)))

@@ -7,8 +7,10 @@ ghost use Rattle.kdb_model.specs.Flags.{with_flag, with_flags};
 use crate::commands::{FlagChange, PrincOptions};
 use crate::lookups::has_policy;
 use kdb_base::{Blob, MemoryOut};
-use princ_record::{Keys, OldSets, Princ, Rows, copy};
+use princ_record::{Keys, OldSets, Princ, copy};
+use princ_rows::Rows;
 use std::alloc::Global;
+use tagged_data::StringAttributes;
 
 /// The policy that a new principal gets where there is one of this name.
 const DEFAULT_POLICY: &[u8] = b"default";
@@ -84,6 +86,7 @@ fn fresh_princ(alloc: Global, rows: &Rows, name: Blob) -> Result<Princ, MemoryOu
         policy,
         old: OldSets::from_vec(Vec::new(alloc)),
         chain: None,
+        strings: StringAttributes::new(alloc),
     })
 }
 

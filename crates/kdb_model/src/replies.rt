@@ -1,6 +1,6 @@
 //! What commands answer.
 ghost use Rattle.std.specs.Prelude.{◌≡◌};
-ghost use Rattle.princ_record.specs.Rows.{AreInOrder};
+ghost use Rattle.princ_rows.specs.Rows.{AreInOrder};
 
 use kdb_base::{Blob, Point, Refusal};
 use princ_record::Princ;
@@ -14,7 +14,7 @@ pub struct NameList {
 
 impl Model for NameList {
     ghost use Rattle.std.specs.Prelude.{List, ℕ};
-    ghost use Rattle.princ_record.specs.Rows.{AreInOrder};
+    ghost use Rattle.princ_rows.specs.Rows.{AreInOrder};
 
     ghost Value = { List (List ℕ) };
 

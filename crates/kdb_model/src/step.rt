@@ -1,8 +1,8 @@
 //! The interpreter of the model.
 
 ghost use Rattle.std.specs.Prelude.{◌≡◌, ◌+◌, ◌<◌, Some, option_map, IfOk, OnOk};
-ghost use Rattle.princ_record.specs.Effects.{effect, IsRoom};
-ghost use Rattle.princ_record.specs.Entries.{IsOp};
+ghost use Rattle.princ_rows.specs.Effects.{effect, IsRoom};
+ghost use Rattle.princ_rows.specs.Entries.{IsOp};
 ghost use Rattle.princ_record.specs.PrintedNames.{IsPrinted};
 ghost use Rattle.kdb_model.specs.Calls.{plain_call};
 ghost use Rattle.kdb_model.specs.Changes.{IsCommand};
@@ -15,10 +15,10 @@ use crate::plans::{Planned, plan};
 use crate::replies::Reply;
 use crate::states::State;
 use kdb_base::{MemoryOut, Point, Stop, Time};
-use princ_record::{Op, Rows};
+use princ_rows::{Op, Rows};
 use std::alloc::Global;
 
-#[tactic(auto, unfolding(princ_record::specs::Effects::effect))]
+#[tactic(auto, unfolding(princ_rows::specs::Effects::effect))]
 fn apply(rows: &mut Rows, op: Op) -> Result<(), MemoryOut>
     requires fits { IsOp (Some op) }
     requires room { IsRoom (effect (Some op) rows.old) }

@@ -4,10 +4,12 @@ ghost use Rattle.princ_record.specs.Princs.{are_attributes};
 ghost use Rattle.kdb_model.specs.Changes.{AreOptions, IsCommand, IsOwnName};
 
 use super::*;
+use kdb_base::limits::MAX_ROW_LEN;
 use kdb_base::{Blob, MemoryOut, Point, Refusal, Stop, Time};
 use princ_name::{Name, parse_own_name};
 use princ_record::names::is_printed;
-use princ_record::{Princ, Rows, decode, decode_policy, encoded_len};
+use princ_record::{Princ, decode, decode_policy, encoded_len};
+use princ_rows::{Rows, push_boxed};
 use std::marker::Model;
 use std::test::*;
 
@@ -48,7 +50,7 @@ fn new_database(rt: &HostRuntime) -> Result<Database, Fail> {
     let alloc = rt.alloc();
     let policy = decode_policy(alloc, DEFAULT)?;
     let mut policies = Vec::new(alloc);
-    policies.push(policy)?;
+    push_boxed(&mut policies, policy)?;
     let rows = match Rows::from_vecs(Vec::new(alloc), policies) {
         Some(rows) => rows,
         None => return Err(Fail::from(MemoryOut)),
@@ -229,11 +231,11 @@ fn each_command_does_its_step(rt: HostRuntime) -> Result<(), Fail> {
 // Rows with K/M alone.
 fn master_rows(rt: &HostRuntime) -> Result<Rows, Fail> {
     let master = decode(rt.alloc(), MASTER)?;
-    if encoded_len(&master) > 8000 {
+    if encoded_len(&master) > MAX_ROW_LEN {
         return Err(Fail::from(MemoryOut));
     }
     let mut princs = Vec::new(rt.alloc());
-    princs.push(master)?;
+    push_boxed(&mut princs, master)?;
     match Rows::from_vecs(princs, Vec::new(rt.alloc())) {
         Some(rows) => Ok(rows),
         None => Err(Fail::from(MemoryOut)),

@@ -10,6 +10,10 @@ before_told piece told = option_map (λ rest. piece ++ rest) told
 abbrev pub after_told : Option (List ℕ) → List ℕ → Option (List ℕ)
 after_told told piece = option_map (λ front. front ++ piece) told
 
+-- of an object that tells nothing
+abbrev pub untold : Option (List ℕ)
+untold = None
+
 -- nothing is left, where it is told
 abbrev pub IsSpent : Option (List ℕ) → Type 0
 IsSpent None = ⊤

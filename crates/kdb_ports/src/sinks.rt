@@ -1,11 +1,13 @@
 ghost use Rattle.std.specs.Prelude.{◌≡◌, ◌<◌, ◌≤◌, ◌++◌, ◌↔◌, [], List, ℕ, Option, Some, None, length, take, Contains, IfOk, IfSome, IsErr, OnErr, OnOk, IsTrue};
 ghost use Rattle.kdb_base.specs.Causes.{HasCause};
-ghost use Rattle.kdb_ports.specs.Told.{after_told};
+ghost use Rattle.std.specs.Io.KnownBytes.{Appends, Keeps};
+ghost use Rattle.kdb_ports.specs.Told.{after_told, untold};
+ghost use Rattle.kdb_ports.specs.Adapters.{AppendsFront};
 ghost use Rattle.kdb_ports.specs.Memory.{counted_up};
 
 use kdb_base::{Blob, Fails, MemoryOut};
 use std::alloc::Global;
-use std::io::Write;
+use std::io::{ErrorKind, Write};
 use std::marker::Model;
 use thiserror::Error;
 
@@ -121,39 +123,117 @@ impl Sink for MemorySink {
     }
 }
 
-/// A sink over any writer of std. It tells nothing of its content. What it took is flushed.
+/// How often a write or a flush is tried again that a signal interrupted.
+const RETRIES: u32 = 1000;
+
+/// Writes a front of the bytes once, and again where a signal interrupted that.
+fn write_front<W: Write>(writer: &mut W, bytes: &[u8]) -> Result<usize, WriteFailed>
+    ensures bound { IfOk result (λ n. n ≤ length bytes.now) }
+    ensures got { IfOk result (λ n. Appends (W.contents writer.old) (W.contents writer.new) (take n bytes.now)) }
+    ensures kept { OnErr result (Keeps (W.contents writer.old) (W.contents writer.new)) }
+{
+    for _ in 0..RETRIES {
+        match writer.write(bytes) {
+            Ok(count) => return Ok(count),
+            Err(error) => {
+                if error.kind() != ErrorKind::Interrupted {
+                    return Err(WriteFailed);
+                }
+            }
+        }
+    }
+    Err(WriteFailed)
+}
+
+/// Flushes what was written once, and again where a signal interrupted that.
+fn flush_all<W: Write>(writer: &mut W) -> Result<(), WriteFailed>
+    ensures { Keeps (W.contents writer.old) (W.contents writer.new) }
+{
+    for _ in 0..RETRIES {
+        match writer.flush() {
+            Ok(()) => return Ok(()),
+            Err(error) => {
+                if error.kind() != ErrorKind::Interrupted {
+                    return Err(WriteFailed);
+                }
+            }
+        }
+    }
+    Err(WriteFailed)
+}
+
+/// Writes a front of the bytes and flushes it. A writer that takes nothing has failed.
+fn write_some<W: Write>(writer: &mut W, bytes: &[u8]) -> Result<usize, WriteFailed>
+    ensures least { IfOk result (λ n. 0 < n) }
+    ensures bound { IfOk result (λ n. n ≤ length bytes.now) }
+    ensures got { IfOk result (λ n. Appends (W.contents writer.old) (W.contents writer.new) (take n bytes.now)) }
+    ensures part { OnErr result (AppendsFront (W.contents writer.old) (W.contents writer.new) bytes.now) }
+{
+    let count = write_front(writer, bytes)?;
+    if count == 0 {
+        return Err(WriteFailed);
+    }
+    flush_all(writer)?;
+    Ok(count)
+}
+
+/// A sink over any writer of std. What it took is flushed. It tells nothing of its content to those who use
+/// a [`Sink`]; its own clauses `got` and `part` say what the writer got, where std knows what that holds.
 #[derive(Drop)]
 pub struct WriterSink<W: Write> {
     writer: W,
     faults: u64,
 }
 
+impl<W: Write> Model for WriterSink<W> {
+    ghost use Rattle.kdb_ports.specs.Adapters.{WriterState};
+
+    ghost Value = { WriterState W };
+
+    ghost view = { λ s. record { writer = s.writer; faults = s.faults } };
+}
+
 impl<W: Write> WriterSink<W> {
-    pub fn new(writer: W) -> WriterSink<W> {
+    /// A sink over this writer, to which nothing was written yet.
+    pub fn new(writer: W) -> WriterSink<W>
+        ensures { result ≡ record { writer = writer; faults = 0 } }
+    {
         WriterSink { writer, faults: 0 }
+    }
+
+    /// The writer.
+    pub fn into_writer(self) -> W
+        ensures { result ≡ self.writer }
+    {
+        self.writer
     }
 }
 
-/// Writes a prefix of the bytes and flushes it.
-fn write_some<W: Write>(writer: &mut W, bytes: &[u8]) -> Option<usize>
-    ensures { IfSome result (λ n. n ≤ length bytes.now) }
-{
-    let count = writer.write(bytes).ok()?;
-    writer.flush().ok()?;
-    Some(count)
-}
-
 impl<W: Write> Sink for WriterSink<W> {
-    ghost taken = { λ _. None };
+    ghost taken = { λ _. untold };
 
     ghost faults = { λ s. s.faults };
 
-    fn write(&mut self, bytes: &[u8]) -> Result<usize, WriteFailed> {
+    /// Writes once and flushes. What a signal interrupted is tried again, 999 times at most. Where it fails,
+    /// the writer got a front of the bytes or nothing.
+    fn write(&mut self, bytes: &[u8]) -> Result<usize, WriteFailed>
+        requires { 0 < length bytes.now }
+        ensures least { IfOk result (λ n. 0 < n) }
+        ensures bound { IfOk result (λ n. n ≤ length bytes.now) }
+        ensures bytes { IfOk result (λ n. untold ≡ after_told untold (take n bytes.now)) }
+        ensures err { OnErr result (untold ≡ untold) }
+        ensures cause { HasCause self.old.faults self.new.faults result }
+
+        ensures got { IfOk result (λ n. Appends (W.contents self.old.writer) (W.contents self.new.writer) (take n bytes.now)) }
+        ensures part { OnErr result (AppendsFront (W.contents self.old.writer) (W.contents self.new.writer) bytes.now) }
+        ensures failed { OnErr result (self.new.faults ≡ counted_up self.old.faults) }
+        ensures whole { OnOk result (self.new.faults ≡ self.old.faults) }
+    {
         match write_some(&mut self.writer, bytes) {
-            Some(count) if count > 0 => Ok(count),
-            _ => {
+            Ok(count) => Ok(count),
+            Err(failed) => {
                 self.faults = self.faults.saturating_add(1);
-                Err(WriteFailed)
+                Err(failed)
             }
         }
     }

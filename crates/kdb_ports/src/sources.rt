@@ -1,10 +1,11 @@
 ghost use Rattle.std.specs.Prelude.{◌≡◌, ◌<◌, ◌≤◌, ◌↔◌, [], List, ℕ, Option, Some, None, length, take, drop, min, Contains, IfOk, IsErr, OnErr, OnOk, IsTrue};
 ghost use Rattle.kdb_base.specs.Causes.{HasCause};
-ghost use Rattle.kdb_ports.specs.Told.{before_told, IsSpent};
+ghost use Rattle.std.specs.Io.KnownBytes.{ReadConsumes};
+ghost use Rattle.kdb_ports.specs.Told.{before_told, untold, IsSpent};
 ghost use Rattle.kdb_ports.specs.Memory.{counted_up};
 
 use kdb_base::{Blob, Fails};
-use std::io::Read;
+use std::io::{ErrorKind, Read};
 use std::marker::Model;
 use thiserror::Error;
 
@@ -118,30 +119,75 @@ impl Source for MemorySource {
     }
 }
 
-/// A source over any reader of std. It tells nothing of its content.
+/// How often a read is tried again that a signal interrupted.
+const RETRIES: u32 = 1000;
+
+/// Reads once, and again where a signal interrupted that.
+fn read_some<R: Read>(reader: &mut R, into: &mut [u8]) -> Result<usize, ReadFailed>
+    ensures bound { IfOk result (λ n. n ≤ length into.new) }
+    ensures gave { ReadConsumes (R.remaining reader.old) (R.remaining reader.new) result into.new }
+{
+    for _ in 0..RETRIES {
+        match reader.read(into) {
+            Ok(count) => return Ok(count),
+            Err(error) => {
+                if error.kind() != ErrorKind::Interrupted {
+                    return Err(ReadFailed);
+                }
+            }
+        }
+    }
+    Err(ReadFailed)
+}
+
+/// A source over any reader of std. It tells nothing of its content to those who use a [`Source`]; its own
+/// clause `gave` says that it gives what the reader gave, where std knows what that has left.
 #[derive(Drop)]
 pub struct ReaderSource<R: Read> {
     reader: R,
     faults: u64,
 }
 
+impl<R: Read> Model for ReaderSource<R> {
+    ghost use Rattle.kdb_ports.specs.Adapters.{ReaderState};
+
+    ghost Value = { ReaderState R };
+
+    ghost view = { λ s. record { reader = s.reader; faults = s.faults } };
+}
+
 impl<R: Read> ReaderSource<R> {
-    pub fn new(reader: R) -> ReaderSource<R> {
+    /// A source over this reader, of which nothing is read yet.
+    pub fn new(reader: R) -> ReaderSource<R>
+        ensures { result ≡ record { reader = reader; faults = 0 } }
+    {
         ReaderSource { reader, faults: 0 }
     }
 }
 
 impl<R: Read> Source for ReaderSource<R> {
-    ghost left = { λ _. None };
+    ghost left = { λ _. untold };
 
     ghost faults = { λ s. s.faults };
 
-    fn read(&mut self, into: &mut [u8]) -> Result<usize, ReadFailed> {
-        match self.reader.read(into) {
+    /// Reads once. A read that a signal interrupted is tried again, 999 times at most.
+    fn read(&mut self, into: &mut [u8]) -> Result<usize, ReadFailed>
+        requires { 0 < length into.old }
+        ensures bound { IfOk result (λ n. n ≤ length into.new) }
+        ensures bytes { IfOk result (λ n. untold ≡ before_told (take n into.new) untold) }
+        ensures end { IfOk result (λ n. n ≡ 0 → IsSpent untold) }
+        ensures err { OnErr result (untold ≡ untold) }
+        ensures cause { HasCause self.old.faults self.new.faults result }
+
+        ensures gave { ReadConsumes (R.remaining self.old.reader) (R.remaining self.new.reader) result into.new }
+        ensures failed { OnErr result (self.new.faults ≡ counted_up self.old.faults) }
+        ensures whole { OnOk result (self.new.faults ≡ self.old.faults) }
+    {
+        match read_some(&mut self.reader, into) {
             Ok(count) => Ok(count),
-            Err(_) => {
+            Err(failed) => {
                 self.faults = self.faults.saturating_add(1);
-                Err(ReadFailed)
+                Err(failed)
             }
         }
     }

@@ -1,5 +1,5 @@
-//! Whole runs of the program in memory, with their replies from the manual: a test a topic. The crate
-//! has no code of its own.
+//! Whole runs of the program in memory and over a real folder, with their replies from the manual: a test
+//! a topic. The crate has no code of its own.
 #![tactic(auto)]
 
 #[cfg(test)]
@@ -7,6 +7,10 @@ mod databases;
 #[cfg(test)]
 mod faults;
 #[cfg(test)]
+mod folders;
+#[cfg(test)]
 mod lines;
+#[cfg(test)]
+mod rim;
 #[cfg(test)]
 mod runs;

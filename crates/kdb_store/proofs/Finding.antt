@@ -14,7 +14,7 @@ use Rattle.kdb_control.specs.declared.force.Force.{Force}
 use Rattle.kdb_control.specs.declared.force.Force.TheVariants.{Nothing, Is, Broken}
 use Rattle.kdb_control.specs.Moments.{HasInForce, LeavesEither, IsInForce}
 use Rattle.kdb_store.specs.Images.{image_in}
-use Rattle.kdb_store.specs.Places.{stash_in, found_with, found_by, found_in, Holds}
+use Rattle.kdb_store.specs.Places.{stash_in, image_under, found_with, found_by, found_in, Holds}
 use Rattle.kdb_store.specs.Steps.{next_choice, stash_choice, after_stash}
 use Rattle.kdb_store.specs.Moments.{IsSpare, HasFound, HasStash, WouldFind, FindsEither}
 use Rattle.kdb_store.specs.declared.image.Image.{Image}
@@ -41,8 +41,8 @@ by_force : (a b : Files) (spare : ℕ) (force : Force) → IsSpare spare force �
 by_force a b spare Nothing free others = refl
 by_force a b spare (Broken place) free others = refl
 by_force a b spare (Is choice) free others =
-    ap (λ (l : List ℕ). found_with choice (stash_in choice a) (image_in l)) (others choice.image free.0 free.1.0)
-    ∙ ap (λ (s : Option (List ℕ)). found_with choice s (image_in (b choice.image))) (stash_alike a b spare choice free.1.1 others)
+    ap (λ (l : List ℕ). found_with choice (stash_in choice a) (image_under choice.format l)) (others choice.image free.0 free.1.0)
+    ∙ ap (λ (s : Option (List ℕ)). found_with choice s (image_under choice.format (b choice.image))) (stash_alike a b spare choice free.1.1 others)
 
 pub found_alike : (a b : Files) (spare : ℕ) (force : Force) → IsSpare spare force → in_force (a 0) ≡ force → in_force (b 0) ≡ force → ((g : ℕ) → g ≢ 0 → g ≢ spare → a g ≡ b g) → found_in a ≡ found_in b
 unfolding found_in
@@ -63,11 +63,11 @@ found_chosen a b choice low force others =
     ap (λ (f : Force). found_by f a) force ∙ by_force a b 0 (Is choice) (control_spare choice low) (λ g some _. others g some)
 
 -- a choice, an image and a stash in their files
-pub found_parts : (files : Files) (choice : Choice) (image : Image) (stash : Option (List ℕ)) → image_in (files choice.image) ≡ Some image → stash_in choice files ≡ stash → found_by (Is choice) files ≡ Ok (record { control = choice; image = image; stash = stash })
+pub found_parts : (files : Files) (choice : Choice) (image : Image) (stash : Option (List ℕ)) → image_under choice.format (files choice.image) ≡ Some image → stash_in choice files ≡ stash → found_by (Is choice) files ≡ Ok (record { control = choice; image = image; stash = stash })
 found_parts files choice image stash text kept =
     ap (found_with choice (stash_in choice files)) text ∙ ap (λ (s : Option (List ℕ)). found_with choice s (Some image)) kept
 
-pub found_made : (files : Files) (choice : Choice) (image : Image) (stash : Option (List ℕ)) → in_force (files 0) ≡ Is choice → image_in (files choice.image) ≡ Some image → stash_in choice files ≡ stash → found_in files ≡ Ok (record { control = choice; image = image; stash = stash })
+pub found_made : (files : Files) (choice : Choice) (image : Image) (stash : Option (List ℕ)) → in_force (files 0) ≡ Is choice → image_under choice.format (files choice.image) ≡ Some image → stash_in choice files ≡ stash → found_in files ≡ Ok (record { control = choice; image = image; stash = stash })
 unfolding found_in
 found_made files choice image stash force text kept = ap (λ (f : Force). found_by f files) force ∙ found_parts files choice image stash text kept
 
@@ -75,7 +75,7 @@ pub found_none : (files : Files) → in_force (files 0) ≡ Nothing → found_in
 unfolding found_in
 found_none files force = ap (λ (f : Force). found_by f files) force
 
-pub found_damaged : (files : Files) (choice : Choice) → in_force (files 0) ≡ Is choice → image_in (files choice.image) ≡ None → found_in files ≡ Err (Damaged choice.image 0)
+pub found_damaged : (files : Files) (choice : Choice) → in_force (files 0) ≡ Is choice → image_under choice.format (files choice.image) ≡ None → found_in files ≡ Err (Damaged choice.image 0)
 unfolding found_in
 found_damaged files choice force text = ap (λ (f : Force). found_by f files) force ∙ ap (found_with choice (stash_in choice files)) text
 
@@ -103,16 +103,16 @@ parts_with choice stash None opened is = absurd cc
 force_by : (force : Force) (files : Files) (opened : Opened) → found_by force files ≡ Ok opened → force ≡ Is opened.control
 force_by Nothing files opened is = absurd cc
 force_by (Broken place) files opened is = absurd cc
-force_by (Is choice) files opened is = ap Is (parts_with choice (stash_in choice files) (image_in (files choice.image)) opened is).control
+force_by (Is choice) files opened is = ap Is (parts_with choice (stash_in choice files) (image_under choice.format (files choice.image)) opened is).control
 
 pub force_found : (files : Files) (opened : Opened) → found_in files ≡ Ok opened → in_force (files 0) ≡ Is opened.control
 unfolding found_in
 force_found files opened is = force_by (in_force (files 0)) files opened is
 
-pub parts_found : (files : Files) (opened : Opened) → found_in files ≡ Ok opened → IsMadeOf opened.control (stash_in opened.control files) (image_in (files opened.control.image)) opened
+pub parts_found : (files : Files) (opened : Opened) → found_in files ≡ Ok opened → IsMadeOf opened.control (stash_in opened.control files) (image_under opened.control.format (files opened.control.image)) opened
 unfolding found_in
 parts_found files opened is =
-    parts_with opened.control (stash_in opened.control files) (image_in (files opened.control.image)) opened (ap (λ (f : Force). found_by f files) (sym (force_found files opened is)) ∙ is)
+    parts_with opened.control (stash_in opened.control files) (image_under opened.control.format (files opened.control.image)) opened (ap (λ (f : Force). found_by f files) (sym (force_found files opened is)) ∙ is)
 
 pub holds_force : (opened : Opened) (v : View) → Holds opened v → HasInForce (Is opened.control) v
 holds_force opened v holds c now = force_found c opened (holds.each c now)
@@ -122,22 +122,27 @@ holds_stash opened v holds c now = (parts_found c opened (holds.each c now)).sta
 
 -- ---- what would be found
 
+-- a file of format 1 spells an image
+image_of_one : (format : ℕ) (text : List ℕ) → format ≡ 1 → image_under format text ≡ image_in text
+unfolding image_under
+image_of_one format text is = rw (eq-eqb format 1 is) refl
+
 -- a new image in another file than the stash's
-pub would_find_image : (v : View) (next : Choice) (file : ℕ) (text : List ℕ) (image : Image) (stash : Option (List ℕ)) → next.image ≡ file → (next.stash ≢ 0 → next.stash ≢ file)
+pub would_find_image : (v : View) (next : Choice) (file : ℕ) (text : List ℕ) (image : Image) (stash : Option (List ℕ)) → next.format ≡ 1 → next.image ≡ file → (next.stash ≢ 0 → next.stash ≢ file)
     → image_in text ≡ Some image → HasStash next stash v → WouldFind next file text (record { control = next; image = image; stash = stash }) v
-would_find_image v next file text image stash here apart is has c now =
+would_find_image v next file text image stash one here apart is has c now =
     let files : Files = with_file file text c in
     found_parts files next image stash
-    (ap (λ (g : ℕ). image_in (files g)) here ∙ ap image_in (with_file-same file text c) ∙ is)
+    (image_of_one next.format (files next.image) one ∙ ap (λ (g : ℕ). image_in (files g)) here ∙ ap image_in (with_file-same file text c) ∙ is)
     (stash_alike files c file next apart (λ g _ other. with_file-other file g text c other) ∙ has c now)
 
 -- a new stash in another file than the image's
 pub would_find_stash : (v : View) (next : Choice) (file : ℕ) (bytes : List ℕ) (image : Image) → next.stash ≡ file → 1 ≤ file → next.image ≢ file
-    → ((c : Files) → v.images c → image_in (c next.image) ≡ Some image) → WouldFind next file bytes (record { control = next; image = image; stash = Some bytes }) v
+    → ((c : Files) → v.images c → image_under next.format (c next.image) ≡ Some image) → WouldFind next file bytes (record { control = next; image = image; stash = Some bytes }) v
 would_find_stash v next file bytes image here low apart has c now =
     let files : Files = with_file file bytes c in
     found_parts files next image (Some bytes)
-    (ap image_in (with_file-other file next.image bytes c apart) ∙ has c now)
+    (ap (image_under next.format) (with_file-other file next.image bytes c apart) ∙ has c now)
     (stash_of_one next files (λ none. absurd (omega (arith, here, low, none))) ∙ ap (λ (g : ℕ). Some (files g)) here ∙ ap Some (with_file-same file bytes c))
 
 -- after a change of the rows, whose image is spelled in the spare image file
@@ -146,7 +151,7 @@ pub would_change : (v : View) (now next : Choice) (file : ℕ) (text : List ℕ)
 unfolding stash_in
 would_change v now next file text image stash chosen here spare is has =
     subst (λ (n : Choice). WouldFind n file text (record { control = next_choice now; image = image; stash = stash }) v) (sym chosen)
-    (would_find_image v (next_choice now) file text image stash (ap (λ (n : Choice). n.image) (sym chosen) ∙ here) spare.1.1 is has)
+    (would_find_image v (next_choice now) file text image stash refl (ap (λ (n : Choice). n.image) (sym chosen) ∙ here) spare.1.1 is has)
 
 -- after a change of the stash, which stands in the spare stash file
 pub would_restash : (v : View) (opened : Opened) (next : Choice) (file : ℕ) (bytes : List ℕ) → next ≡ stash_choice opened.control → next.stash ≡ file → 1 ≤ file → IsSpare file (Is opened.control)

@@ -3,7 +3,7 @@ use Rattle.std.proofs.Common.{◌≡◌, ℕ, ◌+◌, ◌≤◌, List, length}
 use Rattle.std.specs.Prelude.{IsTrue}
 use Rattle.policy_rules.specs.Names.{is_policy_name}
 use Rattle.policy_rules.specs.Rules.{Rules}
-use Rattle.princ_record.specs.Entries.{length-policy}
+use Rattle.princ_record.specs.RowLimits.{length-policy}
 use Rattle.princ_record.specs.Policies.{policy, short_name}
 
 pub policy_length : (p : Rules) → length (policy p) ≡ 16 + length p.name

@@ -13,8 +13,7 @@ use Rattle.kdb_control.specs.Force.{in_force}
 use Rattle.kdb_control.specs.declared.force.Force.{Force}
 use Rattle.kdb_control.specs.declared.force.Force.TheVariants.{Nothing, Is, Broken}
 use Rattle.kdb_control.specs.Moments.{HasInForce, Erases}
-use Rattle.kdb_store.specs.Images.{image_in}
-use Rattle.kdb_store.specs.Places.{found_by, found_in}
+use Rattle.kdb_store.specs.Places.{image_under, found_by, found_in}
 use Rattle.kdb_store.specs.Moments.{HasNone, HasFound, HasStash, FindsEither, Destroys, RecoversToNone}
 use Rattle.kdb_store.specs.Steps.{first_stash}
 use Rattle.kdb_store.specs.declared.opened.Opened.{Opened}
@@ -35,10 +34,10 @@ nothing_chosen (Refused refusal) files chooses = refuses (in_force (files 0)) fi
 nothing_chosen (Halt halt) files chooses = tt
 
 -- no image in the file that is named
-pub no_image : (stop : Stop) (files : Files) (choice : Choice) (file : ℕ) → in_force (files 0) ≡ Is choice → file ≡ choice.image → FindsImage (Err stop) file (image_in (files file)) → Answers (Err stop) files
-no_image (Refused refusal) files choice file force same found =
-    found_damaged files choice force (ap (λ (g : ℕ). image_in (files g)) (sym same) ∙ found.1) ∙ ap (λ (g : ℕ). Err (Damaged g 0)) (sym same) ∙ ap Err (sym found.0)
-no_image (Halt halt) files choice file force same found = tt
+pub no_image : (stop : Stop) (files : Files) (choice : Choice) (format file : ℕ) → in_force (files 0) ≡ Is choice → format ≡ choice.format → file ≡ choice.image → FindsImage (Err stop) file (image_under format (files file)) → Answers (Err stop) files
+no_image (Refused refusal) files choice format file force fits same found =
+    found_damaged files choice force (ap (λ (k : ℕ). image_under k (files choice.image)) (sym fits) ∙ ap (λ (g : ℕ). image_under format (files g)) (sym same) ∙ found.1) ∙ ap (λ (g : ℕ). Err (Damaged g 0)) (sym same) ∙ ap Err (sym found.0)
+no_image (Halt halt) files choice format file force fits same found = tt
 
 -- ---- making
 

@@ -9,6 +9,7 @@ use Rattle.std.proofs.lemmas.Option.{cond_some}
 use Rattle.std.proofs.lemmas.List.{append-nil, length-append, length-map, map-append}
 use Rattle.std.proofs.lemmas.Grind.{flat_map-append}
 use Rattle.std.proofs.lemmas.List.Folds.{flat_map-map}
+use Rattle.kdb_base.specs.Limits.{most_rows}
 use Rattle.policy_rules.specs.Rules.{Rules}
 use Rattle.kdb_format.specs.declared.faults.FormatFault.{FormatFault}
 use Rattle.kdb_format.specs.declared.faults.FormatFault.TheVariants as faults
@@ -18,15 +19,15 @@ use Rattle.kdb_format.specs.Fields.{IsBytes, rest_fits}
 use Rattle.kdb_format.specs.Laws.{big_field, list_field, checked_field}
 use Rattle.kdb_format.specs.Readings.{checked, big_at, list_at, counted_list_at}
 use Rattle.kdb_format.specs.Spellings.{big, counted_list}
-use Rattle.princ_record.specs.Rows.{RowLists, AreRows}
-use Rattle.princ_record.specs.Undoing.{finished, dropped_princ, dropped_policy, is_left}
-use Rattle.princ_record.specs.declared.begun.Begun.{Begun}
-use Rattle.princ_record.specs.declared.begun.Begun.TheVariants as begun
+use Rattle.princ_rows.specs.Rows.{RowLists, AreRows}
+use Rattle.princ_rows.specs.Undoing.{finished, dropped_princ, dropped_policy, is_left}
+use Rattle.princ_rows.specs.declared.begun.Begun.{Begun}
+use Rattle.princ_rows.specs.declared.begun.Begun.TheVariants as begun
 use Rattle.princ_record.specs.declared.princs.Princ.{Princ as Principal}
-use Rattle.princ_record.proofs.Orders.{drop_princ_rows, drop_policy_rows}
-use Rattle.princ_record.specs.Effects.{drop_princ, drop_policy}
+use Rattle.princ_rows.proofs.Orders.{drop_princ_rows, drop_policy_rows}
+use Rattle.princ_rows.specs.Effects.{drop_princ, drop_policy}
 use Rattle.kdb_store.specs.StoredRows.{row_at, row, rows_at, stored, princs_of, lists_of, is_parted, are_in_order, are_rows}
-use Rattle.princ_record.specs.Entries.{IsRow}
+use Rattle.princ_record.specs.RowLimits.{IsRow}
 use Rattle.princ_record.specs.Policies.{IsPolicy}
 use Rattle.kdb_store.specs.Laws.{lists_stored, stored_parted, row_field, rows_pass, test_of_rows, lists_fit}
 use Rattle.kdb_store.specs.Leaving.{left}
@@ -176,11 +177,11 @@ left_length : {X : Type 0} (p : X → Bool) (xs : List X) → length (filter p x
 left_length p xs = omega (arith, length-filter_both p (λ x. not (p x)) (λ x. refl) xs)
 
 -- they are no more than the rows
-left_few : (p : Principal → Bool) (q : Rules → Bool) (r : RowLists) → AreRows r → length (filter p r.princs) + length (filter q r.policies) ≤ 100000
+left_few : (p : Principal → Bool) (q : Rules → Bool) (r : RowLists) → AreRows r → length (filter p r.princs) + length (filter q r.policies) ≤ most_rows
 left_few p q r are = let few = are.few in omega (arith, left_length p r.princs, left_length q r.policies)
 
 pub few_counted : (p : Principal → Bool) (q : Rules → Bool) (r : RowLists) (princs : List Principal) (policies : List Rules) (m n : ℕ) → AreRows r → princs ≡ r.princs → policies ≡ r.policies
-    → m ≡ length (filter p princs) → n ≡ length (filter q policies) → m + n ≤ 100000
+    → m ≡ length (filter p princs) → n ≡ length (filter q policies) → m + n ≤ most_rows
 few_counted p q r princs policies m n are a b c d =
     let here : m ≡ length (filter p r.princs) = c ∙ ap (λ (xs : List Principal). length (filter p xs)) a in
     let there : n ≡ length (filter q r.policies) = d ∙ ap (λ (xs : List Rules). length (filter q xs)) b in

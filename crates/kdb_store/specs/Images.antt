@@ -5,7 +5,7 @@ use Rattle.kdb_format.specs.Readings.{Reading, ◌>>=◌, ◌>>◌, done, checke
 use Rattle.kdb_format.specs.Spellings.{counted, counted_list}
 use Rattle.kdb_format.specs.Moments.{point_at, point, IsPoint}
 use Rattle.princ_name.specs.Realms.{is_realm, IsRealm}
-use Rattle.princ_record.specs.Rows.{AreRows}
+use Rattle.princ_rows.specs.Rows.{AreRows}
 use Rattle.kdb_store.specs.StoredRows.{row, rows_at, stored}
 use Rattle.kdb_store.specs.declared.image.Image.{Image}
 

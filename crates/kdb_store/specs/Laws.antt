@@ -5,6 +5,7 @@ use Rattle.std.specs.List.{All, AllByRecursion, list_all}
 use Rattle.std.proofs.lemmas.Bool.{and_parts, leb-true, le-leb, eqb-true}
 use Rattle.std.proofs.lemmas.List.{append-nil, length-append, length-map, nil_from_length}
 use Rattle.std.proofs.lemmas.List.Elements.{All-append, All-map, All-from_recursion, recursion_from_All}
+use Rattle.kdb_base.specs.Limits.{most_rows}
 use Rattle.policy_rules.specs.Rules.{Rules}
 use Rattle.kdb_base.specs.declared.moments.Point.{Point}
 use Rattle.kdb_format.specs.Readings.{Reading, ◌>>◌, done, inside, literal_at}
@@ -12,10 +13,10 @@ use Rattle.kdb_format.specs.Spellings.{big, counted_list}
 use Rattle.kdb_format.specs.Moments.{point_field}
 use Rattle.kdb_format.specs.Fields.{IsField}
 use Rattle.kdb_format.specs.Laws.{same_field, first_field, then_field, after_field, made_field, choice_field, refuse_field, done_field, inside_field, big_field, literal_field, counted_field, checked_field, counted_list_field}
-use Rattle.princ_record.specs.Entries.{IsRow, may_be_long, policy_short}
+use Rattle.princ_record.specs.RowLimits.{IsRow, may_be_long, policy_short}
 use Rattle.princ_record.specs.Policies.{policy_at, policy, IsPolicy, policy_field}
 use Rattle.princ_record.specs.Princs.{princ_at, princ, IsPrinc, princ_field}
-use Rattle.princ_record.specs.Rows.{RowLists, AreRows, princ_keys, policy_keys, rises_from, in_order, rises}
+use Rattle.princ_rows.specs.Rows.{RowLists, AreRows, princ_keys, policy_keys, rises_from, in_order, rises}
 use Rattle.princ_record.specs.declared.princs.Princ.{Princ as Principal}
 use Rattle.kdb_store.specs.StoredRows.{kind_of, record_text, IsStored, long_princ_at, long_policy_at, princ_row_at, policy_row_at, row_of, row_at, row, stored, princs_of, policies_of, lists_of, is_parted, are_in_order, are_rows, rows_at}
 use Rattle.princ_name.specs.Realms.{is_realm, IsRealm, realm_length}
@@ -134,7 +135,7 @@ stored_lists (Policy p ∷ rows) e =
 pub rows_pass : (r : RowLists) → are_in_order r ≡ true → All IsRow r.princs → All IsPolicy r.policies → AreRows r
 unfolding are_in_order
 rows_pass r pass princs policies =
-    let parts = and_parts (nat_le (length r.princs + length r.policies) 100000) (rises_from None (princ_keys r.princs) && rises_from None (policy_keys r.policies)) pass in
+    let parts = and_parts (nat_le (length r.princs + length r.policies) most_rows) (rises_from None (princ_keys r.princs) && rises_from None (policy_keys r.policies)) pass in
     let orders = and_parts (rises_from None (princ_keys r.princs)) (rises_from None (policy_keys r.policies)) parts.1 in
     record {
       princ_order = in_order (princ_keys r.princs) orders.0;
@@ -146,7 +147,7 @@ rows_pass r pass princs policies =
 
 pub test_of_rows : (r : RowLists) → AreRows r → are_in_order r ≡ true
 unfolding are_in_order
-test_of_rows r are = rw (le-leb (length r.princs + length r.policies) 100000 are.few, rises (princ_keys r.princs) are.princ_order, rises (policy_keys r.policies) are.policy_order) refl
+test_of_rows r are = rw (le-leb (length r.princs + length r.policies) most_rows are.few, rises (princ_keys r.princs) are.princ_order, rises (policy_keys r.policies) are.policy_order) refl
 
 princs_fit : (rows : List StoredRow) → AllByRecursion IsStored rows → AllByRecursion IsRow (princs_of rows)
 unfolding princs_of

@@ -1,7 +1,7 @@
 -- Rows without those that a change drops.
 use Rattle.std.specs.Prelude.{ℕ, List, Option, filter}
-use Rattle.princ_record.specs.Rows.{RowLists}
-use Rattle.princ_record.specs.Undoing.{is_left}
+use Rattle.princ_rows.specs.Rows.{RowLists}
+use Rattle.princ_rows.specs.Undoing.{is_left}
 
 -- the rows but for the principal of the one key, and the policy of the other
 unfoldable pub left : Option (List ℕ) → Option (List ℕ) → RowLists → RowLists

@@ -9,7 +9,7 @@ use Rattle.kdb_control.specs.Choice.{Choice}
 use Rattle.kdb_control.specs.Force.{in_force}
 use Rattle.kdb_control.specs.declared.force.Force.{Force}
 use Rattle.kdb_control.specs.declared.force.Force.TheVariants.{Nothing, Is, Broken}
-use Rattle.princ_record.specs.Rows.{RowLists}
+use Rattle.princ_rows.specs.Rows.{RowLists}
 use Rattle.kdb_store.specs.Images.{image_in}
 use Rattle.kdb_store.specs.declared.image.Image.{Image}
 use Rattle.kdb_store.specs.declared.opened.Opened.{Opened}
@@ -43,6 +43,10 @@ place_of o = record {
 unfoldable pub stash_in : Choice → Files → Option (List ℕ)
 stash_in choice files = if nat_eq choice.stash 0 then None else Some (files choice.stash)
 
+-- the image that a file of this format spells: images stand in files of format 1
+unfoldable pub image_under : ℕ → List ℕ → Option Image
+image_under format bytes = if nat_eq format 1 then image_in bytes else None
+
 abbrev pub found_with : Choice → Option (List ℕ) → Option Image → Result Opened Refusal
 found_with choice stash (Some image) = Ok (record { control = choice; image = image; stash = stash })
 found_with choice stash None = Err (Damaged choice.image 0)
@@ -50,7 +54,7 @@ found_with choice stash None = Err (Damaged choice.image 0)
 abbrev pub found_by : Force → Files → Result Opened Refusal
 found_by Nothing files = Err NotADatabase
 found_by (Broken place) files = Err (Damaged 0 place)
-found_by (Is choice) files = found_with choice (stash_in choice files) (image_in (files choice.image))
+found_by (Is choice) files = found_with choice (stash_in choice files) (image_under choice.format (files choice.image))
 
 -- The newer open control slot names the image's file and that of the stash. Without an open slot there is no database; a
 -- slot or an image that breaks its grammar is damaged at its place. A stash is any bytes, and never damaged.

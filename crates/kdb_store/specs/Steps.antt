@@ -4,12 +4,12 @@ use Rattle.kdb_base.specs.Moment.{Moment}
 use Rattle.kdb_base.specs.declared.moments.Point.{Point}
 use Rattle.kdb_control.specs.Choice.{Choice}
 use Rattle.kdb_control.specs.Force.{turn_after}
-use Rattle.princ_record.specs.Effects.{effect}
-use Rattle.princ_record.specs.Entries.{entry_len}
-use Rattle.princ_record.specs.Rows.{RowLists}
-use Rattle.princ_record.specs.Undoing.{finished}
-use Rattle.princ_record.specs.declared.begun.Begun.{Begun}
-use Rattle.princ_record.specs.declared.entries.Op.{Op}
+use Rattle.princ_rows.specs.Effects.{effect}
+use Rattle.princ_rows.specs.Entries.{entry_len}
+use Rattle.princ_rows.specs.Rows.{RowLists}
+use Rattle.princ_rows.specs.Undoing.{finished}
+use Rattle.princ_rows.specs.declared.begun.Begun.{Begun}
+use Rattle.princ_rows.specs.declared.entries.Op.{Op}
 use Rattle.kdb_store.specs.Places.{Place}
 use Rattle.kdb_store.specs.declared.image.Image.{Image}
 use Rattle.kdb_store.specs.declared.opened.Opened.{Opened}
@@ -51,14 +51,15 @@ abbrev pub first_stash : Option (List ℕ) → ℕ
 first_stash (Some bytes) = 5
 first_stash None = 0
 
--- the choice of files of a database that was made anew: its image in the first of the image files, its log in the first of
--- the log files, and its stash, where it has one, in the first of the stash files
+-- the choice of files of a database that was made anew: its image, of format 1, in the first of the image files, its
+-- log in the first of the log files, and its stash, where it has one, in the first of the stash files
 abbrev pub first_choice : Point → ℕ → ℕ → Option (List ℕ) → Choice
-first_choice base size block stash = record { turn = 0; image = 1; log = 3; stash = first_stash stash; size = size; block = block; base = base }
+first_choice base size block stash = record { format = 1; turn = 0; image = 1; log = 3; stash = first_stash stash; size = size; block = block; base = base }
 
--- the choice of files that comes next: the next turn, the image in the other image file, and all else the same
+-- the choice of files that comes next: the next turn, the image, of format 1, in the other image file, and all else
+-- the same
 abbrev pub next_choice : Choice → Choice
-next_choice c = record { turn = turn_after c.turn; image = 3 - c.image; log = c.log; stash = c.stash; size = c.size; block = c.block; base = c.base }
+next_choice c = record { format = 1; turn = turn_after c.turn; image = 3 - c.image; log = c.log; stash = c.stash; size = c.size; block = c.block; base = c.base }
 
 -- the stash file that is not in force: the first of the two where there is no stash
 unfoldable pub spare_stash : ℕ → ℕ
@@ -66,7 +67,7 @@ spare_stash file = if nat_eq file 5 then 6 else 5
 
 -- the choice of files after a change of the stash: the next turn, the stash in the spare stash file, and all else the same
 abbrev pub stash_choice : Choice → Choice
-stash_choice c = record { turn = turn_after c.turn; image = c.image; log = c.log; stash = spare_stash c.stash; size = c.size; block = c.block; base = c.base }
+stash_choice c = record { format = c.format; turn = turn_after c.turn; image = c.image; log = c.log; stash = spare_stash c.stash; size = c.size; block = c.block; base = c.base }
 
 -- the image after a change
 abbrev pub changed : Op → Point → Image → Image

@@ -1,12 +1,13 @@
 -- The rows of an image, one by one: principals, and then policies.
 use Rattle.std.specs.Prelude.{ℕ, Bool, true, ◌&&◌, ◌+◌, nat_eq, nat_le, if◌then◌else◌, List, [], ◌∷◌, ◌++◌, length, map, None}
+use Rattle.kdb_base.specs.Limits.{most_rows}
 use Rattle.kdb_format.specs.Readings.{Reading, ◌>>=◌, done, checked, refuse, inside, big_at, counted_list_at}
 use Rattle.kdb_format.specs.Spellings.{big}
 use Rattle.policy_rules.specs.Rules.{Rules}
-use Rattle.princ_record.specs.Entries.{IsRow, may_be_long}
+use Rattle.princ_record.specs.RowLimits.{IsRow, may_be_long}
 use Rattle.princ_record.specs.Policies.{policy_at, policy, IsPolicy}
 use Rattle.princ_record.specs.Princs.{princ_at, princ}
-use Rattle.princ_record.specs.Rows.{RowLists, princ_keys, policy_keys, rises_from}
+use Rattle.princ_rows.specs.Rows.{RowLists, princ_keys, policy_keys, rises_from}
 use Rattle.princ_record.specs.declared.princs.Princ.{Princ as Principal}
 use Rattle.kdb_store.specs.declared.stored.ReadRows.{ReadRows}
 use Rattle.kdb_store.specs.declared.stored.StoredRow.{StoredRow}
@@ -22,7 +23,7 @@ unfoldable pub record_text : StoredRow → List ℕ
 record_text (Princ p) = princ p
 record_text (Policy p) = policy p
 
--- a principal's row has at most 8000 bytes
+-- a record that has a row
 abbrev pub IsStored : StoredRow → Type 0
 IsStored (Princ p) = IsRow p
 IsStored (Policy p) = IsPolicy p
@@ -91,9 +92,9 @@ is_parted [] = true
 is_parted (Princ p ∷ rows) = is_parted rows
 is_parted (Policy p ∷ rows) = nat_eq (length (princs_of rows)) 0 && is_parted rows
 
--- at most 100000 rows, each kind in the byte order of its keys, and each key once
+-- no more rows than there may be, each kind in the byte order of its keys, and each key once
 unfoldable pub are_in_order : RowLists → Bool
-are_in_order r = nat_le (length r.princs + length r.policies) 100000 && (rises_from None (princ_keys r.princs) && rises_from None (policy_keys r.policies))
+are_in_order r = nat_le (length r.princs + length r.policies) most_rows && (rises_from None (princ_keys r.princs) && rises_from None (policy_keys r.policies))
 
 abbrev pub are_rows : List StoredRow → Bool
 are_rows rows = is_parted rows && are_in_order (lists_of rows)

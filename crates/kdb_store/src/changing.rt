@@ -8,21 +8,21 @@ ghost use Rattle.kdb_disk.specs.View.{View};
 ghost use Rattle.kdb_disk.specs.Moments.{LeavesOnly};
 ghost use Rattle.kdb_control.specs.declared.force.Force.TheVariants.{Is};
 ghost use Rattle.kdb_control.specs.Moments.{HasInForce};
-ghost use Rattle.princ_record.specs.Effects.{effect, IsRoom};
-ghost use Rattle.princ_record.specs.Entries.{IsOp};
-ghost use Rattle.princ_record.specs.Undoing.{IsNewName};
+ghost use Rattle.princ_rows.specs.Effects.{effect, IsRoom};
+ghost use Rattle.princ_rows.specs.Entries.{IsOp};
+ghost use Rattle.princ_rows.specs.Undoing.{IsNewName};
 ghost use Rattle.kdb_store.specs.declared.opened.Opened.{Opened as OpenedFiles};
 ghost use Rattle.kdb_store.specs.Places.{Holds};
 ghost use Rattle.kdb_store.specs.Steps.{next_choice, with_begun, after_change};
 ghost use Rattle.kdb_store.specs.Moments.{IsSpare, HasFound, HasStash, FindsEither};
 
-use crate::image::{Image, changed_text};
+use crate::image::{FORMAT, Image, changed_text};
 use crate::opened::Opened;
 use crate::putting::{image_file, put_into_force};
 use kdb_base::{Halt, Point};
 use kdb_control::Control;
 use kdb_disk::Disk;
-use princ_record::{Begun, Op};
+use princ_rows::{Begun, Op};
 use std::alloc::Global;
 
 // The choice of files that comes next.
@@ -32,6 +32,7 @@ fn next_control(now: &Control) -> Control
     ensures spare { IsSpare result.image (Is now.now) }
 {
     Control {
+        format: FORMAT,
         turn: now.turn_after(),
         image: 3 - now.image,
         log: now.log,

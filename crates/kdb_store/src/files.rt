@@ -15,14 +15,14 @@ ghost use Rattle.kdb_control.specs.Force.{in_force};
 ghost use Rattle.kdb_control.specs.Moments.{HasInForce, IsDurable};
 ghost use Rattle.princ_name.specs.Realms.{IsRealm};
 ghost use Rattle.kdb_store.specs.Images.{image_in};
-ghost use Rattle.kdb_store.specs.Places.{place_of, stash_in, found_in, Holds};
+ghost use Rattle.kdb_store.specs.Places.{place_of, stash_in, image_under, found_in, Holds};
 ghost use Rattle.kdb_store.specs.Steps.{created, first_choice, first_stash};
 ghost use Rattle.kdb_store.specs.Stores.{Answers, AnswersMade, AnswersEnded, FindsImage, Chooses, IsChosen};
 ghost use Rattle.kdb_store.specs.Moments.{Creates, Destroys, RecoversToNone, FindsEither, HasNone, HasStash};
 ghost use Rattle.kdb_store.specs.declared.opened.Opened.{Opened as OpenedFiles};
 ghost use Rattle.kdb_store.specs.declared.image.Image.{Image as Pictured};
 
-use crate::image::{Image, ImageFormat, image_text};
+use crate::image::{FORMAT, Image, ImageFormat, image_text};
 use crate::opened::Opened;
 use crate::putting::{image_file, put_into_force, stash_file};
 use kdb_base::{Blob, Halt, MemoryOut as NoMemory, Point, Refusal, Stop};
@@ -30,7 +30,7 @@ use kdb_control::{Control, ControlStop, erase, read};
 use kdb_disk::{Disk, DiskFailed, FileReader, replace_file, settle_all};
 use kdb_format::{FormatFault, read_whole};
 use princ_name::Realm;
-use princ_record::Rows;
+use princ_rows::Rows;
 use std::alloc::Global;
 
 // The number of the control file.
@@ -62,12 +62,15 @@ fn read_file<D: Disk>(alloc: Global, disk: &mut D, file: u8) -> Result<FileReade
     }
 }
 
-// The image that the bytes of a file spell.
-#[tactic(auto, unfolding(crate::specs::Images::image_in))]
-fn image_of(alloc: Global, bytes: &[u8], file: u8) -> Result<Image, Stop>
-    ensures found { FindsImage result file (image_in bytes.now) }
+// The image that the bytes of a file of this format spell.
+#[tactic(auto, unfolding(crate::specs::Images::image_in, crate::specs::Places::image_under))]
+fn image_of(alloc: Global, format: u16, bytes: &[u8], file: u8) -> Result<Image, Stop>
+    ensures found { FindsImage result file (image_under format bytes.now) }
     ensures cause { result ≡ Err (Halts DiskFault) → ⊥ }
 {
+    if format != FORMAT {
+        return Err(Stop::Refused(Refusal::Damaged { file, place: 0 }));
+    }
     match read_whole::<ImageFormat>(alloc, bytes) {
         Ok(image) => Ok(image),
         Err(FormatFault::Malformed) => Err(Stop::Refused(Refusal::Damaged { file, place: 0 })),
@@ -75,17 +78,17 @@ fn image_of(alloc: Global, bytes: &[u8], file: u8) -> Result<Image, Stop>
     }
 }
 
-// The image in a file.
-fn read_image<D: Disk>(alloc: Global, disk: &mut D, file: u8) -> Result<Image, Stop>
+// The image in a file of this format.
+fn read_image<D: Disk>(alloc: Global, disk: &mut D, format: u16, file: u8) -> Result<Image, Stop>
     requires { file < 7 }
-    ensures found { D.tells → FindsImage result file (image_in ((D.view disk.old).seen file)) }
+    ensures found { D.tells → FindsImage result file (image_under format ((D.view disk.old).seen file)) }
     ensures keeps { D.tells → Keeps (D.view disk.old) (D.view disk.new) }
     ensures same { D.loans disk.new ≡ D.loans disk.old }
     ensures later { D.faults disk.old ≤ D.faults disk.new }
     ensures cause { result ≡ Err (Halts DiskFault) → Rose (D.faults disk.old) (D.faults disk.new) }
 {
     match read_file(alloc, disk, file) {
-        Ok(reader) => image_of(alloc, reader.held(), file),
+        Ok(reader) => image_of(alloc, format, reader.held(), file),
         Err(halt) => Err(Stop::Halt(halt)),
     }
 }
@@ -145,7 +148,7 @@ fn add_stash<D: Disk>(
     image: Image,
 ) -> Result<Opened, Stop>
     requires force { D.tells → in_force ((D.view disk.old).seen 0) ≡ Is control }
-    requires image { D.tells → image_in ((D.view disk.old).seen control.image) ≡ Some image }
+    requires image { D.tells → image_under control.format ((D.view disk.old).seen control.image) ≡ Some image }
     ensures answer { D.tells → Answers result (D.view disk.old).seen }
     ensures keeps { D.tells → Keeps (D.view disk.old) (D.view disk.new) }
     ensures same { D.loans disk.new ≡ D.loans disk.old }
@@ -172,7 +175,7 @@ fn read_opened<D: Disk>(alloc: Global, disk: &mut D, control: Control) -> Result
     ensures cause { result ≡ Err (Halts DiskFault) → Rose (D.faults disk.old) (D.faults disk.new) }
 {
     let file = image_file(&control);
-    match read_image(alloc, disk, file) {
+    match read_image(alloc, disk, control.format, file) {
         Ok(image) => add_stash(alloc, disk, control, image),
         Err(stop) => Err(stop),
     }
@@ -215,7 +218,7 @@ fn find_opened<D: Disk>(alloc: Global, disk: &mut D) -> Result<Opened, Stop>
 /// leaves what a read gives.
 ///
 /// `NotADatabase` comes exactly where no control slot is whole and open, and `Damaged` exactly where
-/// the named place breaks its grammar.
+/// the named place breaks its grammar. A file of format 2 holds no image.
 pub fn open_files<D: Disk>(alloc: Global, disk: &mut D) -> Result<Opened, Stop>
     ensures answer { D.tells → Answers result (D.view disk.old).seen }
     ensures holds { D.tells → (opened : OpenedFiles) → result ≡ Ok opened → Holds opened (D.view disk.new) }
@@ -248,6 +251,7 @@ fn write_stash<D: Disk>(disk: &mut D, stash: Option<&[u8]>) -> Result<(), DiskFa
 // Puts the first image into force, with the stash that its choice names.
 fn put_first<D: Disk>(disk: &mut D, control: &Control, text: &[u8]) -> Result<(), DiskFailed>
     requires turn { control.now.turn ≡ 0 }
+    requires format { control.now.format ≡ 1 }
     requires stash { control.now.stash ≢ 0 → 5 ≤ control.now.stash }
     requires nothing { D.tells → HasInForce Nothing (D.view disk.old) }
     ensures holds { D.tells → (image : Pictured) (stash : Option (List ℕ)) → image_in text.now ≡ Some image → HasStash control.now stash (D.view disk.old) → OnOk result (Holds (record { control = control.now; image = image; stash = stash }) (D.view disk.new)) }
@@ -270,6 +274,7 @@ fn make_first<D: Disk>(
     stash: Option<&[u8]>,
 ) -> Result<(), Stop>
     requires turn { control.now.turn ≡ 0 }
+    requires format { control.now.format ≡ 1 }
     requires stash { control.now.stash ≡ first_stash (option_map (λ s. s.now) stash) }
     requires settled { D.tells → IsSettled (D.view disk.old) }
     requires nothing { D.tells → in_force ((D.view disk.old).seen 0) ≡ Nothing }
@@ -298,6 +303,7 @@ fn make_settled<D: Disk>(
     stash: Option<&[u8]>,
 ) -> Result<(), Stop>
     requires turn { control.now.turn ≡ 0 }
+    requires format { control.now.format ≡ 1 }
     requires stash { control.now.stash ≡ first_stash (option_map (λ s. s.now) stash) }
     requires settled { D.tells → IsSettled (D.view disk.old) }
     ensures answer { D.tells → AnswersMade result (in_force ((D.view disk.old).seen 0)) }
@@ -325,6 +331,7 @@ fn make_files<D: Disk>(
     stash: Option<&[u8]>,
 ) -> Result<(), Stop>
     requires turn { control.now.turn ≡ 0 }
+    requires format { control.now.format ≡ 1 }
     requires stash { control.now.stash ≡ first_stash (option_map (λ s. s.now) stash) }
     ensures answer { D.tells → AnswersMade result (in_force ((D.view disk.old).seen 0)) }
     ensures holds { D.tells → (image : Pictured) → image_in text.now ≡ Some image → OnOk result (Holds (record { control = control.now; image = image; stash = option_map (λ s. s.now) stash.entry }) (D.view disk.new)) }
@@ -357,10 +364,11 @@ fn first_stash(stash: Option<&[u8]>) -> u8
 #[tactic(auto, unfolding(kdb_control::specs::Choice::in_ranges))]
 fn first_control(base: &Point, size: u32, block: u32, stash: Option<&[u8]>) -> Control
     requires size { nat_le 2 size && nat_le size 10000 ≡ true }
-    requires block { nat_le 2048 block && nat_le block 10240 ≡ true }
+    requires block { nat_le 2048 block && nat_le block 16384 ≡ true }
     ensures { result ≡ first_choice base.now size block (option_map (λ s. s.now) stash.entry) }
 {
     Control {
+        format: FORMAT,
         turn: 0,
         image: 1,
         log: 3,
@@ -383,7 +391,7 @@ fn first_opened(
 ) -> Result<(Opened, Vec<u8>), NoMemory>
     requires realm { IsRealm realm.now }
     requires size { nat_le 2 size && nat_le size 10000 ≡ true }
-    requires block { nat_le 2048 block && nat_le block 10240 ≡ true }
+    requires block { nat_le 2048 block && nat_le block 16384 ≡ true }
     ensures control { IfOk result (λ made. made.0.control ≡ first_choice base size block (option_map (λ s. s.now) stash.entry)) }
     ensures image { IfOk result (λ made. made.0.image ≡ record { realm = realm.now; point = base; rows = rows }) }
     ensures stash { IfOk result (λ made. made.0.stash ≡ option_map (λ s. s.now) stash.entry) }
@@ -423,7 +431,7 @@ pub fn create_files<D: Disk>(
 ) -> Result<Opened, Stop>
     requires realm { IsRealm realm.now }
     requires size { nat_le 2 size && nat_le size 10000 ≡ true }
-    requires block { nat_le 2048 block && nat_le block 10240 ≡ true }
+    requires block { nat_le 2048 block && nat_le block 16384 ≡ true }
     ensures answer { D.tells → AnswersMade result (in_force ((D.view disk.old).seen 0)) }
     ensures place { (opened : OpenedFiles) → result ≡ Ok opened → place_of opened ≡ created realm.now rows base size block (option_map (λ s. s.now) stash.entry) }
     ensures control { (opened : OpenedFiles) → result ≡ Ok opened → opened.control ≡ first_choice base size block (option_map (λ s. s.now) stash.entry) }

@@ -17,8 +17,8 @@ use kdb_format::moments::{push_point, read_point};
 use kdb_format::writing::{push_bytes, push_counted, push_u32};
 use kdb_format::{Format, FormatFault, Malformed, Reader};
 use princ_name::{Realm, is_realm};
-use princ_record::laws::dropping_is_leaving_out;
-use princ_record::{Begun, Rows};
+use princ_rows::laws::dropping_is_leaving_out;
+use princ_rows::{Begun, Rows};
 use std::alloc::Global;
 
 /// What an image says: the realm, the point of the last change, and the rows.
@@ -29,7 +29,10 @@ pub struct Image {
     pub rows: Rows,
 }
 
-// The text KDBI, and format 1.
+// The format of an image's file.
+pub(crate) const FORMAT: u16 = 1;
+
+// The text KDBI, and that format.
 const MAGIC: [u8; 6] = [75, 68, 66, 73, 0, 1];
 
 // The text END.

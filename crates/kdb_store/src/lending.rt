@@ -4,9 +4,9 @@ ghost use Rattle.kdb_base.specs.Causes.{Rose};
 ghost use Rattle.kdb_base.specs.Moments.{micros};
 ghost use Rattle.kdb_disk.specs.View.{View};
 ghost use Rattle.kdb_disk.specs.Moments.{LeavesOnly};
-ghost use Rattle.princ_record.specs.Effects.{effect, IsRoom};
-ghost use Rattle.princ_record.specs.Entries.{IsOp};
-ghost use Rattle.princ_record.specs.Undoing.{IsNewName};
+ghost use Rattle.princ_rows.specs.Effects.{effect, IsRoom};
+ghost use Rattle.princ_rows.specs.Entries.{IsOp};
+ghost use Rattle.princ_rows.specs.Undoing.{IsNewName};
 ghost use Rattle.kdb_store.specs.Places.{place_of, Holds};
 ghost use Rattle.kdb_store.specs.Steps.{committed, next_choice, restashed, stash_choice};
 ghost use Rattle.kdb_store.specs.Moments.{RecoversEither};
@@ -16,7 +16,7 @@ use crate::opened::Opened;
 use crate::stashing::restash;
 use kdb_base::{Halt, Point, Time};
 use kdb_disk::Disk;
-use princ_record::Op;
+use princ_rows::Op;
 use std::alloc::Global;
 
 impl Opened {

@@ -1,13 +1,14 @@
 ghost use Rattle.std.specs.Prelude.{◌≡◌, ◌≢◌, ◌≤◌, ◌↔◌, ◌-◌, Contains, IfSome, IsTrue, None, Some, option_map};
 ghost use Rattle.std.specs.List.{All};
-ghost use Rattle.princ_record.specs.Entries.{IsOp};
+ghost use Rattle.princ_rows.specs.Entries.{IsOp};
 ghost use Rattle.kdb_store.specs.Steps.{entry_length};
 
 use crate::image::Image;
 use kdb_base::Blob;
 use kdb_control::Control;
 use policy_rules::Policy;
-use princ_record::{Op, Princ, Rows, encoded_len};
+use princ_record::{Princ, encoded_len};
+use princ_rows::{Op, Rows};
 
 /// What the files of a disk hold: the choice of files in force, and the image and the stash that it
 /// names. It cannot be printed, since the bytes of a stash open a database without a password.
@@ -19,7 +20,7 @@ pub struct Opened {
 }
 
 // How many bytes the entry of a change has in a log: its key and its row, and what stands before them.
-#[tactic(auto, unfolding(princ_record::specs::Entries::key_of, princ_record::specs::Entries::row_of), using(crate::proofs::Lengths::policy_length, crate::proofs::Lengths::policy_name_short))]
+#[tactic(auto, unfolding(princ_rows::specs::Entries::key_of, princ_rows::specs::Entries::row_of), using(crate::proofs::Lengths::policy_length, crate::proofs::Lengths::policy_name_short))]
 fn entry_length(op: &Op) -> usize
     requires { IsOp (Some op.now) }
     ensures { result ≡ entry_length op.now }
@@ -39,7 +40,7 @@ impl Opened {
     pub fn block(&self) -> u32
         ensures value { result ≡ self.now.control.block }
         ensures least { 2048 ≤ result }
-        ensures most { result ≤ 10240 }
+        ensures most { result ≤ 16384 }
     {
         self.control.block
     }

@@ -32,6 +32,7 @@ fn stash_control(now: &Control) -> Control
     ensures spare { IsSpare result.stash (Is now.now) }
 {
     Control {
+        format: now.format,
         turn: now.turn_after(),
         image: now.image,
         log: now.log,

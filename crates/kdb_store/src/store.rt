@@ -9,9 +9,9 @@ ghost use Rattle.kdb_disk.specs.View.{View};
 ghost use Rattle.kdb_disk.specs.Moments.{Keeps, LeavesOnly};
 ghost use Rattle.kdb_control.specs.declared.force.Force.TheVariants.{Nothing};
 ghost use Rattle.kdb_control.specs.Force.{in_force};
-ghost use Rattle.princ_record.specs.Effects.{effect, IsRoom};
-ghost use Rattle.princ_record.specs.Entries.{IsOp};
-ghost use Rattle.princ_record.specs.Undoing.{IsNewName};
+ghost use Rattle.princ_rows.specs.Effects.{effect, IsRoom};
+ghost use Rattle.princ_rows.specs.Entries.{IsOp};
+ghost use Rattle.princ_rows.specs.Undoing.{IsNewName};
 ghost use Rattle.princ_name.specs.Realms.{IsRealm};
 ghost use Rattle.kdb_store.specs.Places.{place_of, Holds};
 ghost use Rattle.kdb_store.specs.Steps.{committed, created, entry_length, first_choice, next_choice, restashed, stash_choice};
@@ -25,7 +25,8 @@ use crate::stashing::restash;
 use kdb_base::{Halt, Point, Stop, Time};
 use kdb_disk::{Disk, DiskFailed};
 use policy_rules::Policy;
-use princ_record::{Op, Princ, Rows};
+use princ_record::Princ;
+use princ_rows::{Op, Rows};
 use std::alloc::Global;
 use std::marker::Model;
 
@@ -77,7 +78,7 @@ impl<D: Disk + Drop> Store<D> {
     ) -> Result<Store<D>, (D, Stop)>
         requires realm { IsRealm realm.now }
         requires size { nat_le 2 size && nat_le size 10000 ≡ true }
-        requires block { nat_le 2048 block && nat_le block 10240 ≡ true }
+        requires block { nat_le 2048 block && nat_le block 16384 ≡ true }
         ensures answer { D.tells → AnswersMade (answer_of result) (in_force ((D.view disk).seen 0)) }
         ensures place { IfOk result (λ store. place_of store.opened ≡ created realm.now rows base size block (option_map (λ s. s.now) stash.entry)) }
         ensures control { IfOk result (λ store. store.opened.control ≡ first_choice base size block (option_map (λ s. s.now) stash.entry)) }
@@ -272,7 +273,7 @@ impl<D: Disk + Drop> Store<D> {
     pub fn block(&self) -> u32
         ensures value { result ≡ self.now.opened.control.block }
         ensures least { 2048 ≤ result }
-        ensures most { result ≤ 10240 }
+        ensures most { result ≤ 16384 }
     {
         self.opened.control.block
     }

@@ -3,24 +3,25 @@ ghost use Rattle.std.specs.Prelude.{◌≡◌, ◌≤◌, ◌++◌, ◌∷◌, [
 ghost use Rattle.std.specs.List.{All, flat_map};
 ghost use Rattle.kdb_format.specs.Answers.{Gives, GivesAs};
 ghost use Rattle.kdb_format.specs.Readings.{checked, list_at};
-ghost use Rattle.princ_record.specs.Entries.{IsRow};
+ghost use Rattle.princ_record.specs.RowLimits.{IsRow};
 ghost use Rattle.princ_record.specs.Policies.{policy, IsPolicy};
 ghost use Rattle.princ_record.specs.Princs.{princ};
-ghost use Rattle.princ_record.specs.Rows.{AreRows};
-ghost use Rattle.princ_record.specs.Undoing.{is_left};
+ghost use Rattle.princ_rows.specs.Rows.{AreRows};
+ghost use Rattle.princ_rows.specs.Undoing.{is_left};
 ghost use Rattle.kdb_store.specs.Laws.{row_field};
 ghost use Rattle.kdb_store.specs.StoredRows.{IsStored, long_princ_at, long_policy_at, row_of, row_at, row, rows_at, stored, is_parted, read_so_far};
 ghost use Rattle.kdb_store.specs.declared.stored.StoredRow.{StoredRow as Stored};
 ghost use Rattle.kdb_store.specs.declared.stored.StoredRow.TheVariants as variants;
 
 use kdb_base::MemoryOut;
+use kdb_base::limits::MAX_ROW_LEN;
 use kdb_format::writing::{push_u8, push_u32};
 use kdb_format::{Format, FormatFault, Reader, read_inside};
 use policy_rules::Policy;
-use princ_record::entries::MAX_ROW;
 use princ_record::policies::push_policy;
 use princ_record::princs::push_princ;
-use princ_record::{Keyed, PolicyFormat, Princ, PrincFormat, Rows, encoded_len};
+use princ_record::{PolicyFormat, Princ, PrincFormat, encoded_len};
+use princ_rows::{Boxed, Keyed, Rows, push_boxed};
 use std::alloc::Global;
 
 /// A row of an image.
@@ -40,7 +41,7 @@ fn read_princ(alloc: Global, reader: &mut Reader) -> Result<Princ, FormatFault>
     ensures { Gives result reader.new (long_princ_at reader.old) }
 {
     let len = reader.u32()?;
-    if len > u32::from(MAX_ROW) {
+    if len as usize > MAX_ROW_LEN {
         return Err(FormatFault::Malformed);
     }
     let princ = read_inside::<PrincFormat>(alloc, reader, len as usize)?;
@@ -85,8 +86,8 @@ fn read_row(alloc: Global, reader: &mut Reader) -> Result<StoredRow, FormatFault
 /// Rows as they are read: principals, and then policies.
 #[derive(Debug, Drop)]
 struct ReadRows {
-    princs: Vec<Princ>,
-    policies: Vec<Policy>,
+    princs: Vec<Boxed<Princ>>,
+    policies: Vec<Boxed<Policy>>,
 }
 
 impl ReadRows {
@@ -100,9 +101,9 @@ impl ReadRows {
                 if !self.policies.as_slice().is_empty() {
                     return Err(FormatFault::Malformed);
                 }
-                self.princs.push(princ)?;
+                push_boxed(&mut self.princs, princ)?;
             }
-            StoredRow::Policy(policy) => self.policies.push(policy)?,
+            StoredRow::Policy(policy) => push_boxed(&mut self.policies, policy)?,
         }
         Ok(())
     }
@@ -206,6 +207,20 @@ impl Record for Policy {
 
     fn row_len(&self) -> usize {
         5 + policy_len(self)
+    }
+}
+
+impl<T: Record + Drop> Record for Boxed<T> {
+    ghost fits = { T.fits };
+
+    ghost row_of = { T.row_of };
+
+    fn push_row(&self, out: &mut Vec<u8>) -> Result<(), MemoryOut> {
+        self.get().push_row(out)
+    }
+
+    fn row_len(&self) -> usize {
+        self.get().row_len()
     }
 }
 

@@ -1,16 +1,18 @@
 ghost use Rattle.std.specs.Prelude.{◌≡◌, IfOk, OnOk};
-ghost use Rattle.princ_record.specs.Entries.{IsRow};
+ghost use Rattle.princ_record.specs.RowLimits.{IsRow};
 ghost use Rattle.princ_record.specs.PrintedNames.{IsPrinted};
 ghost use Rattle.kdb_store.specs.Places.{Holds};
 
 use super::*;
 use crate::image::image_text;
+use kdb_base::limits::MAX_ROW_LEN;
 use kdb_base::{Blob, Fails, Halt, Point, Refusal, Stop, Time};
 use kdb_disk::{Disk, MemoryDisk, Pick};
 use kdb_format::{FormatFault, read_whole};
 use princ_name::is_realm;
 use princ_record::names::is_printed;
-use princ_record::{Op, Princ, Rows, decode, encoded_len};
+use princ_record::{Princ, decode, encoded_len};
+use princ_rows::{Op, Rows};
 use std::alloc::Global;
 use std::process::Abort;
 use std::test::*;
@@ -96,7 +98,7 @@ fn alice(alloc: Global) -> Result<Princ, Fail>
     ensures { IfOk result IsRow }
 {
     let princ = decode(alloc, ALICE)?;
-    if encoded_len(&princ) > 8000 {
+    if encoded_len(&princ) > MAX_ROW_LEN {
         return Err(Fail::from(Unexpected));
     }
     Ok(princ)

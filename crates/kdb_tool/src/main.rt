@@ -1,7 +1,7 @@
 //! `kdb_tool`: the principal database of the folder that it is started in.
 #![tactic(auto)]
 
-use kadm_top::run_local;
+use kadm_top::{run_local, say_text, text_alone};
 use kdb_disk::Folder;
 use kdb_ports::{ReaderSource, SystemClock, WriterSink, ZeroEntropy};
 use std::alloc::Global;
@@ -24,8 +24,11 @@ fn main(rt: HostRuntime) -> ExitCode {
         Ok(words) => words,
         Err(_) => Vec::new(alloc),
     };
-    let mut source = ReaderSource::new(rt.stdin());
     let mut sink = WriterSink::new(rt.stdout());
+    if let Some(text) = text_alone(&words) {
+        return ExitCode::from(say_text(&mut sink, text).code());
+    }
+    let mut source = ReaderSource::new(rt.stdin());
     let mut disk = Folder::new(&rt, alloc, ".");
     let mut clock = SystemClock::new(&rt);
     let status = run_local(

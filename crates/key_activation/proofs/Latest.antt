@@ -3,7 +3,7 @@ use Rattle.std.proofs.Common.{◌≡◌, ℕ, zero, suc, ◌<◌, ◌≤◌, Boo
 use Rattle.std.specs.Prelude.{Contains, option_map}
 use Rattle.std.specs.List.{AllByRecursion, fold}
 use Rattle.std.proofs.lemmas.Bool.{and_parts, cases_lt, eqb-true, leb-true, le-leb, lt-leb, lt-ltb, le-ltb, ltb-true}
-use Rattle.std.proofs.lemmas.List.Elements.{All-contains, All-from_recursion}
+use Rattle.std.proofs.lemmas.List.Elements.{All-contains, All-from_recursion, All-weaker}
 use Rattle.std.proofs.lemmas.Option.{same_Some, none-some}
 use Rattle.kdb_base.specs.declared.versions.Activation.{Activation}
 use Rattle.key_activation.specs.Activations.{begun, IsUpTo, IsActive, NoneBegun, is_later, later, latest, active}
@@ -235,3 +235,11 @@ by_no_answer list secs (Some w) e h = absurd (apart list secs w (active_some lis
 
 pub is_none : (list : List Activation) (secs : ℕ) → NoneBegun list secs → active list secs ≡ None
 is_none list secs h = by_no_answer list secs (active list secs) refl h
+
+-- ---- later moments
+
+pub none_before : (list : List Activation) (early late : ℕ) → early ≤ late → NoneBegun list late → NoneBegun list early
+none_before list early late le h = All-weaker (λ (a : Activation). late < a.secs) (λ a. early < a.secs) (λ a lt. omega arith) list h
+
+pub still_some : (list : List Activation) (early late : ℕ) → early ≤ late → (active list early ≡ None → ⊥) → active list late ≡ None → ⊥
+still_some list early late le some none = some (is_none list early (none_before list early late le (active_none list late none)))

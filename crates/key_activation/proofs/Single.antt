@@ -1,15 +1,16 @@
 -- The activation of one version, where a list changes, and what it says of the whole list.
-use Rattle.std.proofs.Common.{◌≡◌, ◌≢◌, ℕ, ◌<◌, Bool, true, false, eqb, ltb, List, [], ◌∷◌, ◌++◌, map, Option, Some, None, refl, sym, ap, ◌∙◌, arith, inl, inr, eq-eqb, Result, Ok, Err}
+use Rattle.std.proofs.Common.{◌≡◌, ◌≢◌, ℕ, ◌<◌, ◌≤◌, Bool, true, false, eqb, ltb, List, [], ◌∷◌, ◌++◌, map, Option, Some, None, refl, sym, ap, ◌∙◌, arith, inl, inr, eq-eqb, Result, Ok, Err}
 use Rattle.std.specs.Prelude.{filter, not, option_map, OnOk}
 use Rattle.std.specs.List.{find}
 use Rattle.std.specs.Option.{option_or}
 use Rattle.std.proofs.lemmas.Bool.{cases_eq, cases_lt, ne_eqb, eqb-true, lt-ltb, le-ltb}
 use Rattle.std.proofs.lemmas.List.Folds.{find-append}
+use Rattle.std.proofs.lemmas.List.Elements.{All-append, All-cons, All-filter}
 use Rattle.std.proofs.lemmas.Option.{same_Some, none-some}
 use Rattle.kdb_base.specs.Versions.{AreRising}
 use Rattle.kdb_base.specs.declared.outcomes.MemoryOut.{MemoryOut}
 use Rattle.kdb_base.specs.declared.versions.Activation.{Activation}
-use Rattle.key_activation.specs.Activations.{activation_of, with_activation, without_activation}
+use Rattle.key_activation.specs.Activations.{AreNumbered, activation_of, with_activation, without_activation}
 use Rattle.key_activation.proofs.Latest.{truth}
 use Rattle.key_activation.proofs.Order.{version_of, AreAbove, Rises, rises, farther}
 
@@ -183,3 +184,20 @@ pub others_after : (r : Result (Unit {0}) MemoryOut) (version secs : ℕ) (old n
     → OnOk r ((v : ℕ) → v ≢ version → activation_of v new ≡ activation_of v old)
 others_after (Ok x) version secs old new is = λ v other. ap (activation_of v) is ∙ with_others version secs old v other
 others_after (Err e) version secs old new is = tt
+
+-- ---- versions count from 1
+
+pub numbered_with : (version secs : ℕ) (xs : List Activation) → 1 ≤ version → AreNumbered xs → AreNumbered (with_activation version secs xs)
+unfolding with_activation
+numbered_with version secs xs here h =
+    let P : Activation → Type 0 = λ a. 1 ≤ a.version in
+    let behind = All-cons P (record { version = version; secs = secs }) (filter (λ a. ltb version a.version) xs) here (All-filter (λ (a : Activation). ltb version a.version) P xs h) in
+    All-append P (filter (λ a. ltb a.version version) xs) _ (All-filter (λ (a : Activation). ltb a.version version) P xs h) behind
+
+pub numbered_without : (version : ℕ) (xs : List Activation) → AreNumbered xs → AreNumbered (without_activation version xs)
+unfolding without_activation
+numbered_without version xs h = All-filter (λ (a : Activation). not (eqb a.version version)) (λ (a : Activation). 1 ≤ a.version) xs h
+
+pub numbered_after : (r : Result (Unit {0}) MemoryOut) (version secs : ℕ) (old new : List Activation) → 1 ≤ version → OnOk r (new ≡ with_activation version secs old) → OnOk r (AreNumbered old → AreNumbered new)
+numbered_after (Ok done) version secs old new here is = λ h. rw is (numbered_with version secs old here h)
+numbered_after (Err e) version secs old new here is = tt

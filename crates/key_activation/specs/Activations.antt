@@ -42,6 +42,10 @@ active list secs = option_map (λ a. a.version) (latest (begun secs list))
 
 -- ---- the activation of a version
 
+-- versions count from 1
+abbrev pub AreNumbered : List Activation → Type 0
+AreNumbered list = All (λ a. 1 ≤ a.version) list
+
 -- the seconds from which on the version may be active
 unfoldable pub activation_of : ℕ → List Activation → Option ℕ
 activation_of version list = option_map (λ a. a.secs) (find (λ a. nat_eq a.version version) list)

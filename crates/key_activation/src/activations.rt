@@ -1,8 +1,8 @@
 //! The activations of master keys: which is active, and changes of the list.
 
-ghost use Rattle.std.specs.Prelude.{◌≡◌, ◌≢◌, ℕ, None, OnErr, OnOk, Some, map};
+ghost use Rattle.std.specs.Prelude.{◌≡◌, ◌≢◌, ◌≤◌, ℕ, None, OnErr, OnOk, Some, map};
 ghost use Rattle.kdb_base.specs.Versions.{AreRising};
-ghost use Rattle.key_activation.specs.Activations.{IsActive, NoneBegun, activation_of, active, later, with_activation, without_activation};
+ghost use Rattle.key_activation.specs.Activations.{AreNumbered, IsActive, NoneBegun, activation_of, active, later, with_activation, without_activation};
 
 use kdb_base::{Activation, Activations, MemoryOut};
 use std::alloc::Global;
@@ -53,10 +53,12 @@ fn put(items: &mut Vec<Activation>, activation: Activation) -> Result<(), Memory
 }
 
 /// Sets from when on the version may be active, in seconds since 1970. It replaces an earlier setting
-/// of the same version. Where memory runs out, the list stays as it is.
+/// of the same version. Versions count from 1. Where memory runs out, the list stays as it is.
 #[tactic(auto, using(crate::proofs::Order::empty_rises))]
 pub fn set(alloc: Global, list: &mut Activations, version: u16, secs: u32) -> Result<(), MemoryOut>
+    requires { 1 ≤ version }
     ensures is { OnOk result (list.new ≡ with_activation version secs list.old) }
+    ensures numbered { OnOk result (AreNumbered list.old → AreNumbered list.new) }
     ensures own { OnOk result (activation_of version list.new ≡ Some secs) }
     ensures others { OnOk result ((v : ℕ) → v ≢ version → activation_of v list.new ≡ activation_of v list.old) }
     ensures err { OnErr result (list.new ≡ list.old) }
@@ -71,6 +73,7 @@ pub fn set(alloc: Global, list: &mut Activations, version: u16, secs: u32) -> Re
 /// Takes the activation of the version away, where it has one. Memory is not asked for.
 pub fn drop_version(list: &mut Activations, version: u16)
     ensures is { list.new ≡ without_activation version list.old }
+    ensures numbered { AreNumbered list.old → AreNumbered list.new }
     ensures gone { activation_of version list.new ≡ None }
     ensures others { (v : ℕ) → v ≢ version → activation_of v list.new ≡ activation_of v list.old }
 {

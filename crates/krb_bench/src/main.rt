@@ -3,6 +3,7 @@
 #![tactic(auto)]
 
 mod ciphers;
+mod kept;
 mod profile;
 mod records;
 mod timing;

@@ -10,6 +10,7 @@ use kdb_base::{Blob, Etype, MemoryOut, Salt};
 use princ_record::{KeyItem, Keys, OldSets, Princ, decode, encode};
 use std::alloc::Global;
 use std::time::CpuClock;
+use tagged_data::string_attributes::StringAttributes;
 
 /// Rows that one figure is taken over.
 const ROWS: u32 = 200_000;
@@ -58,6 +59,7 @@ fn sample(alloc: Global) -> Result<Princ, MemoryOut>
         policy: None,
         old: OldSets::from_vec(Vec::new(alloc)),
         chain: None,
+        strings: StringAttributes::new(alloc),
     })
 }
 

@@ -1,3 +1,4 @@
 pub mod Masks
+pub mod KeyBlocks
 pub mod DerivedKey
 pub mod Lengths

@@ -1,3 +1,3 @@
 pub mod Hmac
 pub mod Pbkdf2
-pub mod KeyedState
+pub mod States

@@ -1,80 +1,95 @@
-//! A key's two states of SHA-1, made once and cloned for each text.
+//! A key's two states of a hash function, made once and copied for each text.
 
-ghost use Rattle.std.specs.Prelude.{◌≡◌, ℕ, ◌-◌, ◌≤◌, List, ◌++◌, length, replicate};
-ghost use Rattle.sha1.specs.Sha1.{Holds};
-ghost use Rattle.krb_hmac.specs.Hmac.{hmac, key_block, masked};
+ghost use Rattle.std.specs.Prelude.{◌≡◌, ℕ, ◌-◌, ◌≤◌, List, ◌++◌, length, replicate, take};
+ghost use Rattle.krb_hmac.specs.Hmac.{hmac_by, key_block, masked};
+ghost use Rattle.krb_hmac.specs.States.{IsKeyed};
 
-use sha1::Sha1;
+use crate::hashes::BlockHash;
+use std::marker::Model;
 
-/// The bytes of a block of SHA-1.
-const BLOCK_LEN: usize = 64;
+/// The bytes of the longest block.
+const LONGEST_BLOCK: usize = 128;
 /// The byte that pads the key of the inner digest.
 const INNER_PAD: u8 = 0x36;
 /// The byte that pads the key of the outer digest.
 const OUTER_PAD: u8 = 0x5c;
 
-/// A key, as SHA-1 stands after the padded key in the inner digest and in the outer one.
+/// A key, as the hash function stands after the padded key in the inner digest and in the outer one. Contracts see
+/// both.
 #[derive(Drop)]
-pub struct Keyed {
-    inner: Sha1,
-    outer: Sha1,
+pub struct Keyed<H, const N: usize> {
+    inner: H,
+    outer: H,
 }
 
-impl Keyed {
-    ghost use Rattle.krb_hmac.specs.KeyedState.{IsKeyed};
+impl<H, const N: usize> Model for Keyed<H, N> {
+    ghost use Rattle.krb_hmac.specs.States.{States};
 
-    pub fn new(key: &[u8]) -> Keyed
-        ensures { IsKeyed result key.now }
+    ghost Value = { States H };
+
+    ghost view = { λ k. record { inner = k.inner; outer = k.outer } };
+}
+
+impl<H: BlockHash<N>, const N: usize> Keyed<H, N> {
+    /// The states of a key of any length.
+    pub fn new(key: &[u8]) -> Keyed<H, N>
+        ensures { IsKeyed H.holds H.hash H.block result key.now }
     {
-        let block = block_of(key);
+        let block = block_of::<H, N>(key);
         Keyed {
-            inner: state_after(block, INNER_PAD),
-            outer: state_after(block, OUTER_PAD),
+            inner: state_after::<H, N>(block, INNER_PAD),
+            outer: state_after::<H, N>(block, OUTER_PAD),
         }
     }
 
-    /// HMAC of a text in two pieces.
-    pub fn tag(&self, front: &[u8], back: &[u8]) -> [u8; 20]
-        ensures { (key : List ℕ) → IsKeyed self.now key → result ≡ hmac key (front.now ++ back.now) }
+    /// HMAC of a text in three pieces.
+    pub fn tag(&self, first: &[u8], second: &[u8], third: &[u8]) -> [u8; N]
+        ensures { (key : List ℕ) → IsKeyed H.holds H.hash H.block self.now key → result ≡ hmac_by H.hash H.block key (first.now ++ (second.now ++ third.now)) }
     {
-        let mut inner = cloned(&self.inner);
-        inner.update(front);
-        inner.update(back);
-        let mut outer = cloned(&self.outer);
-        outer.update(&inner.finalize());
-        outer.finalize()
+        let mut inner = self.inner.copied();
+        inner.add(first);
+        inner.add(second);
+        inner.add(third);
+        let digest = inner.end();
+        let mut outer = self.outer.copied();
+        outer.add(&digest);
+        outer.end()
     }
 }
 
-/// The key as one block: hashed first where it is longer than a block, and followed by zeros.
-#[tactic(auto, unfolding(crate::specs::Hmac::key_block, crate::specs::Hmac::short_key))]
-fn block_of(key: &[u8]) -> [u8; 64]
-    ensures { result ≡ key_block key.now }
+/// The key as one block, with what follows it: the key is hashed first where it is longer than a block, and followed
+/// by zeros.
+fn block_of<H: BlockHash<N>, const N: usize>(key: &[u8]) -> [u8; 128]
+    ensures { take H.block result ≡ key_block H.hash H.block key.now }
 {
-    if key.len() > BLOCK_LEN {
-        zero_padded(&Sha1::digest(key))
+    if key.len() > H::block_len() {
+        let mut hash = H::begin();
+        hash.add(key);
+        zero_padded(&hash.end(), H::block_len())
     } else {
-        zero_padded(key)
+        zero_padded(key, H::block_len())
     }
 }
 
 /// A text of a block at most, followed by zeros.
-fn zero_padded(text: &[u8]) -> [u8; 64]
-    requires { length text.now ≤ 64 }
-    ensures { result ≡ text.now ++ replicate (64 - length text.now) 0 }
+fn zero_padded(text: &[u8], len: usize) -> [u8; 128]
+    requires fits { length text.now ≤ len }
+    requires short { len ≤ 128 }
+    ensures { take len result ≡ text.now ++ replicate (len - length text.now) 0 }
 {
-    let mut block = [0; BLOCK_LEN];
+    let mut block = [0; LONGEST_BLOCK];
     block[..text.len()].copy_from_slice(text);
     block
 }
 
-/// SHA-1 after a block, each byte of which is exclusive-or `mask`.
-fn state_after(mut block: [u8; 64], mask: u8) -> Sha1
-    ensures { Holds result (masked mask block) }
+/// The hash function after a block, each byte of which is exclusive-or `mask`.
+fn state_after<H: BlockHash<N>, const N: usize>(mut block: [u8; 128], mask: u8) -> H
+    ensures { H.holds result (masked mask (take H.block block)) }
 {
-    mask_all(&mut block, mask);
-    let mut state = Sha1::new();
-    state.update(&block);
+    let front = &mut block[..H::block_len()];
+    mask_all(front, mask);
+    let mut state = H::begin();
+    state.add(front);
     state
 }
 
@@ -83,14 +98,5 @@ fn mask_all(text: &mut [u8], mask: u8)
 {
     for byte in text.iter_mut() {
         *byte ^= mask;
-    }
-}
-
-fn cloned(state: &Sha1) -> Sha1
-    ensures { result ≡ state.now }
-{
-    match state.clone() {
-        Ok(copy) => copy,
-        Err(_) => unreachable!(),
     }
 }

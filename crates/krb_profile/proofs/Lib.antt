@@ -8,3 +8,7 @@ pub mod Multiples
 pub mod Parts
 pub mod Pieces
 pub mod Vectors
+pub mod Cases
+pub mod KeyBytes
+pub mod OnePlain
+pub mod Told

@@ -1,8 +1,10 @@
 -- Lemmas on texts in parts.
-use Rattle.std.proofs.Common.{◌≡◌, ℕ, ◌≤◌, List, ◌++◌, refl, length, take, drop, lit≤, arith}
+use Rattle.std.proofs.Common.{◌≡◌, ℕ, ◌≤◌, List, ◌++◌, refl, length, take, drop, false, inl, inr, arith}
+use Rattle.aes_cts.specs.BlockKeys.{IsKeyLong}
+use Rattle.kdb_base.specs.Etypes.{key_len, tag_len}
 use Rattle.kdb_base.specs.declared.keys.Etype.{Etype}
-use Rattle.kdb_base.specs.declared.keys.Etype.TheVariants.{Aes128, Aes256}
-use Rattle.kdb_base.specs.Etypes.{key_len}
+use Rattle.kdb_base.specs.declared.keys.Etype.TheVariants.{Aes128, Aes256, Aes128Sha2, Aes256Sha2}
+use Rattle.sha2_profile.specs.Sha2.{is_sha2}
 use Rattle.std.proofs.lemmas.List.{take_at, drop_at, drop_all, append-nil}
 
 -- a second block written behind the first
@@ -12,7 +14,16 @@ two_blocks first second zeros first_len zeros_len =
     let all : length zeros ≤ 16 = omega arith in
     rw (take_at first zeros 16 first_len, drop_at first zeros 16 first_len, drop_all 16 zeros all, append-nil) refl
 
--- no key is longer
-pub key_len-le : (etype : Etype) → key_len etype ≤ 32
-key_len-le Aes128 = lit≤ tt
-key_len-le Aes256 = lit≤ tt
+-- a key of any type is one of AES
+pub long_key : (etype : Etype) (bytes : List ℕ) → length bytes ≡ key_len etype → IsKeyLong bytes
+long_key Aes128 bytes long = inl long
+long_key Aes256 bytes long = inr long
+long_key Aes128Sha2 bytes long = inl long
+long_key Aes256Sha2 bytes long = inr long
+
+-- a tag of the types of RFC 3962
+pub short_tag : (etype : Etype) → is_sha2 etype ≡ false → tag_len etype ≤ 12
+short_tag Aes128 other = omega arith
+short_tag Aes256 other = omega arith
+short_tag Aes128Sha2 other = absurd cc
+short_tag Aes256Sha2 other = absurd cc

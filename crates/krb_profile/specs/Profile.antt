@@ -1,61 +1,36 @@
--- The simplified profile of RFC 3961, section 5, with AES and HMAC-SHA1 (RFC 3962).
-use Rattle.std.specs.Prelude.{◌≡◌, ◌≢◌, ℕ, ◌+◌, ◌-◌, ◌^◌, ◌<◌, ◌≤◌, List, [], ◌∷◌, ◌++◌, length, take, drop, codes, All}
-use Rattle.std.specs.Int.{w32, to_be_bytes}
-use Rattle.aes_cts.specs.Cipher.{cipher}
-use Rattle.aes_cts.specs.Stealing.{cts}
-use Rattle.krb_hmac.specs.Hmac.{hmac}
-use Rattle.krb_hmac.specs.Pbkdf2.{pbkdf2}
-use Rattle.krb_profile.specs.NFold.{n_folded}
+-- The encryption types of RFC 3962 and of RFC 8009, by cases.
+use Rattle.std.specs.Prelude.{◌≡◌, ℕ, ◌+◌, List, ◌++◌, length, true, false, if◌then◌else◌}
+use Rattle.aes_cts.specs.BlockKeys.{AreBytes}
+use Rattle.kdb_base.specs.Etypes.{tag_len}
+use Rattle.kdb_base.specs.Key.{Key}
+use Rattle.kdb_base.specs.declared.keys.Etype.{Etype}
+use Rattle.krb_profile.specs.Sha1 as Sha1
+use Rattle.sha2_profile.specs.Sha2.{is_sha2}
+use Rattle.sha2_profile.specs.Sha2 as Sha2
 
--- the first two blocks of DR (RFC 3961, 5.1): the n-fold enciphered, and that enciphered again
-unfoldable pub stream : List ℕ → List ℕ → List ℕ
-stream key constant = cipher key (n_folded constant 16) ++ cipher key (cipher key (n_folded constant 16))
-
--- DK (RFC 3961, 5.1), whose random-to-key is the identity (RFC 3962, 6)
-unfoldable pub derived : List ℕ → List ℕ → List ℕ
-derived key constant = take (length key) (stream key constant)
-
--- the key of a usage, and of one of its purposes (RFC 3961, 5.3)
-unfoldable pub usage_key : List ℕ → ℕ → ℕ → List ℕ
-usage_key key usage purpose = derived key (to_be_bytes w32 usage ++ purpose ∷ [])
-
--- Ke (RFC 3961, 5.3)
-unfoldable pub encryption_key : List ℕ → ℕ → List ℕ
-encryption_key key usage = usage_key key usage 0xaa
-
--- Ki (RFC 3961, 5.3)
-unfoldable pub integrity_key : List ℕ → ℕ → List ℕ
-integrity_key key usage = usage_key key usage 0x55
-
--- the tag of a plain text that begins with its confounder (RFC 3961, 5.3), of 12 bytes (RFC 3962, 6)
-unfoldable pub tag : List ℕ → ℕ → List ℕ → List ℕ
-tag key usage text = take 12 (hmac (integrity_key key usage) text)
-
--- what a plain text is sealed to (RFC 3961, 5.3)
-unfoldable pub sealed : List ℕ → ℕ → List ℕ → List ℕ → List ℕ
+-- what a plain text is sealed to
+unfoldable pub sealed : Key → ℕ → List ℕ → List ℕ → List ℕ
 sealed key usage confounder plain =
-    cts (encryption_key key usage) (confounder ++ plain) ++ tag key usage (confounder ++ plain)
+    if is_sha2 key.etype
+    then Sha2.sealed key usage confounder plain
+    else Sha1.sealed key usage confounder plain
 
--- the key of so many bytes of a password (RFC 3962, 4)
-unfoldable pub string_key : List ℕ → List ℕ → ℕ → ℕ → List ℕ
-string_key password salt count len = derived (pbkdf2 password salt count len) (codes "kerberos")
-
--- each is a byte
-abbrev pub AreBytes : List ℕ → Type 0
-AreBytes xs = All (λ (x : ℕ). x < 2 ^ 8) xs
+-- the key of a password and a salt in so many rounds
+unfoldable pub string_key : Etype → List ℕ → List ℕ → ℕ → List ℕ
+string_key etype password salt count =
+    if is_sha2 etype
+    then Sha2.string_key etype password salt count
+    else Sha1.string_key etype password salt count
 
 -- the blob is what the plain text is sealed to, under some confounder
-pub record IsSealed (key : List ℕ) (usage : ℕ) (blob plain : List ℕ) : Type 0 where
+pub record IsSealed (key : Key) (usage : ℕ) (blob plain : List ℕ) : Type 0 where
   pub confounder : List ℕ
   pub whole : length confounder ≡ 16
   pub bytes : AreBytes (confounder ++ plain)
-  pub long : length blob ≡ 28 + length plain
+  pub long : length blob ≡ 16 + tag_len key.etype + length plain
   pub is : blob ≡ sealed key usage confounder plain
 
--- all of the blob but its last 12 bytes is the cipher text of a text whose tag those bytes are not
-pub record IsMistagged (key : List ℕ) (usage : ℕ) (blob : List ℕ) : Type 0 where
-  pub long : 28 ≤ length blob
-  pub text : List ℕ
-  pub bytes : AreBytes text
-  pub holds : cts (encryption_key key usage) text ≡ take (length blob - 12) blob
-  pub differs : tag key usage text ≢ drop (length blob - 12) blob
+-- the blob's tag is not that of what it holds
+pub record IsMistagged (key : Key) (usage : ℕ) (blob : List ℕ) : Type 0 where
+  pub sha1 : is_sha2 key.etype ≡ false → Sha1.IsMistagged key usage blob
+  pub sha2 : is_sha2 key.etype ≡ true → Sha2.IsMistagged key usage blob

@@ -1,4 +1,4 @@
-//! The vectors of RFC 3961 and RFC 3962, and those that MIT Kerberos publishes with its tests.
+//! The vectors of RFC 3961, RFC 3962 and RFC 8009, and those that MIT Kerberos publishes with its tests.
 
 use super::*;
 use kdb_base::{Etype, PlainKey};
@@ -199,5 +199,41 @@ fn an_empty_text_is_unsealed(rt: HostRuntime) -> Result<(), Fail> {
     assert!(rt; plain.is_empty());
     let short = unseal(rt.alloc(), &key, 0, &blob[1..]);
     assert!(rt; short.err() == Some(UnsealFault::Short));
+    Ok(())
+}
+
+// Made with OpenSSL's AES and Python's HMAC, apart from this code.
+#[test]
+fn a_whole_seal(rt: HostRuntime) -> Result<(), Fail> {
+    let key = string_to_key(Etype::Aes256, b"password", b"ATHENA.MIT.EDUraeburn", 1);
+    let confounder = [0, 1, 2, 3, 4, 5, 6, 7, 8, 9, 10, 11, 12, 13, 14, 15];
+    let plain = b"a plain text of 32 bytes, sealed";
+    let blob = seal(rt.alloc(), &key, 2, &confounder, plain)?;
+    assert!(rt;
+        blob.as_slice()
+            == b"\xd5\x84\x76\x51\x82\x3e\x0b\x17\x77\x5f\x29\xe0\x97\xff\x79\x53\x45\xce\x7b\x80\xf8\x53\x4a\x50\x02\x9a\x09\xc0\x09\x69\x0d\x05\x25\x39\xfa\xad\xce\xb9\x36\x50\xcd\xf3\x42\x5c\x15\x19\x20\xae\x1c\x58\x96\x4c\x9e\xdb\xf3\x40\x49\x5c\xc6\xd4".as_slice()
+    );
+    Ok(())
+}
+
+// A vector of RFC 8009, appendix A.
+#[test]
+fn a_whole_seal_of_sha2(rt: HostRuntime) -> Result<(), Fail> {
+    let key = PlainKey::from_bytes(
+        Etype::Aes128Sha2,
+        b"\x37\x05\xd9\x60\x80\xc1\x77\x28\xa0\xe8\x00\xea\xb6\xe0\xd2\x3c",
+    );
+    let keys = UsageKeys::new(&key, 2);
+    let blob = keys.seal(
+        rt.alloc(),
+        b"\x7b\xca\x28\x5e\x2f\xd4\x13\x0f\xb5\x5b\x1a\x5c\x83\xbc\x5b\x24",
+        b"\x00\x01\x02\x03\x04\x05",
+    )?;
+    assert!(rt;
+        blob.as_slice()
+            == b"\x84\xd7\xf3\x07\x54\xed\x98\x7b\xab\x0b\xf3\x50\x6b\xeb\x09\xcf\xb5\x54\x02\xce\xf7\xe6\x87\x7c\xe9\x9e\x24\x7e\x52\xd1\x6e\xd4\x42\x1d\xfd\xf8\x97\x6c".as_slice()
+    );
+    let plain = keys.unseal(rt.alloc(), blob.as_slice())?;
+    assert!(rt; plain.as_slice() == b"\x00\x01\x02\x03\x04\x05".as_slice());
     Ok(())
 }

@@ -2,6 +2,7 @@
 use Rattle.std.proofs.Common.{◌≡◌, ◌∙◌, refl}
 use Rattle.std.specs.Prelude.{Result, Ok, Err, MatchResult, IfErr}
 use Rattle.std.specs.Result.{IsErrAnd}
+use Rattle.kdb_base.specs.Key.{Key}
 use Rattle.master_keys.specs.declared.faults.Unopened.{Unopened}
 use Rattle.master_keys.specs.declared.faults.Unopened.TheVariants.{MemoryOut, Wrong}
 use Rattle.master_keys.specs.declared.faults.ChainFault.{ChainFault}
@@ -20,3 +21,13 @@ handed_on_err (Err e) fault h m = h ∙ m
 pub only_memory : (fault : Unopened) (result : ChainFault) → result ≡ chain_fault fault → (fault ≡ Wrong → ⊥) → result ≡ chain.MemoryOut
 only_memory Wrong result is right = absurd (right refl)
 only_memory MemoryOut result is right = is
+
+-- where only memory can be wanted, the key is not wrong
+pub not_wrong : (key : Key) (result : Result Key Unopened) → result ≡ Err Wrong → MatchResult result (λ found. found ≡ key) (λ fault. fault ≡ MemoryOut) → ⊥
+not_wrong key (Ok found) e h = absurd cc
+not_wrong key (Err fault) e h = absurd cc
+
+-- what is a wrong key to the caller was one
+pub was_wrong : {T : Type 0} (fault : Unopened) (result : ChainFault) → result ≡ chain_fault fault → ◌≡◌ {A = Result T ChainFault} (Err result) (Err chain.StashWrong) → fault ≡ Wrong
+was_wrong Wrong result is e = refl
+was_wrong MemoryOut result is e = absurd cc

@@ -1,43 +1,28 @@
 -- The first record is a chain, and it has a spelling.
 use Rattle.std.proofs.Common.{◌≡◌, ℕ, ◌^◌, ◌<◌, ◌≤◌, List, [], ◌∷◌, length, true, refl, sym, ap, arith, length-append}
 use Rattle.std.proofs.lemmas.List.Elements.{All-nil, All-cons}
-use Rattle.kdb_base.specs.Etypes.{key_len}
 use Rattle.kdb_base.specs.Key.{Key}
 use Rattle.kdb_base.specs.declared.keys.Etype.{Etype}
-use Rattle.kdb_base.specs.declared.keys.Etype.TheVariants.{Aes128, Aes256}
 use Rattle.kdb_base.specs.declared.keys.Salt.TheVariants.{Normal}
-use Rattle.kdb_format.specs.Spellings.{little}
-use Rattle.kdb_format.specs.Numbers.{length-little}
 use Rattle.tagged_data.specs.Numbers.{IsVersion}
+use Rattle.tagged_data.specs.StringLaws.{no_strings}
 use Rattle.tagged_data.specs.Versions.{IsActivation, IsAuxKey, length-activations_text, length-aux_keys_text}
 use Rattle.princ_record.specs.Facts.{IsChain as IsPart}
-use Rattle.princ_record.specs.Keys.{IsKey, are_ordered}
+use Rattle.princ_record.specs.Keys.{IsKey, are_falling, are_ordered, begins_at}
 use Rattle.princ_record.specs.Princs.{are_attributes, IsPrinc}
 use Rattle.princ_record.specs.Printed.{is_master}
 use Rattle.princ_record.specs.PrintedNames.{IsPrinted}
 use Rattle.princ_record.specs.Remembered.{IsOldSet}
 use Rattle.master_keys.specs.Chain.{IsChain}
 use Rattle.master_keys.specs.First.{master_name, admin_name, first_record}
+use Rattle.master_keys.specs.Lengths.{short_blob}
 use Rattle.master_keys.specs.Wrapping.{Unwraps, wrapped}
 use Rattle.master_keys.proofs.Rising.{rising_none, rising_one}
-
-few_bytes : (etype : Etype) → key_len etype ≤ 32
-few_bytes Aes128 = omega arith
-few_bytes Aes256 = omega arith
-
--- a wrapped key is short
-pub short_blob : (master : List ℕ) (etype : Etype) (blob : List ℕ) (key : Key) → Unwraps master etype blob key → length blob < 2 ^ 16
-short_blob master etype blob key u =
-    let few = few_bytes etype in
-    let len = ap length u.blob_is in
-    let whole = u.sealed.long in
-    let long = u.long in
-    omega (arith, few, len, long, whole, length-append (little 2 (key_len etype)) u.text, length-little 2 (key_len etype))
 
 version_one : IsVersion 1
 version_one = record { some = omega arith; short = omega arith }
 
-module _ (realm : List ℕ) (key : Key) (secs : ℕ) (confounder : List ℕ) (u : Unwraps key.bytes key.etype (wrapped key.bytes key.bytes confounder) key) where
+module _ (realm : List ℕ) (key : Key) (secs : ℕ) (confounder : List ℕ) (u : Unwraps key key.etype (wrapped key key confounder) key) where
   pub first_chain : IsChain (first_record realm key secs confounder) (record { version = 1; key = key } ∷ [])
   unfolding first_record
   first_chain = record {
@@ -69,20 +54,21 @@ module _ (realm : List ℕ) (key : Key) (secs : ℕ) (confounder : List ℕ) (u 
   }
 
   pub first_spelled : IsPrinted (master_name realm) → IsPrinted (admin_name realm) → secs < 2 ^ 32 → IsPrinc (first_record realm key secs confounder)
-  unfolding first_record are_attributes are_ordered
+  unfolding first_record are_attributes are_ordered begins_at are_falling
   first_spelled master admin lt = record {
     name = master;
     attributes = refl;
     attributes_short = omega arith;
     lives = record { max_life = omega arith; max_renew = omega arith; expire = omega arith; pw_expire = omega arith };
-    facts = record { pw_changed = lt; modified = lt; modifier = admin; mkvno = version_one; chain_there = sym master_is; chain = part_fits lt };
+    facts = record { pw_changed = lt; modified = lt; modifier = admin; mkvno = version_one; chain_there = sym master_is; chain = part_fits lt; strings = no_strings; no_strings = λ _. refl };
     keys = record {
       few = omega arith;
-      each = All-cons IsKey (record { kvno = 1; etype = key.etype; salt = Normal; wrapped = wrapped key.bytes key.bytes confounder }) []
-          (record { from_one = omega arith; kvno = omega arith; salt = record { short = omega arith }; wrapped = short_blob key.bytes key.etype (wrapped key.bytes key.bytes confounder) key u })
+      each = All-cons IsKey (record { kvno = 1; etype = key.etype; salt = Normal; wrapped = wrapped key key confounder }) []
+          (record { from_one = omega arith; kvno = omega arith; salt = record { short = omega arith }; wrapped = short_blob u })
           (All-nil IsKey);
       ordered = refl;
     };
+    masters = λ _. record { newest = refl; falling = refl };
     policy = tt;
     old = record { few = omega arith; each = All-nil IsOldSet };
   }

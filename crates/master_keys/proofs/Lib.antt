@@ -7,3 +7,7 @@ pub mod Rewrapped
 pub mod Live
 pub mod Added
 pub mod RealmPrints
+pub mod Spelled
+pub mod PurgedSpelled
+pub mod AddedSpelled
+pub mod OneKey

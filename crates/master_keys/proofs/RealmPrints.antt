@@ -2,7 +2,8 @@
 use Rattle.std.proofs.Common.{ℕ, List, [], ◌∷◌, codes, refl, sym, arith}
 use Rattle.princ_name.specs.Bytes.{can_stand, is_refused, is_sign, printed_byte}
 use Rattle.princ_name.specs.Names.{printed_parts, printed_text}
-use Rattle.princ_name.specs.RealmNames.{name_in, prints_in, is_name_in}
+use Rattle.princ_name.specs.RealmNames.{name_in}
+use Rattle.princ_name.specs.RealmLaws.{prints_in, is_name_in}
 use Rattle.princ_name.specs.Realms.{IsRealm}
 use Rattle.princ_record.specs.PrintedNames.{IsPrinted}
 use Rattle.master_keys.specs.First.{master_name, admin_name}

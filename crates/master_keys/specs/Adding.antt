@@ -18,7 +18,7 @@ next_version masters = last_version masters + 1
 
 -- the new key under itself, with the first confounder
 unfoldable pub newest_item : ℕ → Key → List ℕ → KeyItem
-newest_item version key random = record { kvno = version; etype = key.etype; salt = Normal; wrapped = wrapped key.bytes key.bytes (confounder random 0) }
+newest_item version key random = record { kvno = version; etype = key.etype; salt = Normal; wrapped = wrapped key key (confounder random 0) }
 
 -- the keys, the newest first
 unfoldable pub newest_first : List Master → List Key
@@ -26,7 +26,7 @@ newest_first masters = map (λ m. m.key) (reverse masters)
 
 -- the new key under a master key, with these 16 bytes
 unfoldable pub aux_key : Key → List ℕ → Master → AuxKey
-aux_key key bytes master = record { version = master.version; etype = key.etype; wrapped = wrapped master.key.bytes key.bytes bytes }
+aux_key key bytes master = record { version = master.version; etype = key.etype; wrapped = wrapped master.key key bytes }
 
 -- the new key under each of the master keys, with the confounders from a place on
 unfoldable pub aux_keys : Key → List ℕ → ℕ → List Master → List AuxKey

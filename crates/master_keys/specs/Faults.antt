@@ -3,8 +3,8 @@ use Rattle.master_keys.specs.declared.faults.Unopened.{Unopened}
 use Rattle.master_keys.specs.declared.faults.Unopened.TheVariants as unopened
 use Rattle.master_keys.specs.declared.faults.ChainFault.{ChainFault}
 use Rattle.master_keys.specs.declared.faults.ChainFault.TheVariants as chain
-use Rattle.krb_profile.specs.declared.sealing.UnsealFault.{UnsealFault}
-use Rattle.krb_profile.specs.declared.sealing.UnsealFault.TheVariants as seal
+use Rattle.sha2_profile.specs.declared.faults.UnsealFault.{UnsealFault}
+use Rattle.sha2_profile.specs.declared.faults.UnsealFault.TheVariants as seal
 
 -- a text that is too short, or has a wrong tag, is not opened by the key
 abbrev pub unopened_by : UnsealFault → Unopened

@@ -26,8 +26,9 @@ first_record realm key secs confounder = record {
   modified = secs;
   modifier = admin_name realm;
   mkvno = 1;
-  keys = record { kvno = 1; etype = key.etype; salt = Normal; wrapped = wrapped key.bytes key.bytes confounder } ∷ [];
+  keys = record { kvno = 1; etype = key.etype; salt = Normal; wrapped = wrapped key key confounder } ∷ [];
   policy = None;
   old = [];
   chain = Some (record { activations = record { version = 1; secs = secs } ∷ []; aux = [] });
+  strings = [];
 }

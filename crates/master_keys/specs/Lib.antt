@@ -1,5 +1,6 @@
 pub mod Faults
 pub mod Wrapping
+pub mod Lengths
 pub mod Chain
 pub mod First
 pub mod Rewrapping

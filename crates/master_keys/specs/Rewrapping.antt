@@ -12,7 +12,7 @@ confounder random place = slice_range random (16 * place) (16 * (place + 1))
 
 -- under the master key, the item holds this key
 abbrev pub Holds : Key → KeyItem → Key → Type 0
-Holds master item key = Unwraps master.bytes item.etype item.wrapped key
+Holds master item key = Unwraps master item.etype item.wrapped key
 
 -- the item holds a key
 abbrev pub HoldsOne : Key → KeyItem → Type 0
@@ -24,7 +24,7 @@ HoldNotAll master items = Any (λ item. (key : Key) → ¬ Holds master item key
 
 -- the item with this key in it, wrapped under the master key with these 16 bytes
 unfoldable pub with_key : Key → List ℕ → KeyItem → Key → KeyItem
-with_key master bytes item key = record item { wrapped = wrapped master.bytes key.bytes bytes }
+with_key master bytes item key = record item { wrapped = wrapped master key bytes }
 
 -- the items with these keys in them, by place, each with the confounder of its place
 unfoldable pub with_keys : Key → List ℕ → ℕ → List KeyItem → List Key → List KeyItem

@@ -3,13 +3,14 @@
 ghost use Rattle.std.specs.Prelude.{◌≡◌, ◌+◌, ◌*◌, ◌<◌, ◌≤◌, ◌++◌, ◌∷◌, [], IfOk, length, map, option_map};
 ghost use Rattle.std.specs.List.{AllZip};
 ghost use Rattle.kdb_base.specs.Versions.{AreRising};
+ghost use Rattle.princ_record.specs.Princs.{IsPrinc};
 ghost use Rattle.master_keys.specs.Adding.{added_keys, added_masters, added_record, aux_key, aux_keys, newest_first, newest_item, with_aux};
 ghost use Rattle.master_keys.specs.Chain.{IsAuxOf, IsChain};
 ghost use Rattle.master_keys.specs.Rewrapping.{Holds};
 ghost use Rattle.master_keys.specs.Versions.{last_version};
 
 use crate::rewrapping::{confounder, with_master, wrap_items};
-use crate::wrapping::wrap;
+use crate::wrapping::MasterKey;
 use kdb_base::{AuxKey, AuxList, Master, Masters, MemoryOut, PlainKey, Salt};
 use princ_record::{ChainPart, KeyItem, Princ};
 use std::alloc::Global;
@@ -20,13 +21,15 @@ fn newest_item(
     alloc: Global,
     version: u16,
     key: &PlainKey,
+    itself: &MasterKey,
     random: &[u8],
 ) -> Result<KeyItem, MemoryOut>
-    requires { 16 ≤ length random.now }
+    requires random { 16 ≤ length random.now }
+    requires itself { itself.now ≡ key.now }
     ensures item { IfOk result (λ x. x ≡ newest_item version key.now random.now) }
     ensures holds { IfOk result (λ x. Holds key.now x key.now) }
 {
-    let wrapped = wrap(alloc, key, key, &confounder(random, 0))?;
+    let wrapped = itself.wrap(alloc, key, &confounder(random, 0))?;
     Ok(KeyItem {
         kvno: version,
         etype: key.etype(),
@@ -64,8 +67,9 @@ fn added_keys(
     ensures holds { IfOk result (λ v. AllZip (Holds key.now) v.items (key.now ∷ newest_first masters.now)) }
 {
     let older = newest_first(alloc, masters)?;
-    let mut keys = wrap_items(alloc, key, random, 1, items, &older)?;
-    let newest = newest_item(alloc, version, key, random)?;
+    let newest = MasterKey::new(key);
+    let mut keys = wrap_items(alloc, &newest, random, 1, items, &older)?;
+    let newest = newest_item(alloc, version, key, &newest, random)?;
     keys.insert(0, newest)?;
     Ok(keys)
 }
@@ -81,7 +85,7 @@ fn aux_key(
     ensures aux { IfOk result (λ x. x ≡ aux_key key.now confounder.now master.now) }
     ensures is { IfOk result (λ x. IsAuxOf key.now x master.now) }
 {
-    let wrapped = wrap(alloc, &master.key, key, confounder)?;
+    let wrapped = MasterKey::new(&master.key).wrap(alloc, key, confounder)?;
     Ok(AuxKey {
         version: master.version,
         etype: key.etype(),
@@ -168,6 +172,8 @@ pub fn add(
     ensures entry { IfOk result (λ both. both.0 ≡ added_record entry.now masters.now key.now random.now) }
     ensures masters { IfOk result (λ both. both.1 ≡ added_masters masters.now key.now) }
     ensures chain { IfOk result (λ both. IsChain both.0 both.1) }
+    // A record that has a spelling gets one.
+    ensures spelled { IsPrinc entry.now → IfOk result (λ both. IsPrinc both.0) }
 {
     let version = entry.mkvno + 1;
     let items = entry.keys.as_slice();

@@ -18,11 +18,13 @@ pub enum ChainFault {
     MemoryOut,
 }
 
-/// Why something is not opened by the key in hand.
-#[derive(Clone, Copy, Debug, PartialEq, Eq)]
-pub(crate) enum Unopened {
-    /// The key does not open it.
+/// Why keys are not unwrapped.
+#[derive(Clone, Copy, Debug, PartialEq, Eq, Error)]
+pub enum Unopened {
+    /// No key of this type was wrapped so under the master key in hand.
+    #[error("not wrapped under this master key")]
     Wrong,
+    #[error("out of memory")]
     MemoryOut,
 }
 

@@ -14,6 +14,7 @@ use kdb_base::{
 };
 use princ_record::{ChainPart, KeyItem, Keys, OldSets, Princ};
 use std::alloc::Global;
+use tagged_data::StringAttributes;
 
 /// The version of a first master key.
 const FIRST: u16 = 1;
@@ -30,8 +31,8 @@ fn name_in(alloc: Global, front: &[u8], realm: &[u8]) -> Result<Blob, MemoryOut>
 /// The key of the first version, wrapped under itself.
 fn first_keys(alloc: Global, key: &PlainKey, random: &[u8]) -> Result<Keys, MemoryOut>
     requires { length random.now ≡ 16 }
-    ensures keys { IfOk result (λ keys. keys ≡ record { kvno = 1; etype = key.now.etype; salt = Normal; wrapped = wrapped key.now.bytes key.now.bytes random.now } ∷ []) }
-    ensures unwraps { OnOk result (Unwraps key.now.bytes key.now.etype (wrapped key.now.bytes key.now.bytes random.now) key.now) }
+    ensures keys { IfOk result (λ keys. keys ≡ record { kvno = 1; etype = key.now.etype; salt = Normal; wrapped = wrapped key.now key.now random.now } ∷ []) }
+    ensures unwraps { OnOk result (Unwraps key.now key.now.etype (wrapped key.now key.now random.now) key.now) }
 {
     let mut confounder = [0; 16];
     confounder.copy_from_slice(random);
@@ -71,7 +72,7 @@ fn first_entry(
 ) -> Result<Princ, MemoryOut>
     requires { length random.now ≡ 16 }
     ensures entry { IfOk result (λ entry. entry ≡ first_record realm.now key.now secs random.now) }
-    ensures unwraps { OnOk result (Unwraps key.now.bytes key.now.etype (wrapped key.now.bytes key.now.bytes random.now) key.now) }
+    ensures unwraps { OnOk result (Unwraps key.now key.now.etype (wrapped key.now key.now random.now) key.now) }
 {
     let name = name_in(alloc, b"K/M@", realm)?;
     let modifier = name_in(alloc, b"admin/local@", realm)?;
@@ -92,6 +93,7 @@ fn first_entry(
         policy: None,
         old: OldSets::from_vec(Vec::new(alloc)),
         chain: Some(part),
+        strings: StringAttributes::new(alloc),
     })
 }
 

@@ -5,18 +5,21 @@
 mod adding;
 mod faults;
 mod first;
+mod judging;
+pub mod laws;
 mod opening;
 mod purging;
 mod rewrapping;
 mod wrapping;
 
 pub use adding::add;
-pub use faults::ChainFault;
+pub use faults::{ChainFault, Unopened};
 pub use first::new_chain;
+pub use judging::holds_chain;
 pub use opening::open_with;
 pub use purging::purge;
-pub use rewrapping::rewrap;
-pub use wrapping::{unwrap, wrap};
+pub use rewrapping::{open_keys, rewrap, wrap_items};
+pub use wrapping::{MasterKey, unwrap, wrap};
 
 #[cfg(test)]
 mod tests;

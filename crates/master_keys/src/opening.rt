@@ -5,10 +5,10 @@ ghost use Rattle.std.specs.List.{All, AllZip, Contains, list_any};
 ghost use Rattle.kdb_base.specs.Key.{Key};
 ghost use Rattle.kdb_base.specs.Versions.{AreRising};
 ghost use Rattle.kdb_base.specs.declared.versions.Master.{Master};
-ghost use Rattle.master_keys.specs.Chain.{HasVersion, IsAuxOf, IsChain, IsChainUnder, IsKeyOf, Lists, Opens};
+ghost use Rattle.master_keys.specs.Chain.{HasVersion, IsChain, IsKeyOf, LeadsTo, Lists, Opens};
 
 use crate::faults::{ChainFault, Unopened};
-use crate::wrapping::open_key;
+use crate::wrapping::MasterKey;
 use kdb_base::{AuxKey, Master, Masters, PlainKey};
 use princ_record::{KeyItem, Princ};
 use std::alloc::Global;
@@ -21,7 +21,7 @@ fn has_version(keys: &[KeyItem], version: u16) -> bool
 }
 
 /// Whether two keys are one.
-fn is_same(a: &PlainKey, b: &PlainKey) -> bool
+pub(crate) fn is_same(a: &PlainKey, b: &PlainKey) -> bool
     ensures { IsTrue result ↔ (a.now ≡ b.now) }
 {
     a.etype() == b.etype() && a.as_slice() == b.as_slice()
@@ -36,15 +36,16 @@ fn find_aux(list: &[AuxKey], version: u16) -> Option<&AuxKey>
     list.iter().find(|aux| aux.version == version)
 }
 
-/// What may be the newest key, by the key of this version: that key itself, or what the auxiliary key of the
-/// version holds under it.
+/// The newest key, by the key of this version: that key itself, or what the auxiliary key of the version
+/// holds under it.
 fn newest_key(
     alloc: Global,
     entry: &Princ,
     version: u16,
     key: &PlainKey,
 ) -> Result<PlainKey, Unopened>
-    ensures { (newest : Key) (masters : List Master) → IsChainUnder newest entry.now masters → Lists masters version key.now → MatchResult result (λ found. found ≡ newest) (λ fault. fault ≡ Unopened.MemoryOut) }
+    ensures ok { IfOk result (λ newest. LeadsTo entry.now version key.now newest) }
+    ensures only { (newest : Key) → LeadsTo entry.now version key.now newest → MatchResult result (λ found. found ≡ newest) (λ fault. fault ≡ Unopened.MemoryOut) }
 {
     if version == entry.mkvno {
         return Ok(*key);
@@ -53,17 +54,17 @@ fn newest_key(
         return Err(Unopened::Wrong);
     };
     match find_aux(part.aux.as_slice(), version) {
-        Some(aux) => open_key(alloc, key, aux.etype, aux.wrapped.as_slice()),
+        Some(aux) => MasterKey::new(key).unwrap(alloc, aux.etype, aux.wrapped.as_slice()),
         None => Err(Unopened::Wrong),
     }
 }
 
 /// The master key of a key of the entry, under the newest.
-fn open_master(alloc: Global, newest: &PlainKey, item: &KeyItem) -> Result<Master, Unopened>
+fn open_master(alloc: Global, newest: &MasterKey, item: &KeyItem) -> Result<Master, Unopened>
     ensures ok { IfOk result (λ master. IsKeyOf newest.now item.now master) }
     ensures only { (master : Master) → IsKeyOf newest.now item.now master → MatchResult result (λ found. found ≡ master) (λ fault. fault ≡ Unopened.MemoryOut) }
 {
-    match open_key(alloc, newest, item.etype, item.wrapped.as_slice()) {
+    match newest.unwrap(alloc, item.etype, item.wrapped.as_slice()) {
         Ok(key) => Ok(Master {
             version: item.kvno,
             key,
@@ -73,7 +74,11 @@ fn open_master(alloc: Global, newest: &PlainKey, item: &KeyItem) -> Result<Maste
 }
 
 /// The master keys of the entry's keys, in the entry's order.
-fn open_masters(alloc: Global, newest: &PlainKey, keys: &[KeyItem]) -> Result<Vec<Master>, Unopened>
+fn open_masters(
+    alloc: Global,
+    newest: &MasterKey,
+    keys: &[KeyItem],
+) -> Result<Vec<Master>, Unopened>
     ensures ok { IfOk result (λ masters. AllZip (IsKeyOf newest.now) keys.now masters.items) }
     ensures only { (masters : List Master) → AllZip (IsKeyOf newest.now) keys.now masters → MatchResult result (λ found. found.items ≡ masters) (λ fault. fault ≡ Unopened.MemoryOut) }
 {
@@ -92,88 +97,12 @@ fn are_rising(masters: &[Master]) -> bool
     masters.is_sorted_by(|a, b| a.version < b.version)
 }
 
-/// The masters before the last, which is this version with this key.
-fn before_newest<'a>(masters: &'a [Master], version: u16, newest: &PlainKey) -> Option<&'a [Master]>
-    ensures some { IfSome result (λ older. masters.now ≡ older.now ++ record { version = version; key = newest.now } ∷ []) }
-    ensures none { result ≡ None → (older : List Master) → masters.now ≢ older ++ record { version = version; key = newest.now } ∷ [] }
-{
-    let (last, older) = masters.split_last()?;
-    if last.version != version || !is_same(&last.key, newest) {
-        return None;
-    }
-    Some(older)
-}
-
 /// Whether the master keys have this version with this key.
 fn has_master(masters: &[Master], version: u16, key: &PlainKey) -> bool
     ensures yes { IsTrue result → Lists masters.now version key.now }
     ensures no { result ≡ false → All (λ m. m ≢ record { version = version; key = key.now }) masters.now }
 {
     masters.iter().any(|master| master.version == version && is_same(&master.key, key))
-}
-
-/// Judges whether the auxiliary key holds the newest key under this older one.
-fn check_aux(alloc: Global, newest: &PlainKey, aux: &AuxKey, older: &Master) -> Result<(), Unopened>
-    ensures ok { OnOk result (IsAuxOf newest.now aux.now older.now) }
-    ensures only { IsAuxOf newest.now aux.now older.now → IfErr result (λ fault. fault ≡ Unopened.MemoryOut) }
-{
-    if aux.version != older.version {
-        return Err(Unopened::Wrong);
-    }
-    let opened = open_key(alloc, &older.key, aux.etype, aux.wrapped.as_slice())?;
-    if !is_same(&opened, newest) {
-        return Err(Unopened::Wrong);
-    }
-    Ok(())
-}
-
-/// Judges whether the auxiliary keys hold the newest key under each of the older ones.
-fn check_aux_list(
-    alloc: Global,
-    newest: &PlainKey,
-    list: &[AuxKey],
-    older: &[Master],
-) -> Result<(), Unopened>
-    ensures ok { OnOk result (AllZip (IsAuxOf newest.now) list.now older.now) }
-    ensures only { AllZip (IsAuxOf newest.now) list.now older.now → IfErr result (λ fault. fault ≡ Unopened.MemoryOut) }
-{
-    let mut left = older;
-    for aux in list {
-        let Some((master, later)) = left.split_first() else {
-            return Err(Unopened::Wrong);
-        };
-        check_aux(alloc, newest, aux, master)?;
-        left = later;
-    }
-    if left.is_empty() {
-        Ok(())
-    } else {
-        Err(Unopened::Wrong)
-    }
-}
-
-/// Judges whether these are the master keys of the entry, where they are those that its keys hold under the
-/// newest.
-fn check_chain(
-    alloc: Global,
-    entry: &Princ,
-    newest: &PlainKey,
-    masters: &[Master],
-) -> Result<(), Unopened>
-    requires { AllZip (IsKeyOf newest.now) entry.now.keys (reverse masters.now) }
-    ensures ok { OnOk result (IsChainUnder newest.now entry.now masters.now) }
-    ensures only { IsChainUnder newest.now entry.now masters.now → IfErr result (λ fault. fault ≡ Unopened.MemoryOut) }
-{
-    let Some(older) = before_newest(masters, entry.mkvno, newest) else {
-        return Err(Unopened::Wrong);
-    };
-    if !are_rising(masters) {
-        return Err(Unopened::Wrong);
-    }
-    match &entry.chain {
-        Some(part) => check_aux_list(alloc, newest, part.aux.as_slice(), older),
-        None => Err(Unopened::Wrong),
-    }
 }
 
 /// The master keys of the entry, by the key of this version.
@@ -187,9 +116,12 @@ fn open_chain(
     ensures only { (masters : List Master) → Opens entry.now version key.now masters → MatchResult result (λ found. found ≡ masters) (λ fault. fault ≡ Unopened.MemoryOut) }
 {
     let newest = newest_key(alloc, entry, version, key)?;
+    let newest = MasterKey::new(&newest);
     let mut masters = open_masters(alloc, &newest, entry.keys.as_slice())?;
     masters.reverse();
-    check_chain(alloc, entry, &newest, &masters)?;
+    if !are_rising(&masters) {
+        return Err(Unopened::Wrong);
+    }
     if !has_master(&masters, version, key) {
         return Err(Unopened::Wrong);
     }
@@ -197,12 +129,12 @@ fn open_chain(
 }
 
 /// The master keys of K/M's entry, opened by the key of one version: by that key the newest one, and by the
-/// newest all others.
+/// newest all others. Whether they are a chain is another question, which `holds_chain` answers.
 ///
 /// # Errors
 ///
 /// `UnknownMaster` exactly where the entry has no key of this version, `StashWrong` where it has one and the
-/// key does not open it, or the entry is no chain, and `MemoryOut` where memory is wanted and not given.
+/// key does not open it, and `MemoryOut` where memory is wanted and not given.
 pub fn open_with(
     alloc: Global,
     entry: &Princ,
@@ -214,6 +146,8 @@ pub fn open_with(
     ensures versions { IfOk result (λ masters. map (λ k. k.kvno) entry.now.keys ≡ reverse (map (λ m. m.version) masters)) }
     // What the key opens is opened, unless memory runs out.
     ensures complete { (masters : List Master) → Opens entry.now version key.now masters → MatchResult result (λ found. found ≡ masters) (λ fault. fault ≡ ChainFault.MemoryOut) }
+    // From each version of a chain its key opens that chain, unless memory runs out.
+    ensures chain { (masters : List Master) → IsChain entry.now masters → Lists masters version key.now → MatchResult result (λ found. found ≡ masters) (λ fault. fault ≡ ChainFault.MemoryOut) }
     ensures unknown { (asked : ℕ) → result ≡ Err (ChainFault.UnknownMaster asked) → ¬ HasVersion entry.now.keys version }
     ensures only_unknown { ¬ HasVersion entry.now.keys version → result ≡ Err (ChainFault.UnknownMaster version) }
     ensures known { result ≡ Err ChainFault.StashWrong → HasVersion entry.now.keys version }

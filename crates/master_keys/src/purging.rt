@@ -2,6 +2,7 @@
 
 ghost use Rattle.std.specs.Prelude.{◌≡◌, IfOk, filter, option_map};
 ghost use Rattle.std.specs.List.{Contains};
+ghost use Rattle.princ_record.specs.Princs.{IsPrinc};
 ghost use Rattle.master_keys.specs.Chain.{IsChain};
 ghost use Rattle.master_keys.specs.Purging.{live_masters, live_part, purged_record};
 ghost use Rattle.master_keys.specs.Versions.{is_live, last_version};
@@ -104,6 +105,8 @@ pub fn purge(
     ensures entry { IfOk result (λ both. both.0 ≡ purged_record dead.now entry.now) }
     ensures masters { IfOk result (λ both. both.1 ≡ live_masters dead.now masters.now) }
     ensures chain { IfOk result (λ both. IsChain both.0 both.1) }
+    // A record that has a spelling gets one.
+    ensures spelled { IsPrinc entry.now → IfOk result (λ both. IsPrinc both.0) }
 {
     let purged = purged_record(copy(alloc, entry)?, dead);
     let live = live_masters(alloc, masters, dead)?;

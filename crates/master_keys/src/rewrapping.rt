@@ -1,11 +1,13 @@
 //! A record's keys, wrapped anew under another master key.
 
-ghost use Rattle.std.specs.Prelude.{◌≡◌, ◌≢◌, ℕ, ◌+◌, ◌*◌, ◌≤◌, Err, IfErr, IfOk, length};
+ghost use Rattle.std.specs.Prelude.{◌≡◌, ◌≢◌, ℕ, ◌+◌, ◌*◌, ◌<◌, ◌≤◌, List, Err, None, IfErr, IfOk, MatchResult, length};
 ghost use Rattle.std.specs.List.{All, AllZip};
+ghost use Rattle.kdb_base.specs.Key.{Key};
+ghost use Rattle.princ_record.specs.Princs.{IsPrinc};
 ghost use Rattle.master_keys.specs.Rewrapping.{HoldNotAll, Holds, HoldsOne, IsRewrapped, confounder, with_key, with_keys};
 
 use crate::faults::{ChainFault, Unopened};
-use crate::wrapping::{open_key, wrap};
+use crate::wrapping::MasterKey;
 use kdb_base::{Blob, MemoryOut, PlainKey, Salt};
 use princ_record::{KeyItem, Keys, Princ, copy};
 use std::alloc::Global;
@@ -41,7 +43,7 @@ fn copy_salt(alloc: Global, salt: &Salt) -> Result<Salt, MemoryOut>
 #[tactic(auto, unfolding(crate::specs::Rewrapping::with_key))]
 fn wrap_item(
     alloc: Global,
-    master: &PlainKey,
+    master: &MasterKey,
     confounder: &[u8; 16],
     item: &KeyItem,
     key: &PlainKey,
@@ -51,7 +53,7 @@ fn wrap_item(
     ensures holds { IfOk result (λ x. Holds master.now x key.now) }
 {
     let salt = copy_salt(alloc, &item.salt)?;
-    let wrapped = wrap(alloc, master, key, confounder)?;
+    let wrapped = master.wrap(alloc, key, confounder)?;
     Ok(KeyItem {
         kvno: item.kvno,
         etype: item.etype,
@@ -60,10 +62,15 @@ fn wrap_item(
     })
 }
 
-/// The items with these keys in them, wrapped under a master key with the confounders from a place on.
-pub(crate) fn wrap_items(
+/// The items with these keys in them, wrapped under a master key. The confounder of the first is the 16 bytes of
+/// `random` at this place, counted in confounders, that of the second the next 16, and so on.
+///
+/// # Errors
+///
+/// `MemoryOut` where memory is wanted and not given.
+pub fn wrap_items(
     alloc: Global,
-    master: &PlainKey,
+    master: &MasterKey,
     random: &[u8],
     place: usize,
     items: &[KeyItem],
@@ -83,14 +90,24 @@ pub(crate) fn wrap_items(
     Ok(out)
 }
 
-/// The keys that the items hold under a master key.
-fn open_keys(alloc: Global, master: &PlainKey, items: &[KeyItem]) -> Result<Vec<PlainKey>, Unopened>
+/// The keys that the items hold under a master key, by place.
+///
+/// # Errors
+///
+/// `Wrong` where some item holds no key of its type under it, and `MemoryOut` where memory is wanted and not given.
+pub fn open_keys(
+    alloc: Global,
+    master: &MasterKey,
+    items: &[KeyItem],
+) -> Result<Vec<PlainKey>, Unopened>
     ensures ok { IfOk result (λ keys. AllZip (Holds master.now) items.now keys.items) }
+    // What the items hold is given, unless memory runs out.
+    ensures only { (plain : List Key) → AllZip (Holds master.now) items.now plain → MatchResult result (λ keys. keys.items ≡ plain) (λ fault. fault ≡ Unopened.MemoryOut) }
     ensures wrong { result ≡ Err Unopened.Wrong → HoldNotAll master.now items.now }
 {
     let mut keys = Vec::new(alloc);
     for item in items {
-        match open_key(alloc, master, item.etype, item.wrapped.as_slice()) {
+        match master.unwrap(alloc, item.etype, item.wrapped.as_slice()) {
             Ok(key) => keys.push(key)?,
             Err(fault) => return Err(fault),
         }
@@ -130,17 +147,22 @@ pub fn rewrap(
 ) -> Result<Princ, ChainFault>
     requires { length princ.now.keys ≤ 32 }
     ensures ok { IfOk result (λ p. IsRewrapped princ.now old.now version fresh.now random.now p) }
+    // The keys that it held under `old` it holds under `fresh`.
+    ensures only { (plain : List Key) → AllZip (Holds old.now) princ.now.keys plain → IfOk result (λ p. AllZip (Holds fresh.now) p.keys plain) }
+    // A record other than K/M's that has a spelling gets one, under a version from 1.
+    ensures spelled { IsPrinc princ.now → princ.now.chain ≡ None → 0 < version → IfOk result (λ p. IsPrinc p) }
     // Where each key unwraps, only memory can be wanted.
     ensures complete { All (HoldsOne old.now) princ.now.keys → IfErr result (λ fault. fault ≡ ChainFault.MemoryOut) }
     ensures wrong { result ≡ Err ChainFault.StashWrong → HoldNotAll old.now princ.now.keys }
     ensures known { (asked : ℕ) → result ≢ Err (ChainFault.UnknownMaster asked) }
 {
     let items = princ.keys.as_slice();
-    let keys = match open_keys(alloc, old, items) {
+    let keys = match open_keys(alloc, &MasterKey::new(old), items) {
         Ok(keys) => keys,
         Err(fault) => return Err(ChainFault::from(fault)),
     };
-    let Ok(keys) = wrap_items(alloc, fresh, random, 0, items, &keys) else {
+    let fresh = MasterKey::new(fresh);
+    let Ok(keys) = wrap_items(alloc, &fresh, random, 0, items, &keys) else {
         return Err(ChainFault::MemoryOut);
     };
     match with_master(alloc, princ, version, keys) {

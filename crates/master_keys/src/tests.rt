@@ -1,8 +1,9 @@
-ghost use Rattle.std.specs.Prelude.{◌≡◌, ◌∷◌, [], IfOk, length};
+ghost use Rattle.std.specs.Prelude.{◌≡◌, ◌+◌, ◌<◌, IfOk, length};
 ghost use Rattle.master_keys.specs.Chain.{IsChain};
+ghost use Rattle.master_keys.specs.Versions.{last_version};
 
 use super::*;
-use kdb_base::{AuxKey, AuxList, Etype, Masters, PlainKey, Salt};
+use kdb_base::{AuxKey, AuxList, Blob, Etype, Masters, PlainKey, Salt};
 use princ_record::{KeyItem, Keys, Princ};
 use std::test::Fail;
 
@@ -12,12 +13,20 @@ fn key_of(etype: Etype, byte: u8) -> PlainKey {
 
 #[test]
 fn a_key_is_wrapped_and_unwrapped(rt: HostRuntime) -> Result<(), Fail> {
-    let master = key_of(Etype::Aes256, 1);
+    // 18 bytes, the key, and the tag of the master key's type.
     let rows = [
-        (Etype::Aes128, 46, b"\x10\0"),
-        (Etype::Aes256, 62, b"\x20\0"),
+        (Etype::Aes256, Etype::Aes128, 18 + 16 + 12, b"\x10\0"),
+        (Etype::Aes128, Etype::Aes256Sha2, 18 + 32 + 12, b"\x20\0"),
+        (
+            Etype::Aes128Sha2,
+            Etype::Aes128Sha2,
+            18 + 16 + 16,
+            b"\x10\0",
+        ),
+        (Etype::Aes256Sha2, Etype::Aes256, 18 + 32 + 24, b"\x20\0"),
     ];
-    for (etype, len, front) in rows {
+    for (master, etype, len, front) in rows {
+        let master = key_of(master, 1);
         let key = key_of(etype, 2);
         let blob = wrap(rt.alloc(), &master, &key, &[3; 16])?;
         assert_eq!(rt; blob.len(), len);
@@ -55,8 +64,10 @@ fn fault(rt: &HostRuntime, entry: &Princ, version: u16, key: &PlainKey) -> Optio
     open_with(rt.alloc(), entry, version, key).err()
 }
 
+#[tactic(auto, unfolding(crate::specs::Versions::last_version))]
 fn first(rt: &HostRuntime, key: &PlainKey) -> Result<(Princ, Masters), Fail>
-    ensures masters { IfOk result (λ both. both.1 ≡ record { version = 1; key = key.now } ∷ []) }
+    ensures one { IfOk result (λ both. length both.1 ≡ 1) }
+    ensures last { IfOk result (λ both. last_version both.1 ≡ 1) }
     ensures chain { IfOk result (λ both. IsChain both.0 both.1) }
 {
     Ok(new_chain(rt.alloc(), b"R", key, 1700000000, &[5; 16])?)
@@ -141,10 +152,8 @@ fn either_key_opens_two_versions(rt: HostRuntime) -> Result<(), Fail> {
         part.aux = no_aux(&rt);
     }
     assert_eq!(rt; fault(&rt, &entry, 1, &older), Some(ChainFault::StashWrong));
-    assert_eq!(rt;
-        fault(&rt, &entry, 2, &newest),
-        Some(ChainFault::StashWrong)
-    );
+    // The newest key wants no auxiliary key.
+    assert_eq!(rt; fault(&rt, &entry, 2, &newest), None);
     Ok(())
 }
 
@@ -153,23 +162,53 @@ fn random<const N: usize>() -> [u8; N] {
     [8; N]
 }
 
-#[test]
-fn a_key_is_added_and_the_old_one_purged(rt: HostRuntime) -> Result<(), Fail> {
-    let older = key_of(Etype::Aes128, 1);
-    let newest = key_of(Etype::Aes256, 2);
-    let (entry, masters) = first(&rt, &older)?;
-    let (entry, masters) = add(rt.alloc(), &entry, &masters, &newest, &random())?;
-    for (version, key) in [(1, older), (2, newest)] {
-        let opened = open_with(rt.alloc(), &entry, version, &key)?;
-        assert!(rt;
-            matches!(opened.as_slice(), [a, b] if a.version == 1 && a.key == older && b.version == 2 && b.key == newest)
-        );
+/// One more master key.
+fn grown(
+    rt: &HostRuntime,
+    entry: &Princ,
+    masters: &Masters,
+    key: &PlainKey,
+) -> Result<(Princ, Masters), Fail>
+    requires chain { IsChain entry.now masters.now }
+    requires few { length masters.now < 32 }
+    requires greatest { last_version masters.now < 65535 }
+    ensures more { IfOk result (λ both. length both.1 ≡ length masters.now + 1) }
+    ensures last { IfOk result (λ both. last_version both.1 ≡ last_version masters.now + 1) }
+    ensures chain { IfOk result (λ both. IsChain both.0 both.1) }
+{
+    Ok(add(rt.alloc(), entry, masters, key, &random())?)
+}
+
+/// Whether each master key opens all of them.
+fn each_opens_all(rt: &HostRuntime, entry: &Princ, masters: &Masters) -> Result<bool, Fail> {
+    for master in masters.as_slice() {
+        let opened = open_with(rt.alloc(), entry, master.version, &master.key)?;
+        if opened.as_slice() != masters.as_slice() {
+            return Ok(false);
+        }
     }
-    let (entry, _) = purge(rt.alloc(), &entry, &masters, &[1])?;
-    let opened = open_with(rt.alloc(), &entry, 2, &newest)?;
-    assert!(rt; matches!(opened.as_slice(), [a] if a.version == 2 && a.key == newest));
+    Ok(holds_chain(rt.alloc(), entry, masters)?)
+}
+
+#[test]
+fn three_keys_of_three_types_open_each_other(rt: HostRuntime) -> Result<(), Fail> {
+    let oldest = key_of(Etype::Aes128, 1);
+    let older = key_of(Etype::Aes128Sha2, 2);
+    let newest = key_of(Etype::Aes256Sha2, 3);
+    let (entry, masters) = first(&rt, &oldest)?;
+    let (entry, masters) = grown(&rt, &entry, &masters, &older)?;
+    let (entry, masters) = grown(&rt, &entry, &masters, &newest)?;
+    assert!(rt; each_opens_all(&rt, &entry, &masters)?);
+    assert!(rt;
+        matches!(masters.as_slice(), [a, b, c] if a.version == 1 && b.version == 2 && c.version == 3)
+    );
+
+    let (left, live) = purge(rt.alloc(), &entry, &masters, &[1])?;
+    assert!(rt; each_opens_all(&rt, &left, &live)?);
+    assert!(rt; live.as_slice().len() == 2);
+    assert!(rt; !holds_chain(rt.alloc(), &entry, &live)?);
     assert_eq!(rt;
-        fault(&rt, &entry, 1, &older),
+        fault(&rt, &left, 1, &oldest),
         Some(ChainFault::UnknownMaster { version: 1 })
     );
     Ok(())
@@ -178,15 +217,22 @@ fn a_key_is_added_and_the_old_one_purged(rt: HostRuntime) -> Result<(), Fail> {
 #[test]
 fn two_keys_are_wrapped_anew(rt: HostRuntime) -> Result<(), Fail> {
     let one = key_of(Etype::Aes128, 1);
-    let old = key_of(Etype::Aes256, 2);
-    let fresh = key_of(Etype::Aes256, 3);
-    let princ = two_versions(&rt, &old, &one)?;
+    let old = key_of(Etype::Aes256Sha2, 2);
+    let fresh = key_of(Etype::Aes128Sha2, 3);
+    let mut princ = two_versions(&rt, &old, &one)?;
+    let mut items = princ.keys.into_vec();
+    items[1].salt = Salt::Special(Blob::from_bytes(rt.alloc(), b"salt")?);
+    princ.keys = Keys::from_vec(items);
     let rewrapped = rewrap(rt.alloc(), &princ, &old, 7, &fresh, &random())?;
-    assert!(rt; rewrapped.mkvno == 7 && rewrapped.keys.as_slice().len() == 2);
-    for (item, key) in rewrapped.keys.as_slice().iter().zip([old, one]) {
-        let wrapped = item.wrapped.as_slice();
-        assert!(rt; unwrap(rt.alloc(), &fresh, item.etype, wrapped)? == key);
-        let fault = unwrap(rt.alloc(), &old, item.etype, wrapped).err();
+    let items = rewrapped.keys.as_slice();
+    assert!(rt; rewrapped.mkvno == 7 && items.len() == 2);
+    assert!(rt;
+        matches!(&items[1].salt, Salt::Special(salt) if salt.as_slice() == b"salt".as_slice())
+    );
+    let keys = open_keys(rt.alloc(), &MasterKey::new(&fresh), items)?;
+    assert!(rt; keys.as_slice() == [old, one].as_slice());
+    for item in items {
+        let fault = unwrap(rt.alloc(), &old, item.etype, item.wrapped.as_slice()).err();
         assert_eq!(rt; fault, Some(ChainFault::StashWrong));
     }
     let fault = rewrap(rt.alloc(), &princ, &one, 7, &fresh, &random()).err();

@@ -1,7 +1,10 @@
 ghost use Rattle.std.specs.Prelude.{◌≡◌, ◌↔◌, ◌<◌, ◌≤◌, length};
 ghost use Rattle.kdb_base.specs.declared.outcomes.Refusal.TheVariants.{PassTooShort, PassClasses};
 ghost use Rattle.policy_rules.specs.Classes.{is_of, has, classes_in};
+ghost use Rattle.policy_rules.specs.Numbers.{numbers_of};
+ghost use Rattle.policy_rules.specs.Passwords.{checked, has_few_classes, is_short};
 
+use crate::numbers::Numbers;
 use crate::policies::Policy;
 use kdb_base::Refusal;
 
@@ -58,18 +61,45 @@ pub fn classes_in(password: &[u8]) -> usize
         .count()
 }
 
+/// Whether the password is shorter than these numbers ask.
+pub fn is_short(numbers: &Numbers, password: &[u8]) -> bool
+    ensures { result ≡ is_short numbers.now password.now }
+{
+    password.len() < usize::from(numbers.min_length())
+}
+
+/// Whether the password has bytes of fewer classes than these numbers ask.
+pub fn has_few_classes(numbers: &Numbers, password: &[u8]) -> bool
+    ensures { result ≡ has_few_classes numbers.now password.now }
+{
+    classes_in(password) < usize::from(numbers.min_classes())
+}
+
+/// Whether these numbers take the password. A password that is too short is refused as that,
+/// whatever its classes.
+pub fn check_numbers(numbers: &Numbers, password: &[u8]) -> Result<(), Refusal>
+    ensures value { result ≡ checked numbers.now password.now }
+    ensures ok { (result ≡ Ok tt) ↔ ((numbers.now.min_length ≤ length password.now) × (numbers.now.min_classes ≤ classes_in password.now)) }
+    ensures short { (result ≡ Err PassTooShort) ↔ (length password.now < numbers.now.min_length) }
+    ensures few { (result ≡ Err PassClasses) ↔ ((numbers.now.min_length ≤ length password.now) × (classes_in password.now < numbers.now.min_classes)) }
+{
+    if is_short(numbers, password) {
+        return Err(Refusal::PassTooShort);
+    }
+    if has_few_classes(numbers, password) {
+        return Err(Refusal::PassClasses);
+    }
+    Ok(())
+}
+
 /// Whether the policy takes the password. A password that is too short is refused as that,
 /// whatever its classes.
 pub fn check_password(policy: &Policy, password: &[u8]) -> Result<(), Refusal>
+    ensures value { result ≡ checked (numbers_of policy.now) password.now }
     ensures ok { (result ≡ Ok tt) ↔ ((policy.now.min_length ≤ length password.now) × (policy.now.min_classes ≤ classes_in password.now)) }
     ensures short { (result ≡ Err PassTooShort) ↔ (length password.now < policy.now.min_length) }
     ensures few { (result ≡ Err PassClasses) ↔ ((policy.now.min_length ≤ length password.now) × (classes_in password.now < policy.now.min_classes)) }
 {
-    if password.len() < usize::from(policy.min_length()) {
-        return Err(Refusal::PassTooShort);
-    }
-    if classes_in(password) < usize::from(policy.min_classes()) {
-        return Err(Refusal::PassClasses);
-    }
-    Ok(())
+    let numbers = policy.numbers();
+    check_numbers(&numbers, password)
 }

@@ -1,8 +1,11 @@
 ghost use Rattle.std.specs.Prelude.{◌≡◌, ◌≤◌, IsTrue};
 ghost use Rattle.std.specs.List.{list_all};
+ghost use Rattle.policy_rules.specs.Equal.{same_rules, same_rules_equiv, same_rules_partial};
 ghost use Rattle.policy_rules.specs.Names.{is_alphanumeric, is_name_byte, is_policy_name};
+ghost use Rattle.policy_rules.specs.Numbers.{numbers_of, rules_of};
 ghost use Rattle.policy_rules.specs.Ranges.{is_min_length, is_min_classes, is_history};
 
+use crate::numbers::Numbers;
 use kdb_base::Blob;
 use std::marker::Model;
 
@@ -13,21 +16,20 @@ pub const MAX_NAME: usize = 64;
 #[derive(Debug, Drop)]
 pub struct Policy {
     name: Blob,
-    max_life: u32,
-    min_life: u32,
-    min_length: u16,
-    min_classes: u16,
-    history: u16,
+    numbers: Numbers,
 }
 
 impl Model for Policy {
-    ghost use Rattle.policy_rules.specs.Rules.{Rules, InRanges};
+    ghost use Rattle.std.specs.Prelude.{IsTrue};
+    ghost use Rattle.policy_rules.specs.Names.{is_policy_name};
+    ghost use Rattle.policy_rules.specs.Numbers.{rules_of};
+    ghost use Rattle.policy_rules.specs.Rules.{Rules};
 
     ghost Value = { Rules };
 
-    ghost view = { λ p. record { name = p.name; max_life = p.max_life; min_life = p.min_life; min_length = p.min_length; min_classes = p.min_classes; history = p.history } };
+    ghost view = { λ p. rules_of p.name p.numbers };
 
-    ghost invariant = { λ p. InRanges p.name p.min_length p.min_classes p.history };
+    ghost invariant = { λ p. IsTrue (is_policy_name p.name) };
 }
 
 impl Policy {
@@ -48,12 +50,16 @@ impl Policy {
     {
         Policy {
             name,
-            max_life,
-            min_life,
-            min_length,
-            min_classes,
-            history,
+            numbers: Numbers::new(max_life, min_life, min_length, min_classes, history),
         }
+    }
+
+    /// The policy of this name and these numbers.
+    pub fn from_numbers(name: Blob, numbers: Numbers) -> Policy
+        requires { IsTrue (is_policy_name name) }
+        ensures { result ≡ rules_of name numbers }
+    {
+        Policy { name, numbers }
     }
 
     /// 1 to 64 letters, digits, `_`, `-` and `.`, of which the first is a letter or a digit.
@@ -64,18 +70,25 @@ impl Policy {
         self.name.as_slice()
     }
 
+    /// All that the policy asks.
+    pub fn numbers(&self) -> Numbers
+        ensures { result ≡ numbers_of self.now }
+    {
+        self.numbers
+    }
+
     /// The longest time for which a password serves, in seconds. 0 is no limit.
     pub fn max_life(&self) -> u32
         ensures { result ≡ self.now.max_life }
     {
-        self.max_life
+        self.numbers.max_life()
     }
 
     /// How long a password stands before it may be changed, in seconds.
     pub fn min_life(&self) -> u32
         ensures { result ≡ self.now.min_life }
     {
-        self.min_life
+        self.numbers.min_life()
     }
 
     /// The least length of a password, 1 to 255 bytes.
@@ -83,7 +96,7 @@ impl Policy {
         ensures value { result ≡ self.now.min_length }
         ensures in_range { (1 ≤ result) × (result ≤ 255) }
     {
-        self.min_length
+        self.numbers.min_length()
     }
 
     /// The least number of classes of characters in a password, 1 to 5.
@@ -91,7 +104,7 @@ impl Policy {
         ensures value { result ≡ self.now.min_classes }
         ensures in_range { (1 ≤ result) × (result ≤ 5) }
     {
-        self.min_classes
+        self.numbers.min_classes()
     }
 
     /// How many passwords stay behind a change of the password, 1 to 16, the standing one among them.
@@ -99,8 +112,22 @@ impl Policy {
         ensures value { result ≡ self.now.history }
         ensures in_range { (1 ≤ result) × (result ≤ 16) }
     {
-        self.history
+        self.numbers.history()
     }
+}
+
+impl PartialEq for Policy {
+    ghost eq = { same_rules };
+
+    ghost laws = { same_rules_partial };
+
+    fn eq(&self, other: &Policy) -> bool {
+        self.name() == other.name() && self.numbers == other.numbers
+    }
+}
+
+impl Eq for Policy {
+    ghost laws = { same_rules_equiv };
 }
 
 fn is_alphanumeric(byte: u8) -> bool

@@ -1,22 +1,25 @@
-ghost use Rattle.std.specs.Prelude.{◌≡◌, ◌↔◌, ◌⊎◌, ◌-◌, ◌≤◌, Contains, IsTrue, min};
-ghost use Rattle.policy_rules.specs.Reuse.{IsReused};
+ghost use Rattle.std.specs.Prelude.{◌≡◌, ◌||◌, ◌↔◌, ◌⊎◌, ◌-◌, ◌≤◌, Contains, IsTrue, min};
+ghost use Rattle.policy_rules.specs.Reuse.{IsReused, is_among, is_reused, is_same_key};
 
 use kdb_base::PlainKey;
 
 fn is_same(a: &PlainKey, b: &PlainKey) -> bool
-    ensures { IsTrue result ↔ (a.now ≡ b.now) }
+    ensures is { IsTrue result ↔ (a.now ≡ b.now) }
+    ensures value { result ≡ is_same_key a.now b.now }
 {
     a.etype() == b.etype() && a.as_slice() == b.as_slice()
 }
 
 fn holds(keys: &[PlainKey], key: &PlainKey) -> bool
-    ensures { IsTrue result ↔ Contains keys.now key.now }
+    ensures is { IsTrue result ↔ Contains keys.now key.now }
+    ensures value { result ≡ is_among keys.now key.now }
 {
     keys.iter().any(|other| is_same(other, key))
 }
 
 fn is_used(key: &PlainKey, now: &[PlainKey], old: &[PlainKey]) -> bool
-    ensures { IsTrue result ↔ (Contains now.now key.now ⊎ Contains old.now key.now) }
+    ensures is { IsTrue result ↔ (Contains now.now key.now ⊎ Contains old.now key.now) }
+    ensures value { result ≡ (is_among now.now key.now || is_among old.now key.now) }
 {
     holds(now, key) || holds(old, key)
 }
@@ -24,7 +27,8 @@ fn is_used(key: &PlainKey, now: &[PlainKey], old: &[PlainKey]) -> bool
 /// Whether a key of a new password equals, in its encryption type and its bytes, a key of the
 /// standing password, `now`, or a remembered one, `old`.
 pub fn reused(fresh: &[PlainKey], now: &[PlainKey], old: &[PlainKey]) -> bool
-    ensures { IsTrue result ↔ IsReused fresh.now now.now old.now }
+    ensures is { IsTrue result ↔ IsReused fresh.now now.now old.now }
+    ensures value { result ≡ is_reused fresh.now now.now old.now }
 {
     fresh.iter().any(|key| is_used(key, now, old))
 }

@@ -34,12 +34,28 @@ fn passwords(rt: HostRuntime) -> Result<(), Fail> {
     for (password, want) in &cases {
         assert_eq!(rt; check_password(&policy, password), *want, "{password:?}");
     }
+    let none = Numbers::without_policy();
+    assert_eq!(rt; check_numbers(&none, b""), Err(Refusal::PassTooShort));
+    assert_eq!(rt; check_numbers(&none, b"\0"), Ok(()));
     assert_eq!(rt; policy.name(), b"std".as_slice());
     assert_eq!(rt; (policy.max_life(), policy.min_life()), (0, 60));
     assert_eq!(rt;
         (policy.min_length(), policy.min_classes(), policy.history()),
         (8, 3, 2)
     );
+    Ok(())
+}
+
+#[test]
+fn equal_policies(rt: HostRuntime) -> Result<(), Fail> {
+    let name = Blob::from_bytes(rt.alloc(), b"p")?;
+    let same = Blob::from_bytes(rt.alloc(), b"p")?;
+    let other = Blob::from_bytes(rt.alloc(), b"p")?;
+    assert!(rt; is_policy_name(name.as_slice()) && is_policy_name(same.as_slice()));
+    assert!(rt; is_policy_name(other.as_slice()));
+    let policy = Policy::from_numbers(name, Numbers::without_policy());
+    assert!(rt; policy == Policy::new(same, 0, 0, 1, 1, 1));
+    assert!(rt; policy != Policy::new(other, 0, 0, 1, 1, 2));
     Ok(())
 }
 

@@ -3,24 +3,19 @@ use Rattle.std.proofs.Common.{◌≡◌, ℕ, ◌+◌, Bool, true, false, Option
 use Rattle.princ_name.specs.Bytes.{is_refused}
 use Rattle.princ_name.specs.Faults.{fault_from, first_fault}
 use Rattle.princ_name.specs.Reading.{Said, says, before_plain, before_escaped, before_sign, empty_part}
-use Rattle.princ_name.specs.Spelling.{SpellsText, SpellsPart, SpellsParts, SpellsWithRealm, is_star}
+use Rattle.princ_name.specs.Spelling.{SpellsText, SpellsPart, SpellsParts, SpellsWithRealm, is_bare}
 use Rattle.princ_name.specs.declared.parts.Part.{Part}
 use Rattle.princ_name.proofs.Takes.{says-plain, fault-plain}
-use Rattle.princ_name.proofs.Sound.{same_empty, same_star}
+use Rattle.princ_name.proofs.Sound.{plain-bare}
 
 -- another first text
 abbrev with_first : Part → Said → Said
 with_first part said = record { first = part; others = said.others; realm_at = said.realm_at }
 
-plain_first : (b : ℕ) (text word : List ℕ) (wild : Bool) (said : Said) → SpellsText text word
-    → before_plain b (with_first (record { text = text; wild = wild }) said) ≡ with_first (record { text = b ∷ text; wild = is_star (b ∷ word) }) said
-unfolding before_plain
-plain_first b text word wild said h = ap (λ (w : Bool). with_first (record { text = b ∷ text; wild = w }) said) (same_star b text word (same_empty text word h))
-
 pub read_text : (text front : List ℕ) (at next : ℕ) (mark : Option ℕ) (rest : List ℕ) → next ≡ at + length front → SpellsText text front
     → (says next false mark rest).first ≡ empty_part
-    → says at false mark (front ++ rest) ≡ with_first (record { text = text; wild = is_star front }) (says next false mark rest)
-unfolding SpellsText is_star says before_escaped
+    → says at false mark (front ++ rest) ≡ with_first (record { text = text; bare = is_bare front }) (says next false mark rest)
+unfolding SpellsText is_bare says before_plain before_escaped
 read_text [] front at next mark rest here h stops =
     let same : at ≡ next = omega (arith, ap length h) in
     rw (h, same) (ap (λ (p : Part). with_first p (says next false mark rest)) stops)
@@ -30,7 +25,7 @@ read_text (b ∷ text) front at next mark rest here h stops = elim h.2 [
       let more : next ≡ at + 1 + length h.1 = omega (arith, ap length is) in
       rw is (says-plain at b mark (h.1 ++ rest) plain.0
       ∙ ap (λ s. before_plain b s) (read_text text h.1 (at + 1) next mark rest more h.3 stops)
-      ∙ plain_first b text h.1 (is_star h.1) (says next false mark rest) h.3)
+      ∙ ap (λ (w : Bool). with_first (record { text = b ∷ text; bare = w }) (says next false mark rest)) (sym (plain-bare b h.1 plain.0)))
   | inr behind ↦
       let is : front ≡ 92 ∷ behind.0 ∷ h.1 = h.4 ∙ ap (λ p. p ++ h.1) behind.3 in
       let more : next ≡ at + 1 + 1 + length h.1 = omega (arith, ap length is) in
@@ -56,8 +51,8 @@ faultless_text (b ∷ text) front at next realm rest here h = elim h.2 [
 ]
 
 part_read : (part : Part) (front : List ℕ) (said : Said) → SpellsPart part front
-    → with_first (record { text = part.text; wild = is_star front }) said ≡ with_first part said
-part_read part front said h = ap (λ (w : Bool). with_first (record { text = part.text; wild = w }) said) (sym h.wild)
+    → with_first (record { text = part.text; bare = is_bare front }) said ≡ with_first part said
+part_read part front said h = ap (λ (w : Bool). with_first (record { text = part.text; bare = w }) said) (sym h.bare)
 
 says-between : (at : ℕ) (rest : List ℕ) → says at false None (47 ∷ rest) ≡ before_sign (says (at + 1) false None rest)
 unfolding says

@@ -13,3 +13,6 @@ pub mod Matching
 pub mod PrintedSpells
 pub mod FaultlessWords
 pub mod OwnNames
+pub mod PatternReadings
+pub mod PrintedNames
+pub mod MasterName

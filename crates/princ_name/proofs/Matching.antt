@@ -1,8 +1,9 @@
 -- Patterns and names, part by part.
 use Rattle.std.proofs.Common.{◌≡◌, ℕ, zero, suc, ◌+◌, ◌<◌, ◌≤◌, true, false, Option, Some, List, [], ◌∷◌, ◌++◌, length, take, drop, get_or, slice_set, refl, sym, ap, subst, ◌∙◌, append-nil, length-append, if◌then◌else◌, arith}
-use Rattle.std.proofs.lemmas.List.{drop_more, drop_all, take_more, take_all, length-take-le}
+use Rattle.std.proofs.lemmas.List.{drop_more, drop_all, take_more, take_all, length-map, length-take-le}
 use Rattle.princ_name.specs.Found.{IsFound}
-use Rattle.princ_name.specs.Patterns.{MatchesPart, MatchesParts, Matches, first_of, hits_of, wild_places}
+use Rattle.princ_name.specs.Kinds.{is_any}
+use Rattle.princ_name.specs.Patterns.{IsWithin, MatchesPart, MatchesParts, Matches, first_of, hits_of, wild_places}
 use Rattle.princ_name.specs.Names.{NameParts}
 use Rattle.princ_name.specs.Shape.{PatternShape, Every, Parts}
 use Rattle.princ_name.specs.declared.parts.Part.{Part}
@@ -95,27 +96,27 @@ wild-append k [] qs = let same : k ≡ k + 0 = omega arith in ap (λ (n : ℕ). 
 wild-append k (p ∷ ps) qs =
     let same : k + 1 + length ps ≡ k + length (p ∷ ps) = omega arith in
     let rest = wild-append (k + 1) ps qs ∙ ap (λ (n : ℕ). wild_places (k + 1) ps ++ wild_places n qs) same in
-    elim p.wild as (λ w. (if w then k ∷ wild_places (k + 1) (ps ++ qs) else wild_places (k + 1) (ps ++ qs))
+    elim (is_any p) as (λ w. (if w then k ∷ wild_places (k + 1) (ps ++ qs) else wild_places (k + 1) (ps ++ qs))
     ≡ (if w then k ∷ wild_places (k + 1) ps else wild_places (k + 1) ps) ++ wild_places (k + length (p ∷ ps)) qs) [
       | true ↦ ap (λ (l : List ℕ). k ∷ l) rest
       | false ↦ rest
     ]
 
-wild-one : (k : ℕ) (part : Part) → part.wild ≡ true → wild_places k (part ∷ []) ≡ k ∷ []
+wild-one : (k : ℕ) (part : Part) → is_any part ≡ true → wild_places k (part ∷ []) ≡ k ∷ []
 unfolding wild_places
 wild-one k part wild = rw wild refl
 
-wild-none : (k : ℕ) (part : Part) → part.wild ≡ false → wild_places k (part ∷ []) ≡ []
+wild-none : (k : ℕ) (part : Part) → is_any part ≡ false → wild_places k (part ∷ []) ≡ []
 unfolding wild_places
 wild-none k part wild = rw wild refl
 
 -- the parts before a place, with one more
-pub places_wild : (ps : List Part) (part : Part) → part.wild ≡ true → wild_places 0 (ps ++ part ∷ []) ≡ wild_places 0 ps ++ length ps ∷ []
+pub places_wild : (ps : List Part) (part : Part) → is_any part ≡ true → wild_places 0 (ps ++ part ∷ []) ≡ wild_places 0 ps ++ length ps ∷ []
 places_wild ps part wild =
     let same : 0 + length ps ≡ length ps = omega arith in
     wild-append 0 ps (part ∷ []) ∙ ap (λ (n : ℕ). wild_places 0 ps ++ wild_places n (part ∷ [])) same ∙ ap (λ (l : List ℕ). wild_places 0 ps ++ l) (wild-one (length ps) part wild)
 
-pub places_plain : (ps : List Part) (part : Part) → part.wild ≡ false → wild_places 0 (ps ++ part ∷ []) ≡ wild_places 0 ps
+pub places_plain : (ps : List Part) (part : Part) → is_any part ≡ false → wild_places 0 (ps ++ part ∷ []) ≡ wild_places 0 ps
 places_plain ps part wild =
     wild-append 0 ps (part ∷ []) ∙ ap (λ (l : List ℕ). wild_places 0 ps ++ l) (wild-none (0 + length ps) part wild) ∙ append-nil (wild_places 0 ps)
 
@@ -129,7 +130,7 @@ found_none found h = subst (λ (l : List ℕ). IsFound l found) (sym nothing_wil
 take_part : (ps : List Part) (i : ℕ) (part : Part) → i < length ps → part ≡ get_or ps i part → take (i + 1) ps ≡ take i ps ++ part ∷ []
 take_part ps i part lt is = take_more ps i part lt ∙ ap (λ (p : Part). take i ps ++ p ∷ []) (sym is)
 
-pub found_wild : (ps : List Part) (i place : ℕ) (part : Part) (old new : Found) → i < length ps → part ≡ get_or ps i part → part.wild ≡ true → place ≡ i
+pub found_wild : (ps : List Part) (i place : ℕ) (part : Part) (old new : Found) → i < length ps → part ≡ get_or ps i part → is_any part ≡ true → place ≡ i
     → IsFound (wild_places 0 (take i ps)) old → ((places : List ℕ) → IsFound places old → IsFound (places ++ place ∷ []) new)
     → IsFound (wild_places 0 (take (i + 1) ps)) new
 found_wild ps i place part old new lt is wild same h add =
@@ -138,7 +139,7 @@ found_wild ps i place part old new lt is wild same h add =
     (ap (λ (n : ℕ). wild_places 0 (take i ps) ++ n ∷ []) (sym len) ∙ sym (places_wild (take i ps) part wild) ∙ ap (λ (l : List Part). wild_places 0 l) (sym (take_part ps i part lt is)))
     (add (wild_places 0 (take i ps)) h)
 
-pub found_plain : (ps : List Part) (i : ℕ) (part : Part) (old : Found) → i < length ps → part ≡ get_or ps i part → part.wild ≡ false
+pub found_plain : (ps : List Part) (i : ℕ) (part : Part) (old : Found) → i < length ps → part ≡ get_or ps i part → is_any part ≡ false
     → IsFound (wild_places 0 (take i ps)) old → IsFound (wild_places 0 (take (i + 1) ps)) old
 found_plain ps i part old lt is wild h =
     subst (λ (l : List ℕ). IsFound l old) (sym (places_plain (take i ps) part wild) ∙ ap (λ (l : List Part). wild_places 0 l) (sym (take_part ps i part lt is))) h
@@ -146,13 +147,13 @@ found_plain ps i part old lt is wild h =
 whole_found : (ps : List Part) (i : ℕ) (found : Found) → length ps ≤ i → IsFound (wild_places 0 (take i ps)) found → IsFound (wild_places 0 ps) found
 whole_found ps i found le h = subst (λ (l : List Part). IsFound (wild_places 0 l) found) (take_all i ps le) h
 
-pub realm_wild : (ps : List Part) (i place : ℕ) (realm : Part) (old new : Found) → length ps ≤ i → realm.wild ≡ true → place ≡ length ps
+pub realm_wild : (ps : List Part) (i place : ℕ) (realm : Part) (old new : Found) → length ps ≤ i → is_any realm ≡ true → place ≡ length ps
     → IsFound (wild_places 0 (take i ps)) old → ((places : List ℕ) → IsFound places old → IsFound (places ++ place ∷ []) new)
     → IsFound (wild_places 0 (ps ++ realm ∷ [])) new
 realm_wild ps i place realm old new le wild same h add =
     subst (λ (l : List ℕ). IsFound l new) (ap (λ (n : ℕ). wild_places 0 ps ++ n ∷ []) same ∙ sym (places_wild ps realm wild)) (add (wild_places 0 ps) (whole_found ps i old le h))
 
-pub realm_plain : (ps : List Part) (i : ℕ) (realm : Part) (old : Found) → length ps ≤ i → realm.wild ≡ false
+pub realm_plain : (ps : List Part) (i : ℕ) (realm : Part) (old : Found) → length ps ≤ i → is_any realm ≡ false
     → IsFound (wild_places 0 (take i ps)) old → IsFound (wild_places 0 (ps ++ realm ∷ [])) old
 realm_plain ps i realm old le wild h = subst (λ (l : List ℕ). IsFound l old) (sym (places_plain ps realm wild)) (whole_found ps i old le h)
 
@@ -178,3 +179,10 @@ every_hits shape is = sym (ap hits_of is)
 pub parts_hits : (shape : PatternShape) (parts : List Part) (realm : Part) → shape ≡ Parts parts realm → first_of 9 (wild_places 0 (parts ++ realm ∷ [])) ≡ hits_of shape
 unfolding hits_of
 parts_hits shape parts realm is = sym (ap hits_of is)
+
+-- a pattern within the limits of names has few parts
+pub within_few : (shape : PatternShape) (parts : List Part) (realm : Part) → shape ≡ Parts parts realm → IsWithin shape → length parts ≤ 16
+unfolding IsWithin
+within_few shape parts realm is h =
+    let name = subst (λ (s : PatternShape). IsWithin s) is h in
+    omega (arith, name.few, length-map parts (λ (p : Part). p.text))

@@ -11,7 +11,7 @@ use Rattle.princ_name.specs.Faults.{first_fault, fault_place}
 use Rattle.princ_name.specs.Names.{NameParts, IsName, printed}
 use Rattle.princ_name.specs.Reading.{Said, said_texts}
 use Rattle.princ_name.specs.Readings.{is_name, name_by, name_said, said_in, realm_place, own_name_in}
-use Rattle.princ_name.specs.Spelling.{SpellsText, SpellsPart, SpellsParts, SpellsWithRealm, Spells, is_star}
+use Rattle.princ_name.specs.Spelling.{SpellsText, SpellsPart, SpellsParts, SpellsWithRealm, Spells, is_bare}
 use Rattle.princ_name.specs.Whole.{given_part, name_of}
 use Rattle.princ_name.specs.declared.parts.Part.{Part}
 use Rattle.princ_name.specs.declared.faults.NameFault.{NameFault}
@@ -111,8 +111,8 @@ place_said : (word : List ℕ) (parts : List (List ℕ)) (realm : List ℕ) (s :
 unfolding realm_place
 place_said word parts realm s =
     let l = lifted parts s.front s.spells_parts in
-    rw (part_mark word l.parts (record { text = realm; wild = is_star s.back })
-    (record { front = s.front; back = s.back; spells_parts = l.spelled; spells_realm = record { text = s.spells_realm; wild = refl }; whole = s.whole })) refl
+    rw (part_mark word l.parts (record { text = realm; bare = is_bare s.back })
+    (record { front = s.front; back = s.back; spells_parts = l.spelled; spells_realm = record { text = s.spells_realm; bare = refl }; whole = s.whole })) refl
 
 -- ---- the three answers
 

@@ -2,7 +2,7 @@
 use Rattle.std.proofs.Common.{◌≡◌, ℕ, None, List, [], ◌∷◌, ◌++◌, map, inl, inr, refl, sym, ap, ◌∙◌}
 use Rattle.princ_name.specs.Faults.{first_fault}
 use Rattle.princ_name.specs.Names.{NameParts}
-use Rattle.princ_name.specs.Spelling.{SpellsText, SpellsPart, SpellsParts, SpellsWithRealm, SpellsWord, Spells, is_star}
+use Rattle.princ_name.specs.Spelling.{SpellsText, SpellsPart, SpellsParts, SpellsWithRealm, SpellsWord, Spells, is_bare}
 use Rattle.princ_name.specs.Whole.{given_part, name_of}
 use Rattle.princ_name.specs.declared.parts.Part.{Part}
 use Rattle.princ_name.proofs.Shapes.{same_shape, word_read}
@@ -39,18 +39,18 @@ before_lifted : (t : List ℕ) (front back word : List ℕ) (texts : List (List 
 unfolding SpellsParts
 before_lifted t front back word texts [] h are spelled whole = absurd spelled
 before_lifted t front back word texts (p ∷ ps) h are spelled whole = record {
-  parts = (record { text = t; wild = is_star front }) ∷ p ∷ ps;
+  parts = (record { text = t; bare = is_bare front }) ∷ p ∷ ps;
   texts_are = ap (λ (ts : List (List ℕ)). t ∷ ts) are;
-  spelled = (front, back, record { text = h; wild = refl }, spelled, whole);
+  spelled = (front, back, record { text = h; bare = refl }, spelled, whole);
 }
 
 pub lifted : (texts : List (List ℕ)) (word : List ℕ) → SpellsParts SpellsText texts word → Lifted texts word
 unfolding SpellsParts
 lifted [] word h = absurd h
 lifted (t ∷ []) word h = record {
-  parts = (record { text = t; wild = is_star word }) ∷ [];
+  parts = (record { text = t; bare = is_bare word }) ∷ [];
   texts_are = refl;
-  spelled = record { text = h; wild = refl };
+  spelled = record { text = h; bare = refl };
 }
 lifted (t ∷ u ∷ texts) word h =
     let rest = lifted (u ∷ texts) h.1 h.3 in
@@ -75,9 +75,9 @@ lifted_name word given name (inr h) =
     let l = lifted name.parts h.front h.spells_parts in
     record {
       parts = l.parts;
-      realm = record { text = name.realm; wild = is_star h.back };
+      realm = record { text = name.realm; bare = is_bare h.back };
       is = ap (λ (ps : List (List ℕ)). record { parts = ps; realm = name.realm }) l.texts_are;
-      spelled = inr (record { front = h.front; back = h.back; spells_parts = l.spelled; spells_realm = record { text = h.spells_realm; wild = refl }; whole = h.whole });
+      spelled = inr (record { front = h.front; back = h.back; spells_parts = l.spelled; spells_realm = record { text = h.spells_realm; bare = refl }; whole = h.whole });
     }
 
 name_is : (ps qs : List Part) (r s : Part) → ps ≡ qs → r ≡ s → name_of ps r ≡ name_of qs s

@@ -2,51 +2,36 @@
 use Rattle.std.proofs.Common.{◌≡◌, ℕ, ◌+◌, Bool, true, false, Some, None, List, [], ◌∷◌, ◌++◌, length, ◌⊎◌, inl, inr, refl, sym, ap, subst, ◌∙◌, append_assoc, length-append, if◌then◌else◌, arith}
 use Rattle.princ_name.specs.Bytes.{is_refused, is_plain, escaped}
 use Rattle.princ_name.specs.Faults.{fault_from}
-use Rattle.princ_name.specs.Reading.{Said, says, before_plain, before_escaped, before_sign, empty_part, is_empty}
-use Rattle.princ_name.specs.Spelling.{SpellsByte, SpellsText, SpellsPart, SpellsParts, is_star}
+use Rattle.princ_name.specs.Reading.{Said, says, before_plain, before_escaped, before_sign, empty_part}
+use Rattle.princ_name.specs.Spelling.{SpellsText, SpellsPart, SpellsParts, is_bare}
 use Rattle.princ_name.specs.declared.parts.Part.{Part}
 use Rattle.princ_name.proofs.ByteKinds.{kind_of, allowed_behind, ended_behind}
+use Rattle.princ_name.proofs.Bytewise.{plain_tests}
 use Rattle.princ_name.proofs.Takes.{says-plain}
 
 pub nothing_spelled : SpellsPart empty_part []
-unfolding SpellsText is_star
-nothing_spelled = record { text = refl; wild = refl }
+unfolding SpellsText is_bare
+nothing_spelled = record { text = refl; bare = refl }
 
-nil-empty : (word : List ℕ) → word ≡ [] → true ≡ is_empty word
-unfolding is_empty
-nil-empty word h = rw h refl
-
-behind-empty : (b : ℕ) (piece rest : List ℕ) → SpellsByte b piece → false ≡ is_empty (piece ++ rest)
-unfolding is_empty
-behind-empty b piece rest (inl h) = rw h.1 refl
-behind-empty b piece rest (inr h) = rw h.3 refl
-
-pub same_empty : (text word : List ℕ) → SpellsText text word → is_empty text ≡ is_empty word
-unfolding SpellsText is_empty
-same_empty [] word h = nil-empty word h
-same_empty (b ∷ text) word h = behind-empty b h.0 h.1 h.2 ∙ ap is_empty (sym h.4)
-
-pub same_star : (b : ℕ) (text word : List ℕ) → is_empty text ≡ is_empty word → is_star (b ∷ text) ≡ is_star (b ∷ word)
-unfolding is_empty is_star
-same_star b [] [] h = refl
-same_star b [] (c ∷ word) h = absurd (cc)
-same_star b (c ∷ text) [] h = absurd (cc)
-same_star b (c ∷ text) (d ∷ word) h = refl
+-- a byte that stands for itself is no backslash
+pub plain-bare : (b : ℕ) (word : List ℕ) → is_plain b ≡ true → is_bare (b ∷ word) ≡ is_bare word
+unfolding is_bare
+plain-bare b word plain = rw (plain_tests b plain).3 refl
 
 plain_part : (b : ℕ) (part : Part) → is_plain b ≡ true → (word : List ℕ) → SpellsPart part word
-    → SpellsPart (record { text = b ∷ part.text; wild = is_star (b ∷ part.text) }) (b ∷ word)
+    → SpellsPart (record { text = b ∷ part.text; bare = part.bare }) (b ∷ word)
 unfolding SpellsText
 plain_part b part plain word h = record {
   text = (b ∷ [], word, inl (plain, refl), h.text, refl);
-  wild = same_star b part.text word (same_empty part.text word h.text);
+  bare = h.bare ∙ sym (plain-bare b word plain);
 }
 
 escaped_part : (c : ℕ) (part : Part) → is_refused c ≡ false → (word : List ℕ) → SpellsPart part word
-    → SpellsPart (record { text = escaped c ∷ part.text; wild = false }) (92 ∷ c ∷ word)
-unfolding SpellsText is_star
+    → SpellsPart (record { text = escaped c ∷ part.text; bare = false }) (92 ∷ c ∷ word)
+unfolding SpellsText is_bare
 escaped_part c part allowed word h = record {
   text = (92 ∷ c ∷ [], word, inr (c, allowed, refl, refl), h.text, refl);
-  wild = refl;
+  bare = refl;
 }
 
 -- bytes that change the first component alone

@@ -5,11 +5,15 @@ pub mod Faults
 pub mod Reading
 pub mod Readings
 pub mod Steps
+pub mod Kinds
 pub mod Whole
 pub mod Answers
 pub mod Shape
+pub mod Printed
 pub mod Patterns
+pub mod PatternReadings
 pub mod Found
 pub mod Equal
 pub mod Realms
 pub mod RealmNames
+pub mod RealmLaws

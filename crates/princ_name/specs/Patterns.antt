@@ -1,5 +1,6 @@
 -- Patterns of names: what spells them, what they match, and where their wildcards stand.
 use Rattle.std.specs.Prelude.{ℕ, zero, suc, ◌≡◌, ◌≢◌, ◌+◌, ◌⊎◌, true, List, [], ◌∷◌, ◌++◌, Option, Some, None, Result, Ok, Err, ⊤, if◌then◌else◌}
+use Rattle.princ_name.specs.Kinds.{is_any}
 use Rattle.princ_name.specs.Names.{NameParts, IsName}
 use Rattle.princ_name.specs.Spelling.{SpellsPart, SpellsWord}
 use Rattle.princ_name.specs.Whole.{given_part, name_of}
@@ -20,9 +21,18 @@ AnswersPattern pattern (Ok answer) = answer ≡ pattern
 AnswersPattern pattern (Err MemoryOut) = ⊤
 AnswersPattern pattern (Err (BadName offset)) = ⊥
 
+-- a pattern of parts is within the limits of names
+unfoldable pub IsWithin : PatternShape → Type 0
+IsWithin Every = ⊤
+IsWithin (Parts parts realm) = IsName (name_of parts realm)
+
+abbrev pub realm_of : PatternShape → Option Part
+realm_of Every = None
+realm_of (Parts parts realm) = Some realm
+
 -- a wildcard matches any text whole
 abbrev pub MatchesPart : Part → List ℕ → Type 0
-MatchesPart part text = (part.wild ≡ true) ⊎ (part.text ≡ text)
+MatchesPart part text = (is_any part ≡ true) ⊎ (part.text ≡ text)
 
 -- as many texts as parts, each matched by its own
 unfoldable pub MatchesParts : List Part → List (List ℕ) → Type 0
@@ -38,7 +48,7 @@ Matches (Parts parts realm) name = MatchesParts parts name.parts × MatchesPart 
 -- the places of the wildcards among these parts, of which the first has this place
 unfoldable pub wild_places : ℕ → List Part → List ℕ
 wild_places place [] = []
-wild_places place (part ∷ parts) = if part.wild then place ∷ wild_places (place + 1) parts else wild_places (place + 1) parts
+wild_places place (part ∷ parts) = if is_any part then place ∷ wild_places (place + 1) parts else wild_places (place + 1) parts
 
 -- the first so many, and None where there are fewer
 unfoldable pub first_of : ℕ → List ℕ → List (Option ℕ)

@@ -1,7 +1,6 @@
 -- What a word without a fault says, byte by byte.
-use Rattle.std.specs.Prelude.{ℕ, ◌+◌, ◌≡◌, ◌==◌, Bool, true, false, ◌||◌, ◌&&◌, List, [], ◌∷◌, ◌++◌, Option, Some, None, if◌then◌else◌}
+use Rattle.std.specs.Prelude.{ℕ, ◌+◌, ◌≡◌, ◌==◌, Bool, true, false, ◌&&◌, List, [], ◌∷◌, ◌++◌, Option, Some, None, if◌then◌else◌}
 use Rattle.princ_name.specs.Bytes.{escaped}
-use Rattle.princ_name.specs.Spelling.{is_star}
 use Rattle.princ_name.specs.Faults.{first_fault}
 use Rattle.princ_name.specs.declared.parts.Part.{Part}
 
@@ -12,15 +11,15 @@ pub record Said : Type 0 where
   pub realm_at : Option ℕ
 
 abbrev pub empty_part : Part
-empty_part = record { text = []; wild = false }
+empty_part = record { text = []; bare = true }
 
 -- a byte that stands for itself, before the first text
 unfoldable pub before_plain : ℕ → Said → Said
-before_plain c said = record said { first = record { text = c ∷ said.first.text; wild = is_star (c ∷ said.first.text) } }
+before_plain c said = record said { first = record { text = c ∷ said.first.text; bare = said.first.bare } }
 
 -- a byte that a backslash stands before, before the first text
 unfoldable pub before_escaped : ℕ → Said → Said
-before_escaped c said = record said { first = record { text = escaped c ∷ said.first.text; wild = false } }
+before_escaped c said = record said { first = record { text = escaped c ∷ said.first.text; bare = false } }
 
 -- a sign before the first text
 unfoldable pub before_sign : Said → Said
@@ -38,20 +37,13 @@ says at behind_slash mark (c ∷ word) =
 abbrev pub said_texts : Said → List Part
 said_texts said = said.first ∷ said.others
 
-unfoldable pub is_empty : List ℕ → Bool
-is_empty [] = true
-is_empty (b ∷ bytes) = false
-
 -- a text whose front was read already
 unfoldable pub joined : List ℕ → Bool → Part → Part
-joined text wild part = record {
-  text = text ++ part.text;
-  wild = (wild && is_empty part.text) || (is_empty text && part.wild);
-}
+joined text bare part = record { text = text ++ part.text; bare = bare && part.bare }
 
 -- the texts of a word, where these texts and this front of a text were read already
 unfoldable pub texts_with : List Part → List ℕ → Bool → Said → List Part
-texts_with texts text wild said = texts ++ joined text wild said.first ∷ said.others
+texts_with texts text bare said = texts ++ joined text bare said.first ∷ said.others
 
 -- these are the texts that the word says, and it has no fault
 pub record Says (word : List ℕ) (texts : List Part) (last : Part) (realm_at : Option ℕ) : Type 0 where

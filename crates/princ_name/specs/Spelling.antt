@@ -1,5 +1,6 @@
 -- Which words stand for which components and realm.
-use Rattle.std.specs.Prelude.{ℕ, ◌≡◌, ◌==◌, Bool, true, false, List, [], ◌∷◌, ◌++◌, ◌⊎◌}
+use Rattle.std.specs.Prelude.{ℕ, ◌≡◌, ◌==◌, Bool, true, false, not, List, [], ◌∷◌, ◌++◌, ◌⊎◌}
+use Rattle.std.specs.List.{list_all}
 use Rattle.princ_name.specs.Bytes.{is_refused, is_plain, escaped}
 use Rattle.princ_name.specs.Names.{NameParts}
 use Rattle.princ_name.specs.declared.parts.Part.{Part}
@@ -15,16 +16,14 @@ unfoldable pub SpellsText : List ℕ → List ℕ → Type 0
 SpellsText [] word = word ≡ []
 SpellsText (b ∷ text) word = (piece : List ℕ) × (rest : List ℕ) × SpellsByte b piece × SpellsText text rest × (word ≡ piece ++ rest)
 
--- the one byte *, as it stands in a word
-unfoldable pub is_star : List ℕ → Bool
-is_star [] = false
-is_star (c ∷ []) = c == 42
-is_star (c ∷ d ∷ word) = false
+-- a word in which no backslash stands, which is then the text that it spells
+unfoldable pub is_bare : List ℕ → Bool
+is_bare word = list_all (λ c. not (c == 92)) word
 
--- the text, and whether it stands there as a wildcard
+-- the text, and whether it stands there without a backslash
 pub record SpellsPart (part : Part) (word : List ℕ) : Type 0 where
   pub text : SpellsText part.text word
-  pub wild : part.wild ≡ is_star word
+  pub bare : part.bare ≡ is_bare word
 
 -- the components, with / between them
 unfoldable pub SpellsParts : {A : Type 0} → (A → List ℕ → Type 0) → List A → List ℕ → Type 0

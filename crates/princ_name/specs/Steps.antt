@@ -7,7 +7,7 @@ use Rattle.princ_name.specs.declared.reading.Reading.{Reading}
 
 -- the texts, the realm's place and the first fault that come, where these were read already
 abbrev pub texts_of : ℕ → Reading → List ℕ → List Part
-texts_of at r rest = texts_with r.texts.items r.text.items r.wild (says at r.behind_slash r.realm_at rest)
+texts_of at r rest = texts_with r.texts.items r.text.items r.bare (says at r.behind_slash r.realm_at rest)
 
 abbrev pub mark_of : ℕ → Reading → List ℕ → Option ℕ
 mark_of at r rest = (says at r.behind_slash r.realm_at rest).realm_at

@@ -11,9 +11,9 @@ use Rattle.princ_name.specs.declared.faults.NameFault.TheVariants.{BadName, Memo
 abbrev pub name_of : List Part → Part → NameParts
 name_of parts realm = record { parts = map (λ p. p.text) parts; realm = realm.text }
 
--- the given realm, which is no wildcard
+-- the given realm, which does not stand in the word and so is no wildcard
 abbrev pub given_part : List ℕ → Part
-given_part realm = record { text = realm; wild = false }
+given_part realm = record { text = realm; bare = false }
 
 -- the realm begins at this place of the word
 pub record RealmAt (word : List ℕ) (parts : List Part) (realm : Part) (at : ℕ) : Type 0 where

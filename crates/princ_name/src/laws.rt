@@ -1,14 +1,17 @@
 //! Laws of the words of names. They do no work.
 
-ghost use Rattle.std.specs.Prelude.{List, ℕ, ◌≡◌, ◌≢◌, ◌≤◌, ◌↔◌, ◌++◌, ◌∷◌, [], true, None, Ok, Err, length};
+ghost use Rattle.std.specs.Prelude.{List, ℕ, ◌≡◌, ◌≢◌, ◌≤◌, ◌↔◌, ◌++◌, ◌∷◌, [], true, None, Some, Ok, Err, length};
 ghost use Rattle.std.specs.List.{list_all};
 ghost use Rattle.princ_name.specs.Answers.{IsRefusedAt};
 ghost use Rattle.princ_name.specs.Bytes.{can_stand};
 ghost use Rattle.princ_name.specs.Faults.{first_fault};
 ghost use Rattle.princ_name.specs.Names.{NameParts, IsName, printed, printed_parts};
+ghost use Rattle.princ_name.specs.PatternReadings.{pattern_in};
+ghost use Rattle.princ_name.specs.Patterns.{SpellsPattern};
 ghost use Rattle.princ_name.specs.Readings.{is_name, own_name_in};
 ghost use Rattle.princ_name.specs.RealmNames.{name_in};
 ghost use Rattle.princ_name.specs.Realms.{IsRealm};
+ghost use Rattle.princ_name.specs.Shape.{PatternShape};
 ghost use Rattle.princ_name.specs.Spelling.{Spells};
 
 /// A word spells one name at most.
@@ -53,4 +56,9 @@ pub fn realms_print_as_they_are()
     ensures prints { (parts : List (List ℕ)) (realm : List ℕ) → IsRealm realm → printed (name_in parts realm) ≡ printed_parts parts ++ 64 ∷ realm }
     ensures names { (parts : List (List ℕ)) (realm : List ℕ) → IsRealm realm → parts ≢ [] → length parts ≤ 16 → list_all (list_all can_stand) parts ≡ true
         → length (printed_parts parts) ≤ 190 → IsName (name_in parts realm) }
+{}
+
+/// A word has the pattern that it spells, and no other.
+pub fn word_has_its_pattern()
+    ensures { (word given : List ℕ) (pattern : PatternShape) → (pattern_in word given ≡ Some pattern) ↔ SpellsPattern word given pattern }
 {}

@@ -9,6 +9,7 @@ mod limits;
 pub mod names;
 mod parts;
 pub mod patterns;
+pub mod printed;
 pub mod printing;
 mod reading;
 pub mod realms;
@@ -18,7 +19,8 @@ mod whole;
 
 pub use faults::NameFault;
 pub use names::{Name, parse_name, parse_own_name};
-pub use parts::Part;
+pub use parts::{Kind, Part};
 pub use patterns::{Hits, Pattern};
+pub use printed::{is_master, is_printed};
 pub use printing::print_name;
 pub use realms::{Realm, is_realm};

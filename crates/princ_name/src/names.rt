@@ -80,7 +80,7 @@ fn texts_of(alloc: Global, parts: Vec<Part>) -> Result<Vec<Blob>, MemoryOut>
     let texts = parts
         .into_iter()
         .map(|part| {
-            let Part { text, wild: _ } = part;
+            let Part { text, bare: _ } = part;
             text
         })
         .collect(alloc)?;
@@ -102,7 +102,7 @@ fn name_from(alloc: Global, whole: Whole) -> Result<Name, MemoryOut>
     let parts = texts_of(alloc, parts)?;
     let Part {
         text: realm,
-        wild: _,
+        bare: _,
     } = realm;
     Ok(Name {
         parts,

@@ -1,5 +1,5 @@
 ghost use Rattle.princ_name.specs.Patterns.{MatchesPart, MatchesParts, first_of, wild_places};
-ghost use Rattle.std.specs.Prelude.{List, ℕ, ◌≡◌, ◌≢◌, ◌+◌, ◌<◌, ◌↔◌, [], ◌∷◌, ◌++◌, true, false, None, length, IfOk, IfSome, IsTrue};
+ghost use Rattle.std.specs.Prelude.{List, ℕ, ◌≡◌, ◌≢◌, ◌+◌, ◌<◌, ◌↔◌, [], ◌∷◌, ◌++◌, true, false, None, length, IfOk, IfSome, IsTrue, option_map};
 
 use crate::faults::NameFault;
 use crate::names::Name;
@@ -69,18 +69,21 @@ enum Form {
 }
 
 /// A pattern of names. `*` alone matches every name. Else it has components and a realm as a name has
-/// them, and one that stands as `*` alone matches any text whole.
+/// them, and one that is `*` in the word matches any text whole.
 #[derive(Debug, Drop)]
 pub struct Pattern {
     form: Form,
 }
 
 impl Model for Pattern {
+    ghost use Rattle.princ_name.specs.Patterns.{IsWithin};
     ghost use Rattle.princ_name.specs.Shape.{PatternShape, shape_of};
 
     ghost Value = { PatternShape };
 
     ghost view = { λ p. shape_of p.form };
+
+    ghost invariant = { λ p. IsWithin (shape_of p.form) };
 }
 
 /// Whether a word is one `*`.
@@ -96,7 +99,8 @@ fn part_matches(part: &Part, text: &[u8]) -> bool
     ensures yes { result ≡ true → MatchesPart part.now text.now }
     ensures no { result ≡ false → MatchesPart part.now text.now → ⊥ }
 {
-    if part.wild {
+    let any = part.is_any();
+    if any {
         return true;
     }
     part.text.as_slice() == text
@@ -125,11 +129,13 @@ fn hits_among(parts: &[Part], realm: &Part) -> Hits
 {
     let mut found = Found::none();
     for (place, part) in parts.iter().enumerate() {
-        if part.wild {
+        let any = part.is_any();
+        if any {
             found.add(place as u8);
         }
     }
-    if realm.wild {
+    let any_realm = realm.is_any();
+    if any_realm {
         found.add(parts.len() as u8);
     }
     let at = found.at;
@@ -140,7 +146,8 @@ impl Pattern {
     ghost use Rattle.princ_name.specs.Faults.{fault_place};
     ghost use Rattle.princ_name.specs.Shape.{PatternShape, Every, Parts};
     ghost use Rattle.princ_name.specs.declared.parts.Part.{Part as PartShape};
-    ghost use Rattle.princ_name.specs.Patterns.{AnswersPattern, Matches, SpellsPattern, hits_of};
+    ghost use Rattle.princ_name.specs.Patterns.{AnswersPattern, Matches, SpellsPattern, hits_of, realm_of};
+    ghost use Rattle.princ_name.specs.PatternReadings.{ReadsPattern, pattern_in};
 
     /// The pattern that a word spells. Faults and limits are those of `parse_name`, where a wildcard
     /// counts as the one byte that it is, and without an `@` it has the given realm.
@@ -148,6 +155,7 @@ impl Pattern {
         ensures spelled { IfOk result (λ pattern. SpellsPattern text.now realm.now pattern) }
         ensures only { (pattern : PatternShape) → SpellsPattern text.now realm.now pattern → AnswersPattern pattern result }
         ensures place { (offset : ℕ) → result ≡ Err (NameFault.BadName offset) → offset ≡ fault_place text.now }
+        ensures reading { ReadsPattern (pattern_in text.now realm.now) result }
     {
         if is_lone_star(text) {
             return Ok(Pattern { form: Form::Any });
@@ -174,6 +182,40 @@ impl Pattern {
         }
     }
 
+    /// The realm, or `None` for the pattern of every name.
+    pub fn realm(&self) -> Option<&Part>
+        ensures { option_map (λ p. p.now) result ≡ realm_of self.now }
+    {
+        match &self.form {
+            Form::Any => None,
+            Form::Parts { parts: _, realm } => Some(realm),
+        }
+    }
+
+    /// The places of its wildcards in the names that it matches.
+    pub fn hits(&self) -> Hits
+        ensures { result.at ≡ hits_of self.now }
+    {
+        match &self.form {
+            Form::Any => Hits::none(),
+            Form::Parts { parts, realm } => hits_among(parts, realm),
+        }
+    }
+
+    fn fits(&self, name: &Name) -> bool
+        ensures { IsTrue result ↔ Matches self.now name.now }
+    {
+        match &self.form {
+            Form::Any => true,
+            Form::Parts { parts, realm } => {
+                if !parts_match(parts, name.parts()) {
+                    return false;
+                }
+                part_matches(realm, name.realm())
+            }
+        }
+    }
+
     /// Whether the pattern matches a name. Where it does, the hits are the places of its wildcards in the
     /// name, and else they stay.
     pub fn matches(&self, name: &Name, hits: &mut Hits) -> bool
@@ -181,21 +223,10 @@ impl Pattern {
         ensures hits { result ≡ true → hits.new.at ≡ hits_of self.now }
         ensures kept { result ≡ false → hits.new ≡ hits.old }
     {
-        match &self.form {
-            Form::Any => {
-                *hits = Hits::none();
-                true
-            }
-            Form::Parts { parts, realm } => {
-                if !parts_match(parts, name.parts()) {
-                    return false;
-                }
-                if !part_matches(realm, name.realm()) {
-                    return false;
-                }
-                *hits = hits_among(parts, realm);
-                true
-            }
+        if !self.fits(name) {
+            return false;
         }
+        *hits = self.hits();
+        true
     }
 }

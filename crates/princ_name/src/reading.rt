@@ -1,7 +1,7 @@
-ghost use Rattle.std.specs.Prelude.{List, ℕ, ◌≡◌, ◌==◌, ◌&&◌, ◌+◌, ◌^◌, ◌<◌, ◌⊎◌, [], ◌∷◌, ◌++◌, true, false, Some, None, is_some, IfOk, OnOk, IsTrue};
+ghost use Rattle.std.specs.Prelude.{List, ℕ, ◌≡◌, ◌+◌, ◌^◌, ◌<◌, ◌⊎◌, [], ◌∷◌, ◌++◌, true, false, Some, None, is_some, IfOk, OnOk, IsTrue};
 ghost use Rattle.princ_name.specs.Bytes.{is_refused, is_plain};
 ghost use Rattle.princ_name.specs.Faults.{first_fault};
-ghost use Rattle.princ_name.specs.Reading.{Says, is_empty};
+ghost use Rattle.princ_name.specs.Reading.{Says};
 ghost use Rattle.princ_name.specs.Steps.{Takes, fault_of, mark_of, texts_of};
 
 use crate::bytes::{escaped, is_refused};
@@ -21,36 +21,28 @@ pub struct Spelled {
 }
 
 /// What was read of a word so far: the texts before the last sign, the text behind it, whether that
-/// stands there as `*` alone, whether a backslash came last, and the place behind the `@`.
+/// has no backslash, whether a backslash came last, and the place behind the `@`.
 #[derive(Drop)]
 struct Reading {
     texts: Vec<Part>,
     text: Vec<u8>,
-    wild: bool,
+    bare: bool,
     behind_slash: bool,
     realm_at: Option<usize>,
-}
-
-/// Whether this byte is a `*` that stands first in a text.
-#[tactic(auto, unfolding(crate::specs::Reading::is_empty))]
-fn is_lone_star(text: &[u8], byte: u8) -> bool
-    ensures { result ≡ (is_empty text.now && (byte == 42)) }
-{
-    text.is_empty() && byte == b'*'
 }
 
 impl Reading {
     fn new(alloc: Global) -> Reading
         ensures texts { result.texts.items ≡ [] }
         ensures text { result.text.items ≡ [] }
-        ensures wild { result.wild ≡ false }
+        ensures bare { result.bare ≡ true }
         ensures behind_slash { result.behind_slash ≡ false }
         ensures realm_at { result.realm_at ≡ None }
     {
         Reading {
             texts: Vec::new(alloc),
             text: Vec::new(alloc),
-            wild: false,
+            bare: true,
             behind_slash: false,
             realm_at: None,
         }
@@ -63,7 +55,6 @@ impl Reading {
         ensures taken { OnOk result ((at : ℕ) → Takes at byte self.old self.new) }
         ensures memory { (offset : ℕ) → result ≡ Err (NameFault.BadName offset) → ⊥ }
     {
-        self.wild = is_lone_star(&self.text, byte);
         self.text.push(byte)?;
         Ok(())
     }
@@ -76,7 +67,7 @@ impl Reading {
         ensures memory { (offset : ℕ) → result ≡ Err (NameFault.BadName offset) → ⊥ }
     {
         self.behind_slash = false;
-        self.wild = false;
+        self.bare = false;
         self.text.push(escaped(byte))?;
         Ok(())
     }
@@ -95,9 +86,9 @@ impl Reading {
         let text = mem::replace(&mut self.text, Vec::new(alloc));
         self.texts.push(Part {
             text: Blob::from_vec(text),
-            wild: self.wild,
+            bare: self.bare,
         })?;
-        self.wild = false;
+        self.bare = true;
         if byte == b'@' {
             self.realm_at = Some(at + 1);
         }
@@ -144,7 +135,7 @@ impl Reading {
             texts: self.texts,
             last: Part {
                 text: Blob::from_vec(self.text),
-                wild: self.wild,
+                bare: self.bare,
             },
             realm_at: self.realm_at,
         })

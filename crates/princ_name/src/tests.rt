@@ -135,9 +135,14 @@ fn hits_at(alloc: Global, pattern: &[u8], name: &[u8]) -> Result<Option<Hits>, N
 const NONE: [Option<u8>; 9] = [None; 9];
 
 /// Patterns, names, and the places that the wildcards hit.
-const MATCHED: [(&[u8], &[u8], [Option<u8>; 9]); 5] = [
+const MATCHED: [(&[u8], &[u8], [Option<u8>; 9]); 6] = [
     (b"*", b"a/b@OTHER", NONE),
     (b"\\*", b"\\*", NONE),
+    (
+        b"*1/*",
+        b"\\*1/a",
+        [Some(1), None, None, None, None, None, None, None, None],
+    ),
     (
         b"*/admin",
         b"alice/admin",
@@ -187,5 +192,39 @@ fn matches_part_by_part(rt: HostRuntime) -> Result<(), Fail> {
     assert!(rt; every.parts().is_none());
     let fault = Pattern::parse(rt.alloc(), b"*@", REALM).err();
     assert_eq!(rt; fault, Some(NameFault::BadName { offset: 2 }));
+    Ok(())
+}
+
+/// Patterns, and the kinds of their first component and of their realm.
+const KINDS: [(&[u8], Kind, Kind); 11] = [
+    (b"a*", Kind::Text, Kind::Text),
+    (b"*/a", Kind::Any, Kind::Text),
+    (b"\\*/a", Kind::Text, Kind::Text),
+    (b"a@*", Kind::Text, Kind::Any),
+    (b"a@\\*", Kind::Text, Kind::Text),
+    (b"*1/a", Kind::Wildcard(0), Kind::Text),
+    (b"*9@*2", Kind::Wildcard(8), Kind::Wildcard(1)),
+    (b"*0", Kind::Text, Kind::Text),
+    (b"*12", Kind::Text, Kind::Text),
+    (b"\\*1", Kind::Text, Kind::Text),
+    (b"*\\1", Kind::Text, Kind::Text),
+];
+
+#[test]
+fn kinds_are_told_from_unescaped_bytes(rt: HostRuntime) -> Result<(), Fail> {
+    for (word, first, realm) in KINDS.iter() {
+        let pattern = Pattern::parse(rt.alloc(), word, REALM)?;
+        let parts = pattern.parts().expect(&rt, "parts");
+        assert_eq!(rt;
+            parts.first().map(|part| part.kind()),
+            Some(*first),
+            "{word:?}"
+        );
+        assert_eq!(rt;
+            pattern.realm().map(|part| part.kind()),
+            Some(*realm),
+            "{word:?}"
+        );
+    }
     Ok(())
 }

@@ -53,7 +53,7 @@ fn with_realm(alloc: Global, spelled: Spelled, given: &[u8]) -> Result<Shape, Me
     let text = Blob::from_bytes(alloc, given)?;
     Ok(Shape {
         parts: texts,
-        realm: Part { text, wild: false },
+        realm: Part { text, bare: false },
         realm_at,
     })
 }

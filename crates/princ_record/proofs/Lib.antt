@@ -1,12 +1,4 @@
 pub mod ShortNames
 pub mod Heads
-pub mod Searches
-pub mod Edits
-pub mod Orders
-pub mod Changes
-pub mod Undos
-pub mod LeftOut
 pub mod TagLists
 pub mod OneSpelling
-pub mod Begins
-pub mod Rooms

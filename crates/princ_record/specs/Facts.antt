@@ -1,8 +1,9 @@
 -- What a principal's tagged list says: the last password change, the modifier, the version of the master key and, at K/M alone, the
--- activations and the auxiliary keys. The items stand by rising types, so each stands in one place.
-use Rattle.std.proofs.Common.{◌≡◌, ℕ, ◌+◌, ◌^◌, ◌<◌, Bool, true, false, List, [], ◌++◌, length, Option, Some, None, refl, sym, ap, subst, append_assoc, ◌∙◌, arith}
-use Rattle.std.specs.Prelude.{is_some, nat_eq, option_and_then, if◌then◌else◌}
-use Rattle.std.proofs.lemmas.Bool.{eqb-true, eq-eqb}
+-- activations and the auxiliary keys; and everywhere but there the string attributes. The items stand by rising types, so each
+-- stands in one place.
+use Rattle.std.proofs.Common.{◌≡◌, ℕ, ◌+◌, ◌^◌, ◌<◌, Bool, true, false, ◌&&◌, List, [], ◌∷◌, ◌++◌, length, Option, Some, None, refl, sym, ap, subst, append_assoc, ◌∙◌, arith}
+use Rattle.std.specs.Prelude.{is_some, not, nat_eq, option_and_then, if◌then◌else◌}
+use Rattle.std.proofs.lemmas.Bool.{and_parts, and_from, both_ways, eqb-true, eq-eqb}
 use Rattle.std.proofs.lemmas.Option.{same_Some}
 use Rattle.kdb_base.specs.declared.versions.Activation.{Activation}
 use Rattle.kdb_format.specs.Readings.{Reading, ◌>>=◌, ◌>>◌, done, known, refuse, checked, whole, big_at, little_at, counted_at, literal_at}
@@ -16,7 +17,11 @@ use Rattle.tagged_data.specs.Numbers.{version_at, IsVersion, version_content, se
 use Rattle.tagged_data.specs.Versions.{activations_at, activations_text, AreActivations, activations_content, aux_keys_at, aux_keys_text, AreAuxKeys, aux_keys_content}
 use Rattle.princ_record.specs.Printed.{is_printed}
 use Rattle.princ_record.specs.PrintedNames.{IsPrinted, printed_test, test_printed, printed_short, printed_unbroken}
+use Rattle.tagged_data.specs.Strings.{strings_at, strings_text, AreStrings}
+use Rattle.tagged_data.specs.StringLaws.{strings_content, strings_short, no_strings}
+use Rattle.tagged_data.specs.declared.string_attributes.StringAttribute.{StringAttribute}
 use Rattle.princ_record.specs.declared.facts.ChainPart.{ChainPart}
+use Rattle.princ_record.specs.declared.facts.Changes.{Changes}
 use Rattle.princ_record.specs.declared.facts.Facts.{Facts}
 
 -- ---- an item
@@ -82,46 +87,6 @@ abbrev pub IsPw : Option ℕ → Type 0
 IsPw None = Unit {0}
 IsPw (Some secs) = secs < 2 ^ 32
 
--- it stands where there is one item more than those that always stand
-unfoldable pub pw_at : ℕ → ℕ → Reading (Option ℕ)
-pw_at base count =
-    if nat_eq count base then done None
-    else if nat_eq count (base + 1) then (do secs ← tag_at 1 (whole (little_at 4)); done (Some secs))
-    else refuse
-
-no_pw : (pw : Option ℕ) (base count : ℕ) → base + pw_len pw ≡ count → nat_eq count base ≡ false → nat_eq count (base + 1) ≡ false → ⊥
-no_pw None base count e a b =
-    let same : count ≡ base = omega arith in
-    let t : nat_eq count base ≡ true = rw same (eq-eqb base base refl) in
-    absurd cc
-no_pw (Some secs) base count e a b =
-    let t : nat_eq count (base + 1) ≡ true = rw (← e) (eq-eqb (base + 1) (base + 1) refl) in
-    absurd cc
-
-is_none : (pw : Option ℕ) (base count : ℕ) → base + pw_len pw ≡ count → count ≡ base → pw ≡ None
-is_none None base count e same = refl
-is_none (Some secs) base count e same = absurd (omega arith)
-
-one_pw : (pw : Option ℕ) (base count : ℕ) → base + pw_len pw ≡ count → count ≡ base + 1 → IsPw pw → (secs : ℕ) × ((secs < 2 ^ 32) × (Some secs ≡ pw))
-one_pw None base count e same f = absurd (omega arith)
-one_pw (Some secs) base count e same f = (secs, (f, refl))
-
-pub pw_field : (base count : ℕ) → IsField (pw_at base count) pw_text (λ pw. (base + pw_len pw ≡ count) × IsPw pw)
-unfolding pw_at pw_text
-pw_field base count =
-    choice_field (nat_eq count base)
-    (λ e. let same : count ≡ base = eqb-true _ _ e in
-    let none : Option ℕ = None in
-    same_field (done_field none)
-    (λ pw is. (ap pw_text (sym is), rw is (omega arith, tt)))
-    (λ pw f. is_none pw base count f.0 same))
-    (λ other. choice_field (nat_eq count (base + 1))
-    (λ e. let same : count ≡ base + 1 = eqb-true _ _ e in
-    made_field (tag_field 1 secs_content) Some
-    (λ secs f. (refl, (sym same, f.0)))
-    (λ pw g. let one = one_pw pw base count g.0 same g.1 in (one.0, ((one.1.0, omega (arith, length-little 4 one.0)), one.1.1))))
-    (λ others. refuse_field (λ pw f. no_pw pw base count f.0 other others)))
-
 -- ---- the modifier
 
 unfoldable pub modifier_of : List ℕ → Option (ℕ × List ℕ)
@@ -131,13 +96,105 @@ pub record IsModified (m : ℕ × List ℕ) : Type 0 where
   pub secs : m.0 < 2 ^ 32
   pub name : IsPrinted m.1
 
-pub modified_field : IsField (tag_at 2 modifier_of) (λ m. tag 2 (modifier_text m)) IsModified
+modified_field : IsField (content_at modifier_of) (λ m. counted (modifier_text m)) IsModified
 unfolding modifier_of
-modified_field = same_field (tag_field 2 (whole_content (checked_field (λ m. is_printed m.1) modifier_field)))
+modified_field = same_field (content_field (whole_content (checked_field (λ m. is_printed m.1) modifier_field)))
     (λ m f. (refl, record { secs = f.0.0.secs; name = test_printed m.1 f.0.1 }))
     (λ m f.
     let short = printed_short m.1 f.name in
     ((record { secs = f.secs; name = printed_unbroken m.1 f.name }, printed_test m.1 f.name), omega (arith, length-modifier_text m)))
+
+modified_tag_field : IsField (tag_at 2 modifier_of) (λ m. tag 2 (modifier_text m)) IsModified
+unfolding tag_at tag
+modified_tag_field = after_field (literal_field (big 2 2)) tt modified_field
+
+-- ---- both changes
+
+-- the last password change, behind its type, and the modifier
+unfoldable pub pw_then_at : Reading (ℕ × (ℕ × List ℕ))
+pw_then_at = do
+  secs ← content_at (whole (little_at 4))
+  modifier ← tag_at 2 modifier_of
+  done (secs, modifier)
+
+-- the first item is of type 1 where a password change stands
+unfoldable pub changes_of : ℕ → Reading Changes
+changes_of kind =
+    if nat_eq kind 1 then (do both ← pw_then_at; done (record { pw_changed = Some both.0; modified = both.1.0; modifier = both.1.1 }))
+    else if nat_eq kind 2 then (do modifier ← content_at modifier_of; done (record { pw_changed = None; modified = modifier.0; modifier = modifier.1 }))
+    else refuse
+
+unfoldable pub changes_at : Reading Changes
+changes_at = do
+  kind ← big_at 2
+  changes_of kind
+
+unfoldable pub changes : Changes → List ℕ
+changes c = pw_text c.pw_changed ++ tag 2 (modifier_text (c.modified, c.modifier))
+
+pub record AreChanges (c : Changes) : Type 0 where
+  pub pw_changed : IsPw c.pw_changed
+  pub modified : IsModified (c.modified, c.modifier)
+
+pw_then_field : IsField pw_then_at (λ x. counted (little 4 x.0) ++ tag 2 (modifier_text x.1)) (λ x. (x.0 < 2 ^ 32) × IsModified x.1)
+unfolding pw_then_at
+pw_then_field = same_field
+    (first_field (content_field secs_content) (λ (x : ℕ × (ℕ × List ℕ)). x.0) (λ secs _.
+    last_field modified_tag_field (λ (x : ℕ × (ℕ × List ℕ)). x.1) (λ modifier. (secs, modifier)) (λ _ _. (refl, refl)) (λ x k. ap (λ (n : ℕ). let y : ℕ × (ℕ × List ℕ) = (n, x.1) in y) (sym k))))
+    (λ x f. (refl, (f.0.0, f.1)))
+    (λ x f. ((f.0, omega (arith, length-little 4 x.0)), f.1))
+
+abbrev first_kind : Option ℕ → ℕ
+first_kind None = 2
+first_kind (Some secs) = 1
+
+-- what stands behind the first type
+abbrev behind_first : Option ℕ → ℕ × List ℕ → List ℕ
+behind_first None m = counted (modifier_text m)
+behind_first (Some secs) m = counted (little 4 secs) ++ tag 2 (modifier_text m)
+
+abbrev made_of : Option ℕ → ℕ × List ℕ → Changes
+made_of pw m = record { pw_changed = pw; modified = m.0; modifier = m.1 }
+
+set_from : (pw : Option ℕ) (m : ℕ × List ℕ) → first_kind pw ≡ 1 → IsPw pw → IsModified m → (x : ℕ × (ℕ × List ℕ)) × (((x.0 < 2 ^ 32) × IsModified x.1) × (made_of (Some x.0) x.1 ≡ made_of pw m))
+set_from None m e f g = absurd (omega arith)
+set_from (Some secs) m e f g = let x : ℕ × (ℕ × List ℕ) = (secs, m) in (x, ((f, g), refl))
+
+not_set : (pw : Option ℕ) (m : ℕ × List ℕ) → first_kind pw ≡ 2 → made_of None m ≡ made_of pw m
+not_set None m e = refl
+not_set (Some secs) m e = absurd (omega arith)
+
+no_kind : (pw : Option ℕ) (kind : ℕ) → first_kind pw ≡ kind → nat_eq kind 1 ≡ false → nat_eq kind 2 ≡ false → ⊥
+no_kind None kind e a b = absurd cc
+no_kind (Some secs) kind e a b = absurd cc
+
+changes_of_field : (kind : ℕ) → IsField (changes_of kind) (λ c. behind_first c.pw_changed (c.modified, c.modifier)) (λ c. (first_kind c.pw_changed ≡ kind) × AreChanges c)
+unfolding changes_of
+changes_of_field kind =
+    choice_field (nat_eq kind 1)
+    (λ e. made_field pw_then_field (λ both. made_of (Some both.0) both.1)
+    (λ both f. (refl, (sym (eqb-true _ _ e), record { pw_changed = f.0; modified = f.1 })))
+    (λ c g. set_from c.pw_changed (c.modified, c.modifier) (g.0 ∙ eqb-true _ _ e) g.1.pw_changed g.1.modified))
+    (λ other. choice_field (nat_eq kind 2)
+    (λ e. made_field modified_field (made_of None)
+    (λ m f. (refl, (sym (eqb-true _ _ e), record { pw_changed = tt; modified = f })))
+    (λ c g. let m : ℕ × List ℕ = (c.modified, c.modifier) in (m, (g.1.modified, not_set c.pw_changed m (g.0 ∙ eqb-true _ _ e)))))
+    (λ others. refuse_field (λ c f. no_kind c.pw_changed kind f.0 other others)))
+
+small_kind : (pw : Option ℕ) → first_kind pw < 2 ^ 16
+small_kind None = omega arith
+small_kind (Some secs) = omega arith
+
+first_text : (pw : Option ℕ) (m : ℕ × List ℕ) → big 2 (first_kind pw) ++ behind_first pw m ≡ pw_text pw ++ tag 2 (modifier_text m)
+unfolding pw_text tag
+first_text None m = refl
+first_text (Some secs) m = sym (append_assoc (big 2 1) (counted (little 4 secs)) (big 2 2 ++ counted (modifier_text m)))
+
+pub changes_field : IsField changes_at changes AreChanges
+unfolding changes_at changes
+changes_field = same_field (first_field (big_field 2) (λ (c : Changes). first_kind c.pw_changed) (λ kind _. changes_of_field kind))
+    (λ c f. (first_text c.pw_changed (c.modified, c.modifier), f.1))
+    (λ c f. (small_kind c.pw_changed, f))
 
 -- ---- the version of the master key
 
@@ -202,6 +259,76 @@ chain_field false =
     (λ c is. (ap chain_text (sym is), rw is (refl, tt)))
     (λ c f. no_chain c f.0)
 
+-- ---- string attributes, which K/M never has
+
+-- one item, where there is an attribute
+abbrev pub strings_count : List StringAttribute → ℕ
+strings_count [] = 0
+strings_count (a ∷ list) = 1
+
+unfoldable pub strings_item : List StringAttribute → List ℕ
+strings_item [] = []
+strings_item (a ∷ list) = tag 11 (strings_text (a ∷ list))
+
+-- it stands where one item more is counted than stands before it
+unfoldable pub strings_item_at : Bool → ℕ → ℕ → Reading (List StringAttribute)
+strings_item_at master before count =
+    if nat_eq count before then done []
+    else if nat_eq count (before + 1) && not master then tag_at 11 strings_at
+    else refuse
+
+item_is : (list : List StringAttribute) → 0 < length list → (tag 11 (strings_text list) ≡ strings_item list) × (strings_count list ≡ 1)
+unfolding strings_item
+item_is [] some = absurd (omega arith)
+item_is (a ∷ list) some = (refl, refl)
+
+no_bytes : [] ≡ strings_item []
+unfolding strings_item
+no_bytes = refl
+
+no_item : (list : List StringAttribute) → strings_count list ≡ 0 → list ≡ []
+no_item [] e = refl
+no_item (a ∷ list) e = absurd (omega arith)
+
+one_item : (list : List StringAttribute) → strings_count list ≡ 1 → 0 < length list
+one_item [] e = absurd (omega arith)
+one_item (a ∷ list) e = omega arith
+
+other_count : (master : Bool) (list : List StringAttribute) (before count : ℕ) → before + strings_count list ≡ count → (master ≡ true → list ≡ [])
+    → nat_eq count before ≡ false → nat_eq count (before + 1) && not master ≡ false → ⊥
+other_count master [] before count e none a b =
+    let same : count ≡ before = omega arith in
+    let t : nat_eq count before ≡ true = rw same (eq-eqb before before refl) in
+    both_ways (nat_eq count before) a t
+other_count true (x ∷ list) before count e none a b =
+    let zero : length (x ∷ list) ≡ 0 = ap (λ (xs : List StringAttribute). length xs) (none refl) in
+    absurd (omega arith)
+other_count false (x ∷ list) before count e none a b =
+    let t : nat_eq count (before + 1) && true ≡ true = rw (← e) (and_from (nat_eq (before + 1) (before + 1)) true (eq-eqb (before + 1) (before + 1) refl) refl) in
+    both_ways (nat_eq count (before + 1) && true) b t
+
+not_both : (master : Bool) → not master ≡ true → master ≡ true → ⊥
+not_both true a b = absurd cc
+not_both false a b = absurd cc
+
+pub strings_item_field : (master : Bool) (before count : ℕ)
+    → IsField (strings_item_at master before count) strings_item (λ list. (before + strings_count list ≡ count) × (AreStrings list × (master ≡ true → list ≡ [])))
+unfolding strings_item_at
+strings_item_field master before count =
+    choice_field (nat_eq count before)
+    (λ e. let same : count ≡ before = eqb-true _ _ e in
+    let none : List StringAttribute = [] in
+    same_field (done_field none)
+    (λ list is. rw is (no_bytes, (omega arith, (no_strings, λ _. refl))))
+    (λ list f. no_item list (omega (arith, f.0))))
+    (λ other. choice_field (nat_eq count (before + 1) && not master)
+    (λ e. let p = and_parts (nat_eq count (before + 1)) (not master) e in
+    let same : count ≡ before + 1 = eqb-true _ _ p.0 in
+    same_field (tag_field 11 strings_content)
+    (λ list f. let is = item_is list f.0.1 in (is.0, (omega (arith, is.1), (f.0.0, λ m. absurd (not_both master p.1 m)))))
+    (λ list g. let short = strings_short list g.1.0 in ((g.1.0, one_item list (omega (arith, g.0))), omega arith)))
+    (λ others. refuse_field (λ list f. other_count master list before count f.0 f.1.1 other others)))
+
 -- ---- the list
 
 -- how many items always stand
@@ -209,19 +336,21 @@ abbrev pub base_of : Bool → ℕ
 base_of master = if master then 4 else 2
 
 abbrev pub count_of : Facts → ℕ
-count_of f = base_of (is_some f.chain) + pw_len f.pw_changed
+count_of f = base_of (is_some f.chain) + pw_len f.pw_changed + strings_count f.strings
 
 unfoldable pub facts_at : Bool → Reading Facts
 facts_at master = do
   count ← big_at 2
-  pw ← pw_at (base_of master) count
-  modifier ← tag_at 2 modifier_of
+  changes ← changes_at
   mkvno ← tag_at 8 (whole version_at)
   chain ← chain_at master
-  done (record { pw_changed = pw; modified = modifier.0; modifier = modifier.1; mkvno = mkvno; chain = chain })
+  strings ← strings_item_at master (base_of master + pw_len changes.pw_changed) count
+  done (record { pw_changed = changes.pw_changed; modified = changes.modified; modifier = changes.modifier; mkvno = mkvno; chain = chain; strings = strings })
 
 unfoldable pub facts : Facts → List ℕ
-facts f = big 2 (count_of f) ++ (pw_text f.pw_changed ++ (tag 2 (modifier_text (f.modified, f.modifier)) ++ (tag 8 (little 2 f.mkvno) ++ chain_text f.chain)))
+facts f =
+    big 2 (count_of f)
+    ++ (pw_text f.pw_changed ++ (tag 2 (modifier_text (f.modified, f.modifier)) ++ (tag 8 (little 2 f.mkvno) ++ (chain_text f.chain ++ strings_item f.strings))))
 
 pub record IsFacts (master : Bool) (f : Facts) : Type 0 where
   pub pw_changed : IsPw f.pw_changed
@@ -230,39 +359,67 @@ pub record IsFacts (master : Bool) (f : Facts) : Type 0 where
   pub mkvno : IsVersion f.mkvno
   pub chain_there : is_some f.chain ≡ master
   pub chain : IsChainOr f.chain
+  pub strings : AreStrings f.strings
+  pub no_strings : master ≡ true → f.strings ≡ []
 
-same_facts : (f : Facts) (pw : Option ℕ) (m : ℕ × List ℕ) (mkvno : ℕ) → f.pw_changed ≡ pw → ◌≡◌ {A = ℕ × List ℕ} (f.modified, f.modifier) m → f.mkvno ≡ mkvno
-    → ◌≡◌ {A = Facts} (record { pw_changed = pw; modified = m.0; modifier = m.1; mkvno = mkvno; chain = f.chain }) f
-same_facts f pw m mkvno a b c = rw (← a, ← b, ← c) refl
+abbrev changes_in : Facts → Changes
+changes_in f = record { pw_changed = f.pw_changed; modified = f.modified; modifier = f.modifier }
 
-few_items : (pw : Option ℕ) (master : Bool) → base_of master + pw_len pw < 2 ^ 16
-few_items None true = omega arith
-few_items None false = omega arith
-few_items (Some secs) true = omega arith
-few_items (Some secs) false = omega arith
+same_facts : (f : Facts) (c : Changes) (mkvno : ℕ) (chain : Option ChainPart) → changes_in f ≡ c → f.mkvno ≡ mkvno → f.chain ≡ chain
+    → ◌≡◌ {A = Facts} (record { pw_changed = c.pw_changed; modified = c.modified; modifier = c.modifier; mkvno = mkvno; chain = chain; strings = f.strings }) f
+same_facts f c mkvno chain x y z = rw (← x, ← y, ← z) refl
+
+few_items : (pw : Option ℕ) (list : List StringAttribute) (master : Bool) → base_of master + pw_len pw + strings_count list < 2 ^ 16
+few_items None [] true = omega arith
+few_items None [] false = omega arith
+few_items (Some secs) [] true = omega arith
+few_items (Some secs) [] false = omega arith
+few_items None (a ∷ list) true = omega arith
+few_items None (a ∷ list) false = omega arith
+few_items (Some secs) (a ∷ list) true = omega arith
+few_items (Some secs) (a ∷ list) false = omega arith
+
+-- what is known of the items behind the changes
+abbrev BehindChanges : Bool → ℕ → Facts → Type 0
+BehindChanges master count f =
+    IsVersion f.mkvno
+    × (((is_some f.chain ≡ master) × IsChainOr f.chain)
+    × ((base_of master + pw_len f.pw_changed + strings_count f.strings ≡ count) × (AreStrings f.strings × (master ≡ true → f.strings ≡ []))))
+
+behind_changes_field : (master : Bool) (count : ℕ) (c : Changes) → IsField
+    (tag_at 8 (whole version_at) >>= λ mkvno. chain_at master >>= λ chain. strings_item_at master (base_of master + pw_len c.pw_changed) count >>= λ strings. done (record { pw_changed = c.pw_changed; modified = c.modified; modifier = c.modifier; mkvno = mkvno; chain = chain; strings = strings }))
+    (λ f. tag 8 (little 2 f.mkvno) ++ (chain_text f.chain ++ strings_item f.strings))
+    (λ f. (changes_in f ≡ c) × BehindChanges master count f)
+behind_changes_field master count c = same_field
+    (then_field {K = λ (f : Facts). changes_in f ≡ c} mkvno_field (λ (f : Facts). f.mkvno) (λ mkvno _.
+    then_field (chain_field master) (λ (f : Facts). f.chain) (λ chain _.
+    last_field (strings_item_field master (base_of master + pw_len c.pw_changed) count) (λ (f : Facts). f.strings)
+    (λ strings. record { pw_changed = c.pw_changed; modified = c.modified; modifier = c.modifier; mkvno = mkvno; chain = chain; strings = strings })
+    (λ _ _. (refl, (refl, (refl, refl))))
+    (λ f k. same_facts f c mkvno chain k.1.1 k.1.0 k.0))))
+    (λ f g. (refl, (g.0, (g.1.0, (g.1.1.0, (ap (λ (d : Changes). base_of master + pw_len d.pw_changed + strings_count f.strings) g.0 ∙ g.1.1.1.0, g.1.1.1.1))))))
+    (λ f g. (g.0, (g.1.0, (g.1.1.0, (ap (λ (d : Changes). base_of master + pw_len d.pw_changed + strings_count f.strings) (sym g.0) ∙ g.1.1.1.0, g.1.1.1.1)))))
 
 items_field : (master : Bool) (count : ℕ) → IsField
-    (pw_at (base_of master) count >>= λ pw. tag_at 2 modifier_of >>= λ modifier. tag_at 8 (whole version_at) >>= λ mkvno. chain_at master >>= λ chain. done (record { pw_changed = pw; modified = modifier.0; modifier = modifier.1; mkvno = mkvno; chain = chain }))
-    (λ f. pw_text f.pw_changed ++ (tag 2 (modifier_text (f.modified, f.modifier)) ++ (tag 8 (little 2 f.mkvno) ++ chain_text f.chain)))
+    (changes_at >>= λ changes. tag_at 8 (whole version_at) >>= λ mkvno. chain_at master >>= λ chain. strings_item_at master (base_of master + pw_len changes.pw_changed) count >>= λ strings. done (record { pw_changed = changes.pw_changed; modified = changes.modified; modifier = changes.modifier; mkvno = mkvno; chain = chain; strings = strings }))
+    (λ f. pw_text f.pw_changed ++ (tag 2 (modifier_text (f.modified, f.modifier)) ++ (tag 8 (little 2 f.mkvno) ++ (chain_text f.chain ++ strings_item f.strings))))
     (λ f. (count_of f ≡ count) × IsFacts master f)
+unfolding changes
 items_field master count = same_field
-    (first_field (pw_field (base_of master) count) (λ (f : Facts). f.pw_changed) (λ pw _.
-    then_field modified_field (λ (f : Facts). let m : ℕ × List ℕ = (f.modified, f.modifier) in m) (λ modifier _.
-    then_field mkvno_field (λ (f : Facts). f.mkvno) (λ mkvno _.
-    last_field (chain_field master) (λ (f : Facts). f.chain) (λ chain. record { pw_changed = pw; modified = modifier.0; modifier = modifier.1; mkvno = mkvno; chain = chain })
-    (λ _ _. (refl, (refl, (refl, refl))))
-    (λ f k. same_facts f pw modifier mkvno k.1.1 k.1.0 k.0)))))
+    (first_field changes_field changes_in (λ changes _. behind_changes_field master count changes))
     (λ f g.
-    (refl, (ap (λ (b : Bool). base_of b + pw_len f.pw_changed) g.1.1.1.0 ∙ g.0.0, record { pw_changed = g.0.1; modified = g.1.0.secs; modifier = g.1.0.name; mkvno = g.1.1.0; chain_there = g.1.1.1.0; chain = g.1.1.1.1 })))
+    let there = g.1.1.0.0 in
+    (append_assoc (pw_text f.pw_changed) (tag 2 (modifier_text (f.modified, f.modifier))) (tag 8 (little 2 f.mkvno) ++ (chain_text f.chain ++ strings_item f.strings)), (ap (λ (b : Bool). base_of b + pw_len f.pw_changed + strings_count f.strings) there ∙ g.1.1.1.0, record { pw_changed = g.0.pw_changed; modified = g.0.modified.secs; modifier = g.0.modified.name; mkvno = g.1.0; chain_there = there; chain = g.1.1.0.1; strings = g.1.1.1.1.0; no_strings = g.1.1.1.1.1 })))
     (λ f g.
-    ((ap (λ (b : Bool). base_of b + pw_len f.pw_changed) (sym g.1.chain_there) ∙ g.0, g.1.pw_changed), (record { secs = g.1.modified; name = g.1.modifier }, (g.1.mkvno, (g.1.chain_there, g.1.chain)))))
+    let i = g.1 in
+    (record { pw_changed = i.pw_changed; modified = record { secs = i.modified; name = i.modifier } }, (i.mkvno, ((i.chain_there, i.chain), (ap (λ (b : Bool). base_of b + pw_len f.pw_changed + strings_count f.strings) (sym i.chain_there) ∙ g.0, (i.strings, i.no_strings))))))
 
 pub facts_field : (master : Bool) → IsField (facts_at master) facts (IsFacts master)
 unfolding facts_at facts
 facts_field master = same_field
     (first_field (big_field 2) count_of (λ count _. items_field master count))
     (λ f g. (refl, g.1))
-    (λ f g. (few_items f.pw_changed (is_some f.chain), g))
+    (λ f g. (few_items f.pw_changed f.strings (is_some f.chain), g))
 
 -- ---- heads of items
 

@@ -8,11 +8,13 @@ use Rattle.kdb_base.specs.Etypes.{number_of}
 use Rattle.kdb_base.specs.declared.keys.Salt.{Salt}
 use Rattle.kdb_base.specs.declared.keys.Salt.TheVariants.{Normal, Special}
 use Rattle.kdb_base.specs.declared.keys.Etype.{Etype}
+use Rattle.kdb_base.specs.Limits.{most_keys}
+use Rattle.kdb_format.specs.Etypes.{etype_at, etype_text}
+use Rattle.kdb_format.specs.EtypeLaws.{etype_field}
 use Rattle.kdb_format.specs.Readings.{Reading, ◌>>=◌, done, checked, refuse, big_at, counted_at, counted_list_at}
 use Rattle.kdb_format.specs.Spellings.{big, counted, counted_list}
 use Rattle.kdb_format.specs.Fields.{IsField}
 use Rattle.kdb_format.specs.Laws.{same_field, first_field, then_field, last_field, made_field, choice_field, refuse_field, big_field, checked_field, counted_field, counted_list_field}
-use Rattle.princ_record.specs.Etypes.{etype_at, etype, etype_field}
 use Rattle.princ_record.specs.declared.keys.KeyItem.{KeyItem}
 
 -- ---- salts
@@ -96,7 +98,7 @@ key_at = do
   done (record { kvno = kvno; etype = etype; salt = salt; wrapped = wrapped })
 
 unfoldable pub key : KeyItem → List ℕ
-key k = big 2 k.kvno ++ (etype k.etype ++ (salt k.salt ++ counted k.wrapped))
+key k = big 2 k.kvno ++ (etype_text k.etype ++ (salt k.salt ++ counted k.wrapped))
 
 -- versions are from 1
 pub record IsKey (k : KeyItem) : Type 0 where
@@ -129,9 +131,9 @@ unfoldable pub are_ordered : List KeyItem → Bool
 are_ordered [] = true
 are_ordered (k ∷ keys) = list_all (may_follow k) keys && are_ordered keys
 
--- at most 32 keys, in that order
+-- at most as many keys as a principal may have, in that order
 unfoldable pub are_keys : List KeyItem → Bool
-are_keys keys = nat_le (length keys) 32 && are_ordered keys
+are_keys keys = nat_le (length keys) most_keys && are_ordered keys
 
 unfoldable pub keys_at : Reading (List KeyItem)
 keys_at = checked are_keys (counted_list_at 2 key_at)
@@ -140,12 +142,53 @@ unfoldable pub keys_text : List KeyItem → List ℕ
 keys_text keys = counted_list 2 key keys
 
 pub record AreKeys (keys : List KeyItem) : Type 0 where
-  pub few : length keys ≤ 32
+  pub few : length keys ≤ most_keys
   pub each : All IsKey keys
   pub ordered : IsTrue (are_ordered keys)
 
 pub keys_field : IsField keys_at keys_text AreKeys
 unfolding keys_at keys_text are_keys
 keys_field = same_field (checked_field are_keys (counted_list_field 2 key_field))
-    (λ keys f. let p = and_parts (leb (length keys) 32) (are_ordered keys) f.1 in (refl, record { few = leb-true _ _ p.0; each = f.0.1; ordered = p.1 }))
-    (λ keys f. let few = f.few in ((omega arith, f.each), and_from (leb (length keys) 32) (are_ordered keys) (le-leb _ _ f.few) f.ordered))
+    (λ keys f. let p = and_parts (leb (length keys) most_keys) (are_ordered keys) f.1 in (refl, record { few = leb-true _ _ p.0; each = f.0.1; ordered = p.1 }))
+    (λ keys f. let few = f.few in ((omega arith, f.each), and_from (leb (length keys) most_keys) (are_ordered keys) (le-leb _ _ f.few) f.ordered))
+
+-- ---- the keys of K/M
+
+-- the first key has this version
+unfoldable pub begins_at : ℕ → List KeyItem → Bool
+begins_at version [] = false
+begins_at version (k ∷ keys) = nat_eq k.kvno version
+
+-- a later key has a lower version
+abbrev pub is_below : KeyItem → KeyItem → Bool
+is_below k later = nat_lt later.kvno k.kvno
+
+unfoldable pub are_falling : List KeyItem → Bool
+are_falling [] = true
+are_falling (k ∷ keys) = list_all (is_below k) keys && are_falling keys
+
+unfoldable pub are_masters : ℕ → List KeyItem → Bool
+are_masters version keys = begins_at version keys && are_falling keys
+
+-- the master keys by falling versions, each version once, and the record's version is that of the newest
+pub record AreMasters (version : ℕ) (keys : List KeyItem) : Type 0 where
+  pub newest : IsTrue (begins_at version keys)
+  pub falling : IsTrue (are_falling keys)
+
+-- the keys of K/M, or of another principal
+unfoldable pub fit_name : Bool → ℕ → List KeyItem → Bool
+fit_name master version keys = not master || are_masters version keys
+
+pub masters_from : (master : Bool) (version : ℕ) (keys : List KeyItem) → fit_name master version keys ≡ true → master ≡ true → AreMasters version keys
+unfolding fit_name are_masters
+masters_from true version keys e is =
+    let p = and_parts (begins_at version keys) (are_falling keys) e in
+    record { newest = p.0; falling = p.1 }
+masters_from false version keys e is = absurd cc
+
+pub masters_to : (master : Bool) (version : ℕ) (keys : List KeyItem) → (master ≡ true → AreMasters version keys) → fit_name master version keys ≡ true
+unfolding fit_name are_masters
+masters_to true version keys h =
+    let f = h refl in
+    and_from (begins_at version keys) (are_falling keys) f.newest f.falling
+masters_to false version keys h = refl

@@ -2,15 +2,11 @@ pub mod Answers
 pub mod Policies
 pub mod Printed
 pub mod PrintedNames
-pub mod Etypes
 pub mod Keys
+pub mod KeyEquality
 pub mod Remembered
 pub mod Facts
 pub mod Princs
 pub mod Sizes
-pub mod Entries
-pub mod Rows
-pub mod Effects
-pub mod Undoing
-pub mod Replies
+pub mod RowLimits
 pub mod Tags

@@ -1,7 +1,7 @@
 -- A principal as bytes.
-use Rattle.std.proofs.Common.{◌≡◌, ℕ, ◌^◌, ◌<◌, Bool, true, suc, eqb, List, [], ◌∷◌, ◌++◌, length, Option, Some, None, refl, sym, subst, ◌∙◌, arith, inl, inr}
+use Rattle.std.proofs.Common.{◌≡◌, ℕ, ◌^◌, ◌<◌, Bool, true, false, suc, eqb, List, [], ◌∷◌, ◌++◌, length, Option, Some, None, refl, sym, subst, ◌∙◌, arith, inl, inr}
 use Rattle.std.specs.Prelude.{IsTrue, ◌||◌, nat_eq, bit_and}
-use Rattle.std.proofs.lemmas.Bool.{or_cases, false≢true}
+use Rattle.std.proofs.lemmas.Bool.{or_cases, both_ways, false≢true}
 use Rattle.std.proofs.Math.Dec.{eqb-suc-zero}
 use Rattle.kdb_format.specs.Readings.{Reading, ◌>>=◌, done, checked, big_at, counted_at}
 use Rattle.kdb_format.specs.Spellings.{big, counted}
@@ -11,7 +11,8 @@ use Rattle.policy_rules.specs.Names.{is_policy_name}
 use Rattle.princ_record.specs.Policies.{short_name}
 use Rattle.princ_record.specs.Printed.{is_printed, is_master}
 use Rattle.princ_record.specs.PrintedNames.{IsPrinted, printed_test, test_printed, printed_short}
-use Rattle.princ_record.specs.Keys.{keys_at, keys_text, AreKeys, keys_field}
+use Rattle.tagged_data.specs.Numbers.{IsVersion}
+use Rattle.princ_record.specs.Keys.{keys_at, keys_text, AreKeys, keys_field, AreMasters, fit_name, masters_from, masters_to}
 use Rattle.princ_record.specs.Remembered.{old_sets_at, old_sets, AreOldSets, old_sets_field}
 use Rattle.princ_record.specs.Facts.{facts_at, facts, facts_field, IsFacts}
 use Rattle.princ_record.specs.declared.keys.KeyItem.{KeyItem}
@@ -119,7 +120,7 @@ abbrev pub lives_of : Princ → Lives
 lives_of p = record { max_life = p.max_life; max_renew = p.max_renew; expire = p.expire; pw_expire = p.pw_expire }
 
 abbrev pub facts_of : Princ → Facts
-facts_of p = record { pw_changed = p.pw_changed; modified = p.modified; modifier = p.modifier; mkvno = p.mkvno; chain = p.chain }
+facts_of p = record { pw_changed = p.pw_changed; modified = p.modified; modifier = p.modifier; mkvno = p.mkvno; chain = p.chain; strings = p.strings }
 
 abbrev pub princ_of : List ℕ → ℕ → Lives → Facts → List KeyItem → Option (List ℕ) → List OldSet → Princ
 princ_of name attributes lives facts keys policy old = record {
@@ -137,16 +138,18 @@ princ_of name attributes lives facts keys policy old = record {
   policy = policy;
   old = old;
   chain = facts.chain;
+  strings = facts.strings;
 }
 
--- a name of K and M has the chain, and no other name
+-- A name of K and M has the chain, and no other name; its keys are the master keys by falling versions, and its version is the
+-- newest.
 unfoldable pub princ_at : Reading Princ
 princ_at = do
   name ← checked is_printed counted_at
   attributes ← checked are_attributes (big_at 4)
   lives ← lives_at
   facts ← facts_at (is_master name)
-  keys ← keys_at
+  keys ← checked (fit_name (is_master name) facts.mkvno) keys_at
   policy ← policy_name_at
   old ← old_sets_at
   done (princ_of name attributes lives facts keys policy old)
@@ -162,6 +165,7 @@ pub record IsPrinc (p : Princ) : Type 0 where
   pub lives : AreLives (lives_of p)
   pub facts : IsFacts (is_master p.name) (facts_of p)
   pub keys : AreKeys p.keys
+  pub masters : is_master p.name ≡ true → AreMasters p.mkvno p.keys
   pub policy : IsPolicyOr p.policy
   pub old : AreOldSets p.old
 
@@ -169,39 +173,86 @@ same_princ : (p : Princ) (name : List ℕ) (attributes : ℕ) (v : Lives) (f : F
     → p.name ≡ name → p.attributes ≡ attributes → lives_of p ≡ v → facts_of p ≡ f → p.keys ≡ keys → p.policy ≡ policy → princ_of name attributes v f keys policy p.old ≡ p
 same_princ p name attributes v f keys policy a b c d e g = rw (← a, ← b, ← c, ← d, ← e, ← g) refl
 
+-- what is known of the fields behind the tagged list, and before them
+abbrev BehindFacts : Bool → Princ → Type 0
+BehindFacts master p = (AreKeys p.keys × (fit_name master p.mkvno p.keys ≡ true)) × (IsPolicyOr p.policy × AreOldSets p.old)
+
+abbrev Before : List ℕ → ℕ → Lives → Facts → Princ → Type 0
+Before name attributes v f p = (facts_of p ≡ f) × ((lives_of p ≡ v) × ((p.attributes ≡ attributes) × (p.name ≡ name)))
+
+fits_told : (master : Bool) (p : Princ) (f g : Facts) → f ≡ g → fit_name master f.mkvno p.keys ≡ true → fit_name master g.mkvno p.keys ≡ true
+fits_told master p f g e fits = subst (λ (x : Facts). fit_name master x.mkvno p.keys ≡ true) e fits
+
+behind_facts_field : (name : List ℕ) (attributes : ℕ) (v : Lives) (f : Facts) → IsField
+    (checked (fit_name (is_master name) f.mkvno) keys_at >>= λ keys. policy_name_at >>= λ policy. old_sets_at >>= λ old. done (princ_of name attributes v f keys policy old))
+    (λ p. keys_text p.keys ++ (counted (name_of p.policy) ++ old_sets p.old))
+    (λ p. Before name attributes v f p × BehindFacts (is_master name) p)
+behind_facts_field name attributes v f = same_field
+    (then_field {K = Before name attributes v f} (checked_field (fit_name (is_master name) f.mkvno) keys_field) (λ (p : Princ). p.keys) (λ keys _.
+    then_field policy_name_field (λ (p : Princ). p.policy) (λ policy _.
+    last_field old_sets_field (λ (p : Princ). p.old) (λ old. princ_of name attributes v f keys policy old)
+    (λ _ _. (refl, (refl, (refl, (refl, (refl, (refl, refl)))))))
+    (λ p k. same_princ p name attributes v f keys policy k.1.1.1.1.1 k.1.1.1.1.0 k.1.1.1.0 k.1.1.0 k.1.0 k.0))))
+    (λ p g. (refl, (g.0, ((g.1.0.0, fits_told (is_master name) p f (facts_of p) (sym g.0.0) g.1.0.1), g.1.1))))
+    (λ p g. (g.0, ((g.1.0.0, fits_told (is_master name) p (facts_of p) f g.0.0 g.1.0.1), g.1.1)))
+
 -- what is known of the fields behind the name
+abbrev OfName : Bool → Princ → Type 0
+OfName master p = IsFacts master (facts_of p) × BehindFacts master p
+
 abbrev Behind : Princ → Type 0
-Behind p =
-    ((p.attributes < 2 ^ 32) × (are_attributes p.attributes ≡ true))
-    × (AreLives (lives_of p) × (IsFacts (is_master p.name) (facts_of p) × (AreKeys p.keys × (IsPolicyOr p.policy × AreOldSets p.old))))
+Behind p = ((p.attributes < 2 ^ 32) × (are_attributes p.attributes ≡ true)) × (AreLives (lives_of p) × OfName (is_master p.name) p)
 
-facts_named : (p : Princ) (name : List ℕ) → p.name ≡ name → IsFacts (is_master name) (facts_of p) → IsFacts (is_master p.name) (facts_of p)
-facts_named p name e f = subst (λ (n : List ℕ). IsFacts (is_master n) (facts_of p)) (sym e) f
-
-named_facts : (p : Princ) (name : List ℕ) → p.name ≡ name → IsFacts (is_master p.name) (facts_of p) → IsFacts (is_master name) (facts_of p)
-named_facts p name e f = subst (λ (n : List ℕ). IsFacts (is_master n) (facts_of p)) e f
+of_name : (p : Princ) (a b : List ℕ) → a ≡ b → OfName (is_master a) p → OfName (is_master b) p
+of_name p a b e f = subst (λ (n : List ℕ). OfName (is_master n) p) e f
 
 behind_name_field : (name : List ℕ) → IsField
-    (checked are_attributes (big_at 4) >>= λ attributes. lives_at >>= λ lives. facts_at (is_master name) >>= λ facts. keys_at >>= λ keys. policy_name_at >>= λ policy. old_sets_at >>= λ old. done (princ_of name attributes lives facts keys policy old))
+    (checked are_attributes (big_at 4) >>= λ attributes. lives_at >>= λ lives. facts_at (is_master name) >>= λ facts. checked (fit_name (is_master name) facts.mkvno) keys_at >>= λ keys. policy_name_at >>= λ policy. old_sets_at >>= λ old. done (princ_of name attributes lives facts keys policy old))
     (λ p. big 4 p.attributes ++ (lives (lives_of p) ++ (facts (facts_of p) ++ (keys_text p.keys ++ (counted (name_of p.policy) ++ old_sets p.old)))))
     (λ p. (p.name ≡ name) × Behind p)
 behind_name_field name = same_field
     (then_field {K = λ (p : Princ). p.name ≡ name} (checked_field are_attributes (big_field 4)) (λ (p : Princ). p.attributes) (λ attributes _.
     then_field lives_field lives_of (λ lives _.
-    then_field (facts_field (is_master name)) facts_of (λ facts _.
-    then_field keys_field (λ (p : Princ). p.keys) (λ keys _.
-    then_field policy_name_field (λ (p : Princ). p.policy) (λ policy _.
-    last_field old_sets_field (λ (p : Princ). p.old) (λ old. princ_of name attributes lives facts keys policy old)
-    (λ _ _. (refl, (refl, (refl, (refl, (refl, (refl, refl)))))))
-    (λ p k. same_princ p name attributes lives facts keys policy k.1.1.1.1.1 k.1.1.1.1.0 k.1.1.1.0 k.1.1.0 k.1.0 k.0)))))))
-    (λ p f. (refl, (f.0, (f.1.0, (f.1.1.0, (facts_named p name f.0 f.1.1.1.0, f.1.1.1.1))))))
-    (λ p f. (f.0, (f.1.0, (f.1.1.0, (named_facts p name f.0 f.1.1.1.0, f.1.1.1.1)))))
+    then_field (facts_field (is_master name)) facts_of (λ facts _. behind_facts_field name attributes lives facts))))
+    (λ p f. (refl, (f.0, (f.1.0, (f.1.1.0, of_name p name p.name (sym f.0) f.1.1.1)))))
+    (λ p f. (f.0, (f.1.0, (f.1.1.0, of_name p p.name name f.0 f.1.1.1))))
 
 pub princ_field : IsField princ_at princ IsPrinc
 unfolding princ_at princ
 princ_field = same_field
     (first_field (checked_field is_printed counted_field) (λ (p : Princ). p.name) (λ name _. behind_name_field name))
-    (λ p f. (refl, record { name = test_printed p.name f.0.1; attributes = f.1.0.1; attributes_short = f.1.0.0; lives = f.1.1.0; facts = f.1.1.1.0; keys = f.1.1.1.1.0; policy = f.1.1.1.1.1.0; old = f.1.1.1.1.1.1 }))
+    (λ p f.
+    let b = f.1.1.1 in
+    (refl, record { name = test_printed p.name f.0.1; attributes = f.1.0.1; attributes_short = f.1.0.0; lives = f.1.1.0; facts = b.0; keys = b.1.0.0; masters = masters_from (is_master p.name) p.mkvno p.keys b.1.0.1; policy = b.1.1.0; old = b.1.1.1 }))
     (λ p f.
     let short = printed_short p.name f.name in
-    ((omega arith, printed_test p.name f.name), ((f.attributes_short, f.attributes), (f.lives, (f.facts, (f.keys, (f.policy, f.old)))))))
+    ((omega arith, printed_test p.name f.name), ((f.attributes_short, f.attributes), (f.lives, (f.facts, ((f.keys, masters_to (is_master p.name) p.mkvno p.keys f.masters), (f.policy, f.old)))))))
+
+-- ---- records that differ in their keys
+
+-- the same record with these keys, under this version of the master key
+abbrev pub with_keys : ℕ → List KeyItem → Princ → Princ
+with_keys version keys p = record p { mkvno = version; keys = keys }
+
+-- What new keys owe, so that the record has a spelling: at K/M also that they are the master keys by falling versions.
+pub record FitKeys (p : Princ) (version : ℕ) (keys : List KeyItem) : Type 0 where
+  pub known : IsVersion version
+  pub fit : AreKeys keys
+  pub masters : is_master p.name ≡ true → AreMasters version keys
+
+pub with_keys_fits : (p : Princ) (version : ℕ) (keys : List KeyItem) → IsPrinc p → FitKeys p version keys → IsPrinc (with_keys version keys p)
+with_keys_fits p version keys f g = record {
+  name = f.name;
+  attributes = f.attributes;
+  attributes_short = f.attributes_short;
+  lives = f.lives;
+  facts = record { pw_changed = f.facts.pw_changed; modified = f.facts.modified; modifier = f.facts.modifier; mkvno = g.known; chain_there = f.facts.chain_there; chain = f.facts.chain; strings = f.facts.strings; no_strings = f.facts.no_strings };
+  keys = g.fit;
+  masters = g.masters;
+  policy = f.policy;
+  old = f.old;
+}
+
+-- of another principal than K/M
+pub other_keys_fit : (p : Princ) (version : ℕ) (keys : List KeyItem) → is_master p.name ≡ false → IsVersion version → AreKeys keys → FitKeys p version keys
+other_keys_fit p version keys other v k = record { known = v; fit = k; masters = λ is. absurd (both_ways (is_master p.name) other is) }

@@ -4,11 +4,13 @@ use Rattle.std.specs.Prelude.{nat_le}
 use Rattle.std.specs.List.{All}
 use Rattle.std.proofs.lemmas.Bool.{leb-true, le-leb}
 use Rattle.kdb_base.specs.declared.keys.Etype.{Etype}
+use Rattle.kdb_base.specs.Limits.{most_old_sets}
+use Rattle.kdb_format.specs.Etypes.{etype_at, etype_text}
+use Rattle.kdb_format.specs.EtypeLaws.{etype_field}
 use Rattle.kdb_format.specs.Readings.{Reading, ◌>>=◌, done, checked, big_at, counted_at, counted_list_at}
 use Rattle.kdb_format.specs.Spellings.{big, counted, counted_list}
 use Rattle.kdb_format.specs.Fields.{IsField}
 use Rattle.kdb_format.specs.Laws.{same_field, first_field, last_field, big_field, checked_field, counted_field, counted_list_field}
-use Rattle.princ_record.specs.Etypes.{etype_at, etype, etype_field}
 use Rattle.princ_record.specs.declared.remembered.OldKey.{OldKey}
 use Rattle.princ_record.specs.declared.remembered.OldSet.{OldSet}
 
@@ -19,7 +21,7 @@ old_key_at = do
   done (record { etype = etype; wrapped = wrapped })
 
 unfoldable pub old_key : OldKey → List ℕ
-old_key k = etype k.etype ++ counted k.wrapped
+old_key k = etype_text k.etype ++ counted k.wrapped
 
 pub record IsOldKey (k : OldKey) : Type 0 where
   pub wrapped : length k.wrapped < 2 ^ 16
@@ -55,9 +57,8 @@ old_set_field = same_field
     (λ s f. (refl, record { kvno = f.0; count = f.1.0; keys = f.1.1 }))
     (λ s f. (f.kvno, (f.count, f.keys)))
 
--- at most 15 sets
 abbrev pub are_few : List OldSet → Bool
-are_few sets = nat_le (length sets) 15
+are_few sets = nat_le (length sets) most_old_sets
 
 unfoldable pub old_sets_at : Reading (List OldSet)
 old_sets_at = checked are_few (counted_list_at 2 old_set_at)
@@ -66,7 +67,7 @@ unfoldable pub old_sets : List OldSet → List ℕ
 old_sets sets = counted_list 2 old_set sets
 
 pub record AreOldSets (sets : List OldSet) : Type 0 where
-  pub few : length sets ≤ 15
+  pub few : length sets ≤ most_old_sets
   pub each : All IsOldSet sets
 
 pub old_sets_field : IsField old_sets_at old_sets AreOldSets

@@ -6,15 +6,17 @@ use Rattle.std.proofs.lemmas.List.Sums.{sum_by-le, sum_by-cons}
 use Rattle.std.proofs.lemmas.List.Elements.{All-from_recursion, recursion_from_All}
 use Rattle.std.specs.List.{AllByRecursion}
 use Rattle.kdb_base.specs.Etypes.{number_of}
+use Rattle.kdb_format.specs.Etypes.{etype_text}
 use Rattle.kdb_format.specs.Spellings.{big, little, counted, counted_list}
 use Rattle.kdb_format.specs.Numbers.{length-big, length-little}
 use Rattle.kdb_format.specs.Lengths.{length-counted, length-counted_list}
 use Rattle.tagged_data.specs.Modifiers.{modifier_text, length-modifier_text}
 use Rattle.tagged_data.specs.Versions.{activations_text, length-activations_text, aux_keys_text}
-use Rattle.princ_record.specs.Etypes.{etype}
+use Rattle.tagged_data.specs.Strings.{strings_text}
+use Rattle.tagged_data.specs.declared.string_attributes.StringAttribute.{StringAttribute}
 use Rattle.princ_record.specs.Keys.{salt, salt_kind, salt_bytes, key, IsKey, keys_text, AreKeys}
 use Rattle.princ_record.specs.Remembered.{old_key, IsOldKey, old_set, IsOldSet, old_sets, AreOldSets}
-use Rattle.princ_record.specs.Facts.{tag, pw_text, chain_part, chain_text, facts, count_of}
+use Rattle.princ_record.specs.Facts.{tag, pw_text, chain_part, chain_text, strings_item, facts, count_of}
 use Rattle.princ_record.specs.Princs.{lives, name_of, princ, lives_of, facts_of}
 use Rattle.princ_record.specs.declared.facts.ChainPart.{ChainPart}
 use Rattle.princ_record.specs.declared.facts.Facts.{Facts}
@@ -30,7 +32,7 @@ abbrev pub key_len : KeyItem → ℕ
 key_len k = 10 + length (salt_bytes k.salt) + length k.wrapped
 
 pub length-key : (k : KeyItem) → length (key k) ≡ key_len k
-unfolding key etype salt
+unfolding key etype_text salt
 length-key k =
     omega (
       arith,
@@ -75,7 +77,7 @@ abbrev pub old_key_len : OldKey → ℕ
 old_key_len k = 4 + length k.wrapped
 
 pub length-old_key : (k : OldKey) → length (old_key k) ≡ old_key_len k
-unfolding old_key etype
+unfolding old_key etype_text
 length-old_key k = omega (arith, length-append (big 2 (number_of k.etype)) (counted k.wrapped), length-big 2 (number_of k.etype), length-counted k.wrapped)
 
 abbrev pub old_set_len : OldSet → ℕ
@@ -144,17 +146,27 @@ length-chain_text (Some c) =
       length-tag 10 (aux_keys_text c.aux),
     )
 
-pub length-facts : (f : Facts) → length (facts f) ≡ 17 + pw_text_len f.pw_changed + length f.modifier + chain_len f.chain
+abbrev pub strings_item_len : List StringAttribute → ℕ
+strings_item_len [] = 0
+strings_item_len (a ∷ list) = 4 + length (strings_text (a ∷ list))
+
+length-strings_item : (list : List StringAttribute) → length (strings_item list) ≡ strings_item_len list
+unfolding strings_item
+length-strings_item [] = refl
+length-strings_item (a ∷ list) = length-tag 11 (strings_text (a ∷ list))
+
+pub length-facts : (f : Facts) → length (facts f) ≡ 17 + pw_text_len f.pw_changed + length f.modifier + chain_len f.chain + strings_item_len f.strings
 unfolding facts
 length-facts f =
     let m = modifier_text (f.modified, f.modifier) in
     let n = little 2 f.mkvno in
     omega (
       arith,
-      length-append (big 2 (count_of f)) (pw_text f.pw_changed ++ (tag 2 m ++ (tag 8 n ++ chain_text f.chain))),
-      length-append (pw_text f.pw_changed) (tag 2 m ++ (tag 8 n ++ chain_text f.chain)),
-      length-append (tag 2 m) (tag 8 n ++ chain_text f.chain),
-      length-append (tag 8 n) (chain_text f.chain),
+      length-append (big 2 (count_of f)) (pw_text f.pw_changed ++ (tag 2 m ++ (tag 8 n ++ (chain_text f.chain ++ strings_item f.strings)))),
+      length-append (pw_text f.pw_changed) (tag 2 m ++ (tag 8 n ++ (chain_text f.chain ++ strings_item f.strings))),
+      length-append (tag 2 m) (tag 8 n ++ (chain_text f.chain ++ strings_item f.strings)),
+      length-append (tag 8 n) (chain_text f.chain ++ strings_item f.strings),
+      length-append (chain_text f.chain) (strings_item f.strings),
       length-big 2 (count_of f),
       length-pw_text f.pw_changed,
       length-tag 2 m,
@@ -162,6 +174,7 @@ length-facts f =
       length-tag 8 n,
       length-little 2 f.mkvno,
       length-chain_text f.chain,
+      length-strings_item f.strings,
     )
 
 -- ---- the principal
@@ -180,7 +193,7 @@ length-lives v =
       length-big 4 v.pw_expire,
     )
 
-pub length-princ : (p : Princ) → length (princ p) ≡ 45 + length p.name + pw_text_len p.pw_changed + length p.modifier + chain_len p.chain + sum_by key_len p.keys + length (name_of p.policy) + sum_by old_set_len p.old
+pub length-princ : (p : Princ) → length (princ p) ≡ 45 + length p.name + pw_text_len p.pw_changed + length p.modifier + chain_len p.chain + strings_item_len p.strings + sum_by key_len p.keys + length (name_of p.policy) + sum_by old_set_len p.old
 unfolding princ
 length-princ p =
     let a = old_sets p.old in

@@ -8,6 +8,7 @@ use crate::princs::Princ;
 use crate::remembered::{OldKey, OldKeys, OldSet, OldSets};
 use kdb_base::{Activations, AuxKey, AuxList, Blob, MemoryOut, Salt};
 use std::alloc::Global;
+use tagged_data::{StringAttribute, StringAttributes};
 
 /// A value that can be copied, where memory is given.
 pub(crate) trait Copied: Drop {
@@ -102,6 +103,21 @@ impl Copied for AuxKey {
     }
 }
 
+impl Copied for StringAttribute {
+    fn copied(&self, alloc: Global) -> Result<StringAttribute, MemoryOut> {
+        let key = copy_blob(alloc, &self.key)?;
+        let value = copy_blob(alloc, &self.value)?;
+        Ok(StringAttribute { key, value })
+    }
+}
+
+fn copy_strings(alloc: Global, list: &StringAttributes) -> Result<StringAttributes, MemoryOut>
+    ensures { IfOk result (λ x. x ≡ list.now) }
+{
+    let items = copy_all(alloc, list.as_slice())?;
+    Ok(StringAttributes::from_vec(items))
+}
+
 fn copy_activations(alloc: Global, list: &Activations) -> Result<Activations, MemoryOut>
     ensures { IfOk result (λ x. x ≡ list.now) }
 {
@@ -146,6 +162,7 @@ pub fn copy(alloc: Global, value: &Princ) -> Result<Princ, MemoryOut>
     let policy = copy_name(alloc, &value.policy)?;
     let old = copy_all(alloc, value.old.as_slice())?;
     let chain = copy_chain(alloc, &value.chain)?;
+    let strings = copy_strings(alloc, &value.strings)?;
     Ok(Princ {
         name,
         attributes: value.attributes,
@@ -161,5 +178,6 @@ pub fn copy(alloc: Global, value: &Princ) -> Result<Princ, MemoryOut>
         policy,
         old: OldSets::from_vec(old),
         chain,
+        strings,
     })
 }

@@ -1,15 +1,15 @@
 //! What a principal's tagged list says, read and written without the list.
 
-ghost use Rattle.std.specs.Prelude.{◌≡◌, ◌++◌, ◌<◌, ◌^◌, ◌+◌, ◌*◌, length, OnOk, is_some};
+ghost use Rattle.std.specs.Prelude.{◌≡◌, ◌++◌, ◌<◌, ◌≤◌, ◌^◌, ◌+◌, ◌*◌, length, OnOk, is_some};
 ghost use Rattle.kdb_format.specs.Answers.{Finds, Gives, Reads, ReadsAs};
 ghost use Rattle.kdb_format.specs.Readings.{literal_at, whole, little_at};
 ghost use Rattle.kdb_format.specs.Spellings.{big, little};
-ghost use Rattle.std.specs.Prelude.{position, nat_eq, IfSome};
-ghost use Rattle.tagged_data.specs.Modifiers.{ended_at, modifier_text};
+ghost use Rattle.tagged_data.specs.Modifiers.{modifier_text};
 ghost use Rattle.tagged_data.specs.Numbers.{version_at};
 ghost use Rattle.tagged_data.specs.Versions.{activations_at, activations_text, aux_keys_at, aux_keys_text};
-ghost use Rattle.princ_record.specs.Facts.{tag_at, tag, pw_at, pw_text, modifier_of, chain_part_at, chain_part, IsChain, chain_at, chain_text, IsChainOr, base_of, facts_at, facts as facts_text, IsFacts, head, pw_len};
+ghost use Rattle.princ_record.specs.Facts.{content_at, tag_at, tag, pw_text, modifier_of, pw_then_at, changes_at, strings_count, strings_item, strings_item_at, chain_part_at, chain_part, IsChain, chain_at, chain_text, IsChainOr, base_of, facts_at, facts as facts_text, IsFacts, head, pw_len};
 ghost use Rattle.tagged_data.specs.Versions.{AreAuxKeys};
+ghost use Rattle.tagged_data.specs.Strings.{strings_at, strings_text, AreStrings};
 ghost use Rattle.princ_record.specs.Princs.{facts_of};
 
 use crate::measures::measure_all;
@@ -19,19 +19,29 @@ use kdb_base::{Activations, AuxList, Blob, MemoryOut};
 use kdb_format::writing::{push_counted, push_u16};
 use kdb_format::{FormatFault, Malformed, Reader};
 use std::alloc::Global;
-use tagged_data::kinds::{ACTIVATIONS, AUX_KEYS, MKVNO, MODIFIER, PW_CHANGE};
+use tagged_data::kinds::{ACTIVATIONS, AUX_KEYS, MKVNO, MODIFIER, PW_CHANGE, STRINGS};
+use tagged_data::modifiers::read_ended;
 use tagged_data::rest::read_rest;
 use tagged_data::rising::are_rising;
+use tagged_data::string_attributes::strings_in;
 use tagged_data::versions::{ActivationFormat, AuxKeyFormat};
-use tagged_data::{push_activations, push_aux_keys, push_modifier};
+use tagged_data::{StringAttributes, push_activations, push_aux_keys, push_modifier, push_strings};
 
 /// What the record of the master key's principal alone holds.
-#[derive(Debug, Drop)]
+#[derive(Debug, Drop, PartialEq, Eq)]
 pub struct ChainPart {
     /// From when on each version of the master key may be active.
     pub activations: Activations,
     /// The newest master key, wrapped under each older one.
     pub aux: AuxList,
+}
+
+/// The last password change, and who changed the record last and when.
+#[derive(Drop)]
+pub(crate) struct Changes {
+    pub pw_changed: Option<u32>,
+    pub modified: u32,
+    pub modifier: Blob,
 }
 
 /// What a tagged list says.
@@ -42,6 +52,7 @@ pub(crate) struct Facts {
     pub modifier: Blob,
     pub mkvno: u16,
     pub chain: Option<ChainPart>,
+    pub strings: StringAttributes,
 }
 
 #[tactic(auto, unfolding(kdb_format::specs::Spellings::big))]
@@ -51,11 +62,10 @@ fn read_kind(reader: &mut Reader, kind: u16) -> Result<(), Malformed>
     reader.literal(&kind.to_be_bytes())
 }
 
-#[tactic(auto, unfolding(crate::specs::Facts::tag_at, crate::specs::Facts::content_at, kdb_format::specs::Readings::whole))]
-fn read_pw_change(reader: &mut Reader) -> Result<u32, Malformed>
-    ensures { Reads result reader.new (tag_at 1 (whole (little_at 4)) reader.old) }
+#[tactic(auto, unfolding(crate::specs::Facts::content_at, kdb_format::specs::Readings::whole))]
+fn read_secs(reader: &mut Reader) -> Result<u32, Malformed>
+    ensures { Reads result reader.new (content_at (whole (little_at 4)) reader.old) }
 {
-    read_kind(reader, PW_CHANGE)?;
     let mut content = Reader::new(reader.counted()?);
     let secs = content.u32_le()?;
     if !content.is_empty() {
@@ -64,47 +74,10 @@ fn read_pw_change(reader: &mut Reader) -> Result<u32, Malformed>
     Ok(secs)
 }
 
-#[tactic(auto, unfolding(crate::specs::Facts::pw_at))]
-fn read_pw(reader: &mut Reader, base: u16, count: u16) -> Result<Option<u32>, Malformed>
-    requires { base < 1000 }
-    ensures { Reads result reader.new (pw_at base count reader.old) }
+#[tactic(auto, unfolding(crate::specs::Facts::content_at, crate::specs::Facts::modifier_of, kdb_format::specs::Readings::whole, kdb_format::specs::Readings::checked, tagged_data::specs::Modifiers::modifier_at))]
+fn read_modified(alloc: Global, reader: &mut Reader) -> Result<(u32, Blob), FormatFault>
+    ensures { Gives result reader.new (content_at modifier_of reader.old) }
 {
-    if count == base {
-        return Ok(None);
-    }
-    if count == base + 1 {
-        let secs = read_pw_change(reader)?;
-        return Ok(Some(secs));
-    }
-    Err(Malformed)
-}
-
-// Where the first zero byte is.
-fn first_zero(bytes: &[u8]) -> Option<usize>
-    ensures value { result ≡ position (λ b. nat_eq b 0) bytes.now }
-    ensures within { IfSome result (λ i. i < length bytes.now) }
-{
-    bytes.iter().position(|byte| *byte == 0)
-}
-
-fn read_ended<'a>(reader: &mut Reader<'a>) -> Result<&'a [u8], Malformed>
-    ensures { ReadsAs (λ text. text.now) result reader.new (ended_at reader.old) }
-{
-    let rest = reader.rest();
-    match first_zero(rest) {
-        Some(end) => {
-            *reader = Reader::new(&rest[end + 1..]);
-            Ok(&rest[..end])
-        }
-        None => Err(Malformed),
-    }
-}
-
-#[tactic(auto, unfolding(crate::specs::Facts::tag_at, crate::specs::Facts::content_at, crate::specs::Facts::modifier_of, kdb_format::specs::Readings::whole, kdb_format::specs::Readings::checked, tagged_data::specs::Modifiers::modifier_at))]
-fn read_modifier(alloc: Global, reader: &mut Reader) -> Result<(u32, Blob), FormatFault>
-    ensures { Gives result reader.new (tag_at 2 modifier_of reader.old) }
-{
-    read_kind(reader, MODIFIER)?;
     let mut content = Reader::new(reader.counted()?);
     let secs = content.u32_le()?;
     let name = read_ended(&mut content)?;
@@ -116,6 +89,49 @@ fn read_modifier(alloc: Global, reader: &mut Reader) -> Result<(u32, Blob), Form
     }
     let name = Blob::from_bytes(alloc, name)?;
     Ok((secs, name))
+}
+
+#[tactic(auto, unfolding(crate::specs::Facts::tag_at))]
+fn read_modifier(alloc: Global, reader: &mut Reader) -> Result<(u32, Blob), FormatFault>
+    ensures { Gives result reader.new (tag_at 2 modifier_of reader.old) }
+{
+    read_kind(reader, MODIFIER)?;
+    let modifier = read_modified(alloc, reader)?;
+    Ok(modifier)
+}
+
+#[tactic(auto, unfolding(crate::specs::Facts::pw_then_at))]
+fn read_pw_then(alloc: Global, reader: &mut Reader) -> Result<(u32, (u32, Blob)), FormatFault>
+    ensures { Gives result reader.new (pw_then_at reader.old) }
+{
+    let secs = read_secs(reader)?;
+    let modifier = read_modifier(alloc, reader)?;
+    Ok((secs, modifier))
+}
+
+/// The first items: that of the last password change where the first has its type, and the modifier.
+#[tactic(auto, unfolding(crate::specs::Facts::changes_at, crate::specs::Facts::changes_of))]
+fn read_changes(alloc: Global, reader: &mut Reader) -> Result<Changes, FormatFault>
+    ensures { Gives result reader.new (changes_at reader.old) }
+{
+    let kind = reader.u16()?;
+    if kind == PW_CHANGE {
+        let (secs, (modified, modifier)) = read_pw_then(alloc, reader)?;
+        return Ok(Changes {
+            pw_changed: Some(secs),
+            modified,
+            modifier,
+        });
+    }
+    if kind == MODIFIER {
+        let (modified, modifier) = read_modified(alloc, reader)?;
+        return Ok(Changes {
+            pw_changed: None,
+            modified,
+            modifier,
+        });
+    }
+    Err(FormatFault::Malformed)
 }
 
 #[tactic(auto, unfolding(crate::specs::Facts::tag_at, crate::specs::Facts::content_at, kdb_format::specs::Readings::whole, kdb_format::specs::Readings::checked, tagged_data::specs::Numbers::version_at))]
@@ -202,9 +218,48 @@ fn read_chain(
 
 fn base_of(master: bool) -> u16
     ensures value { result ≡ base_of master }
-    ensures small { result < 1000 }
+    ensures small { result < 10 }
 {
     if master { 4 } else { 2 }
+}
+
+#[tactic(auto, unfolding(crate::specs::Facts::tag_at, crate::specs::Facts::content_at))]
+fn read_strings(alloc: Global, reader: &mut Reader) -> Result<StringAttributes, FormatFault>
+    ensures { Gives result reader.new (tag_at 11 strings_at reader.old) }
+{
+    read_kind(reader, STRINGS)?;
+    let content = reader.counted()?;
+    let strings = strings_in(alloc, content)?;
+    Ok(strings)
+}
+
+/// The last item, where one more is counted than stands before it. K/M has none.
+#[tactic(auto, unfolding(crate::specs::Facts::strings_item_at))]
+fn read_strings_item(
+    alloc: Global,
+    reader: &mut Reader,
+    master: bool,
+    before: u16,
+    count: u16,
+) -> Result<StringAttributes, FormatFault>
+    requires { before < 1000 }
+    ensures { Gives result reader.new (strings_item_at master before count reader.old) }
+{
+    if count == before {
+        return Ok(StringAttributes::new(alloc));
+    }
+    if count == before + 1 && !master {
+        let strings = read_strings(alloc, reader)?;
+        return Ok(strings);
+    }
+    Err(FormatFault::Malformed)
+}
+
+fn items_before(master: bool, changes: &Changes) -> u16
+    ensures value { result ≡ base_of master + pw_len changes.now.pw_changed }
+    ensures small { result < 1000 }
+{
+    base_of(master) + pw_len(changes.pw_changed)
 }
 
 /// Reads a tagged list, that of K/M or of another principal.
@@ -217,16 +272,18 @@ pub(crate) fn read_facts(
     ensures { Gives result reader.new (facts_at master reader.old) }
 {
     let count = reader.u16()?;
-    let pw_changed = read_pw(reader, base_of(master), count)?;
-    let (modified, modifier) = read_modifier(alloc, reader)?;
+    let changes = read_changes(alloc, reader)?;
     let mkvno = read_mkvno(reader)?;
     let chain = read_chain(alloc, reader, master)?;
+    let before = items_before(master, &changes);
+    let strings = read_strings_item(alloc, reader, master, before, count)?;
     Ok(Facts {
-        pw_changed,
-        modified,
-        modifier,
+        pw_changed: changes.pw_changed,
+        modified: changes.modified,
+        modifier: changes.modifier,
         mkvno,
         chain,
+        strings,
     })
 }
 
@@ -357,20 +414,59 @@ fn pw_len(pw_changed: Option<u32>) -> u16
     }
 }
 
+/// The number of bytes that spell the attributes.
+pub(crate) fn strings_len(list: &StringAttributes) -> usize
+    requires { AreStrings list.now }
+    ensures value { result ≡ length (strings_text list.now) }
+    ensures small { result ≤ 17440 }
+{
+    measure_all(list.as_slice())
+}
+
+#[tactic(auto, using(crate::proofs::Heads::strings_behind))]
+fn push_strings_tag(out: &mut Vec<u8>, list: &StringAttributes) -> Result<(), MemoryOut>
+    requires { AreStrings list.now }
+    ensures { OnOk result (out.new.items ≡ out.old.items ++ tag 11 (strings_text list.now)) }
+{
+    push_head(out, STRINGS, strings_len(list))?;
+    push_strings(out, list)?;
+    Ok(())
+}
+
+fn push_strings_item(out: &mut Vec<u8>, list: &StringAttributes) -> Result<(), MemoryOut>
+    requires { AreStrings list.now }
+    ensures { OnOk result (out.new.items ≡ out.old.items ++ strings_item list.now) }
+{
+    if list.as_slice().is_empty() {
+        return Ok(());
+    }
+    push_strings_tag(out, list)
+}
+
+fn strings_count(list: &StringAttributes) -> u16
+    ensures value { result ≡ strings_count list.now }
+    ensures small { result < 2 }
+{
+    if list.as_slice().is_empty() { 0 } else { 1 }
+}
+
 /// Appends the tagged list of a principal.
 #[tactic(auto, unfolding(crate::specs::Facts::facts))]
 pub(crate) fn push_facts(out: &mut Vec<u8>, princ: &Princ) -> Result<(), MemoryOut>
     requires modifier { length princ.now.modifier < 300 }
     requires chain { IsChainOr princ.now.chain }
+    requires strings { AreStrings princ.now.strings }
     ensures { OnOk result (out.new.items ≡ out.old.items ++ facts_text (facts_of princ.now)) }
 {
+    let always = base_of(is_some(&princ.chain));
     push_u16(
         out,
-        base_of(is_some(&princ.chain)) + pw_len(princ.pw_changed),
+        always + pw_len(princ.pw_changed) + strings_count(&princ.strings),
     )?;
     push_pw(out, princ.pw_changed)?;
     push_modified(out, princ.modified, princ.modifier.as_slice())?;
     push_mkvno(out, princ.mkvno)?;
     push_chain(out, &princ.chain)?;
+    push_strings_item(out, &princ.strings)?;
     Ok(())
 }

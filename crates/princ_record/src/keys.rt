@@ -2,18 +2,17 @@ ghost use Rattle.std.specs.Prelude.{◌≡◌, ◌++◌, ◌<◌, ◌^◌, lengt
 ghost use Rattle.std.specs.List.{list_all};
 ghost use Rattle.kdb_format.specs.Answers.{Gives, GivesAs};
 ghost use Rattle.princ_record.specs.Keys.{salt_at, salt as salt_text, IsSalt, key_at, key as key_text, IsKey, key_field};
-ghost use Rattle.princ_record.specs.Keys.{may_follow, are_ordered, are_keys, keys_at, keys_text, AreKeys, salt_bytes};
+ghost use Rattle.princ_record.specs.Keys.{begins_at, is_below, are_falling, are_masters, fit_name};
+ghost use Rattle.princ_record.specs.Keys.{may_follow, are_ordered, are_keys, keys_at, keys_text, AreKeys, salt_bytes, salt_kind};
 
-use crate::etypes::{push_etype, read_etype};
+use kdb_base::limits::MAX_KEYS;
 use kdb_base::{Blob, Etype, MemoryOut, Salt};
+use kdb_format::etypes::{push_etype, read_etype};
 use kdb_format::lists::{read_list_u16, write_list_u16};
 use kdb_format::writing::{push_counted, push_u16};
 use kdb_format::{Format, FormatFault, Reader};
 use std::alloc::Global;
 use std::marker::Model;
-
-/// The most keys of a principal.
-pub const MAX_KEYS: usize = 32;
 
 /// A key of a principal, wrapped under a master key.
 #[derive(Debug, Drop)]
@@ -25,6 +24,54 @@ pub struct KeyItem {
     /// The key, sealed under the master key that the record names. It may be no such thing: whether it
     /// unwraps is not judged here.
     pub wrapped: Blob,
+}
+
+// The type numbers of salts, as the record has them.
+const NORMAL_SALT: u16 = 0;
+
+const SPECIAL_SALT: u16 = 4;
+
+/// The type number of a salt, as the record has it.
+fn kind_of_salt(salt: &Salt) -> u16
+    ensures { result ≡ salt_kind salt.now }
+{
+    match salt {
+        Salt::Normal => NORMAL_SALT,
+        Salt::Special(_) => SPECIAL_SALT,
+    }
+}
+
+/// The bytes of a salt, of which a normal one has none.
+fn bytes_of_salt(salt: &Salt) -> &[u8]
+    ensures { result.now ≡ salt_bytes salt.now }
+{
+    match salt {
+        Salt::Normal => &[],
+        Salt::Special(bytes) => bytes.as_slice(),
+    }
+}
+
+/// Two keys are equal where each part is: salts by their kind and their bytes.
+impl PartialEq for KeyItem {
+    ghost use Rattle.princ_record.specs.KeyEquality.{same_item, same_item_partial};
+
+    ghost eq = { same_item };
+
+    ghost laws = { same_item_partial };
+
+    fn eq(&self, other: &KeyItem) -> bool {
+        self.kvno == other.kvno
+            && self.etype.number() == other.etype.number()
+            && kind_of_salt(&self.salt) == kind_of_salt(&other.salt)
+            && bytes_of_salt(&self.salt) == bytes_of_salt(&other.salt)
+            && self.wrapped == other.wrapped
+    }
+}
+
+impl Eq for KeyItem {
+    ghost use Rattle.princ_record.specs.KeyEquality.{same_item_equiv};
+
+    ghost laws = { same_item_equiv };
 }
 
 /// Keys in their order.
@@ -64,10 +111,26 @@ impl Keys {
     }
 }
 
-// The type numbers of salts, as the record has them.
-const NORMAL_SALT: u16 = 0;
+impl PartialEq for Keys {
+    ghost use Rattle.std.specs.Cmp.Lexicographic.{pointwise, lists_equiv};
+    ghost use Rattle.std.specs.Cmp.{partial_equiv_from_equiv};
+    ghost use Rattle.princ_record.specs.KeyEquality.{same_item_equiv};
 
-const SPECIAL_SALT: u16 = 4;
+    ghost eq = { pointwise ⟦<KeyItem as PartialEq>⟧.eq };
+
+    ghost laws = { partial_equiv_from_equiv (lists_equiv same_item_equiv) };
+
+    fn eq(&self, other: &Keys) -> bool {
+        self.as_slice() == other.as_slice()
+    }
+}
+
+impl Eq for Keys {
+    ghost use Rattle.std.specs.Cmp.Lexicographic.{lists_equiv};
+    ghost use Rattle.princ_record.specs.KeyEquality.{same_item_equiv};
+
+    ghost laws = { lists_equiv same_item_equiv };
+}
 
 #[tactic(auto, unfolding(crate::specs::Keys::salt_at, crate::specs::Keys::salt_of, kdb_format::specs::Readings::checked))]
 fn read_salt(alloc: Global, reader: &mut Reader) -> Result<Salt, FormatFault>
@@ -175,13 +238,66 @@ fn are_ordered(keys: &[KeyItem]) -> bool
     true
 }
 
-/// Whether a principal may have these keys: at most 32, of versions that never rise, and of one version
+/// Whether a principal may have these keys: at most `MAX_KEYS`, of versions that never rise, and of one version
 /// at most one of each type.
 #[tactic(auto, unfolding(crate::specs::Keys::are_keys))]
 pub fn are_keys(keys: &[KeyItem]) -> bool
     ensures { result ≡ are_keys keys.now }
 {
     keys.len() <= MAX_KEYS && are_ordered(keys)
+}
+
+#[tactic(auto, unfolding(crate::specs::Keys::begins_at))]
+fn begins_at(version: u16, keys: &[KeyItem]) -> bool
+    ensures { result ≡ begins_at version keys.now }
+{
+    match keys {
+        [] => false,
+        [newest, ..] => newest.kvno == version,
+    }
+}
+
+fn is_below(key: &KeyItem, later: &KeyItem) -> bool
+    ensures { result ≡ is_below key.now later.now }
+{
+    key.kvno > later.kvno
+}
+
+fn all_below(key: &KeyItem, later: &[KeyItem]) -> bool
+    ensures { result ≡ list_all (is_below key.now) later.now }
+{
+    later.iter().all(|other| is_below(key, other))
+}
+
+#[tactic(auto, unfolding(crate::specs::Keys::are_falling))]
+fn are_falling(keys: &[KeyItem]) -> bool
+    ensures { result ≡ are_falling keys.now }
+{
+    let mut rest = keys;
+    while let Some((key, later)) = rest.split_first() {
+        if !all_below(key, later) {
+            return false;
+        }
+        rest = later;
+    }
+    true
+}
+
+/// Whether K/M may have these keys in a record of this version: the first has the version, and each
+/// later one a lower version than all before it.
+#[tactic(auto, unfolding(crate::specs::Keys::are_masters))]
+pub fn are_masters(version: u16, keys: &[KeyItem]) -> bool
+    ensures { result ≡ are_masters version keys.now }
+{
+    begins_at(version, keys) && are_falling(keys)
+}
+
+/// Whether K/M, or another principal, may have these keys in a record of this version.
+#[tactic(auto, unfolding(crate::specs::Keys::fit_name))]
+pub fn fit_name(master: bool, version: u16, keys: &[KeyItem]) -> bool
+    ensures { result ≡ fit_name master version keys.now }
+{
+    !master || are_masters(version, keys)
 }
 
 #[tactic(auto, unfolding(crate::specs::Keys::keys_at, kdb_format::specs::Readings::checked))]

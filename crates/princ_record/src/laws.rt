@@ -1,18 +1,16 @@
-//! Laws of spellings and of rows. They do no work.
+//! Laws of spellings. They do no work.
 
-ghost use Rattle.std.specs.Prelude.{◌≡◌, filter, is_some, length};
+ghost use Rattle.std.specs.Prelude.{◌≡◌, ℕ, List, [], true, false, is_some, length, nat_lt};
 ghost use Rattle.policy_rules.specs.Rules.{Rules};
 ghost use Rattle.tagged_data.specs.Lists.{tagged, content, IsTagged};
-ghost use Rattle.princ_record.specs.Entries.{logged, entry_len};
 ghost use Rattle.princ_record.specs.Facts.{facts};
 ghost use Rattle.princ_record.specs.Policies.{policy, IsPolicy};
-ghost use Rattle.princ_record.specs.Princs.{princ, IsPrinc, facts_of};
+ghost use Rattle.princ_record.specs.Princs.{princ, IsPrinc, facts_of, with_keys, FitKeys};
+ghost use Rattle.princ_record.specs.Keys.{AreKeys};
+ghost use Rattle.tagged_data.specs.Numbers.{IsVersion};
 ghost use Rattle.princ_record.specs.Printed.{is_master};
-ghost use Rattle.princ_record.specs.Rows.{RowLists, AreRows};
 ghost use Rattle.princ_record.specs.Tags.{tags};
-ghost use Rattle.princ_record.specs.Undoing.{finished, dropped_princ, dropped_policy, is_left};
-ghost use Rattle.princ_record.specs.declared.begun.Begun.{Begun};
-ghost use Rattle.princ_record.specs.declared.entries.Entry.{Entry};
+ghost use Rattle.princ_record.specs.declared.keys.KeyItem.{KeyItem};
 ghost use Rattle.princ_record.specs.declared.princs.Princ.{Princ};
 
 /// Two principals that have a spelling never have the same one.
@@ -37,14 +35,16 @@ pub fn the_master_alone_has_a_chain()
     ensures aux_keys { (p : Princ) → IsPrinc p → is_some (content 10 (tags (facts_of p))) ≡ is_master p.name }
 {}
 
-/// Who goes over the rows in their order, and leaves out the names that `Begun` tells, has the rows of the
-/// finished change.
-pub fn dropping_is_leaving_out()
-    ensures princs { (b : Begun) (r : RowLists) → AreRows r → (finished b r).princs ≡ filter (is_left (λ p. p.name) (dropped_princ b)) r.princs }
-    ensures policies { (b : Begun) (r : RowLists) → AreRows r → (finished b r).policies ≡ filter (is_left (λ p. p.name) (dropped_policy b)) r.policies }
+/// There is an item of string attributes exactly where there is an attribute, and the master key's
+/// principal has none.
+pub fn attributes_are_an_item()
+    ensures item { (p : Princ) → is_some (content 11 (tags (facts_of p))) ≡ nat_lt 0 (length p.strings) }
+    ensures master { (p : Princ) → IsPrinc p → is_master p.name ≡ true → p.strings ≡ [] }
 {}
 
-/// The length of an entry in the log is that of its spelling.
-pub fn entries_have_their_lengths()
-    ensures { (e : Entry) → length (logged e) ≡ entry_len e.op }
+/// The keys of a record may be replaced, under another version of the master key: the record has a
+/// spelling again where the new keys fit, and outside the master key's principal any list of keys fits.
+pub fn keys_may_be_replaced()
+    ensures made { (p : Princ) (version : ℕ) (keys : List KeyItem) → IsPrinc p → FitKeys p version keys → IsPrinc (with_keys version keys p) }
+    ensures other { (p : Princ) (version : ℕ) (keys : List KeyItem) → is_master p.name ≡ false → IsVersion version → AreKeys keys → FitKeys p version keys }
 {}

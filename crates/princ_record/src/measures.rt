@@ -2,18 +2,21 @@
 
 ghost use Rattle.std.specs.Prelude.{◌≡◌, ◌+◌, ◌*◌, ◌<◌, ◌≤◌, ◌^◌, ℕ, length};
 ghost use Rattle.std.specs.List.{All, sum_by};
+ghost use Rattle.tagged_data.specs.Strings.{IsString, AreStrings};
+ghost use Rattle.tagged_data.specs.StringLaws.{string_len};
 ghost use Rattle.tagged_data.specs.Versions.{IsAuxKey, aux_keys_text};
 ghost use Rattle.princ_record.specs.Facts.{IsChain, IsChainOr};
 ghost use Rattle.princ_record.specs.Keys.{salt_bytes, IsKey, AreKeys};
 ghost use Rattle.princ_record.specs.Princs.{name_of, princ, IsPolicyOr, IsPrinc};
 ghost use Rattle.princ_record.specs.Remembered.{IsOldKey, IsOldSet, AreOldSets};
-ghost use Rattle.princ_record.specs.Sizes.{key_len, old_key_len, old_set_len, pw_text_len, chain_len};
+ghost use Rattle.princ_record.specs.Sizes.{key_len, old_key_len, old_set_len, pw_text_len, chain_len, strings_item_len};
 
-use crate::facts::{ChainPart, aux_len};
+use crate::facts::{ChainPart, aux_len, strings_len};
 use crate::keys::KeyItem;
 use crate::princs::Princ;
 use crate::remembered::{OldKey, OldSet};
 use kdb_base::{AuxKey, Blob, Salt};
+use tagged_data::{StringAttribute, StringAttributes};
 
 /// A value whose spelling has a length.
 pub(crate) trait Measured {
@@ -59,6 +62,16 @@ fn salt_len(salt: &Salt) -> usize
     match salt {
         Salt::Normal => 0,
         Salt::Special(bytes) => bytes.len(),
+    }
+}
+
+impl Measured for StringAttribute {
+    ghost fits = { IsString };
+
+    ghost measure_of = { string_len };
+
+    fn measure(&self) -> usize {
+        2 + self.key.len() + self.value.len()
     }
 }
 
@@ -147,6 +160,17 @@ fn part_len(part: &ChainPart) -> usize
     8 + activations + aux_len(&part.aux)
 }
 
+fn strings_item_len(list: &StringAttributes) -> usize
+    requires { AreStrings list.now }
+    ensures value { result ≡ strings_item_len list.now }
+    ensures small { result < 2 ^ 16 }
+{
+    if list.as_slice().is_empty() {
+        return 0;
+    }
+    4 + strings_len(list)
+}
+
 #[tactic(auto, using(crate::proofs::ShortNames::policy_name_short), unfolding(crate::specs::Princs::name_of))]
 fn policy_len(policy: &Option<Blob>) -> usize
     requires { IsPolicyOr policy.now }
@@ -167,5 +191,6 @@ pub fn encoded_len(value: &Princ) -> usize
 {
     let names = value.name.len() + value.modifier.len() + policy_len(&value.policy);
     let keys = keys_len(value.keys.as_slice()) + sets_len(value.old.as_slice());
-    45 + names + pw_text_len(value.pw_changed) + chain_len(&value.chain) + keys
+    let tags = pw_text_len(value.pw_changed) + chain_len(&value.chain);
+    45 + names + tags + strings_item_len(&value.strings) + keys
 }

@@ -7,7 +7,7 @@ ghost use Rattle.princ_record.specs.declared.princs.Princ.{Princ};
 
 use crate::facts::{ChainPart, push_facts, read_facts};
 use crate::faults::RowFault;
-use crate::keys::{Keys, push_keys, read_keys};
+use crate::keys::{Keys, fit_name, push_keys, read_keys};
 use crate::names::{is_master, is_printed};
 use crate::remembered::{OldSets, push_sets, read_sets};
 use kdb_base::{Blob, MemoryOut};
@@ -15,9 +15,10 @@ use kdb_format::writing::{push_counted, push_u32};
 use kdb_format::{Format, FormatFault, Malformed, Reader, read_whole};
 use policy_rules::is_policy_name;
 use std::alloc::Global;
+use tagged_data::StringAttributes;
 
 /// A principal's record. Times are in seconds since 1970 and lives in seconds.
-#[derive(Debug, Drop)]
+#[derive(Debug, Drop, PartialEq, Eq)]
 pub struct Princ {
     /// The name in its printed form.
     pub name: Blob,
@@ -37,12 +38,16 @@ pub struct Princ {
     pub modifier: Blob,
     /// The version of the master key that wraps the keys, not 0.
     pub mkvno: u16,
+    /// At most `kdb_base::limits::MAX_KEYS`, by versions that never rise. K/M has at least one: the master
+    /// keys by falling versions, of which the first is `mkvno`.
     pub keys: Keys,
     pub policy: Option<Blob>,
     /// Keys of earlier passwords, newest first.
     pub old: OldSets,
     /// There for K/M alone.
     pub chain: Option<ChainPart>,
+    /// At most `kdb_base::limits::MAX_STRINGS`, and none for K/M.
+    pub strings: StringAttributes,
 }
 
 /// Every attribute that a flag of kadmin sets or clears.
@@ -105,8 +110,12 @@ fn read_princ(alloc: Global, reader: &mut Reader) -> Result<Princ, FormatFault>
         return Err(FormatFault::Malformed);
     }
     let lives = read_lives(reader)?;
-    let facts = read_facts(alloc, reader, is_master(name))?;
+    let master = is_master(name);
+    let facts = read_facts(alloc, reader, master)?;
     let keys = read_keys(alloc, reader)?;
+    if !fit_name(master, facts.mkvno, keys.as_slice()) {
+        return Err(FormatFault::Malformed);
+    }
     let policy = read_policy_name(alloc, reader)?;
     let old = read_sets(alloc, reader)?;
     let name = Blob::from_bytes(alloc, name)?;
@@ -125,6 +134,7 @@ fn read_princ(alloc: Global, reader: &mut Reader) -> Result<Princ, FormatFault>
         policy,
         old,
         chain: facts.chain,
+        strings: facts.strings,
     })
 }
 

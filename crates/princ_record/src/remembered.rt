@@ -1,21 +1,21 @@
 ghost use Rattle.std.specs.Prelude.{◌≡◌, ◌++◌, ◌<◌, ◌^◌, length, OnOk};
+ghost use Rattle.std.proofs.Common.{rules};
+ghost use Rattle.std.specs.Cmp.Rules.{comparing};
 ghost use Rattle.kdb_format.specs.Answers.{Gives};
 ghost use Rattle.princ_record.specs.Remembered.{old_key_at, old_key, IsOldKey, old_key_field};
 ghost use Rattle.princ_record.specs.Remembered.{old_set_at, old_set, IsOldSet, old_set_field, old_sets_at, old_sets, AreOldSets};
 
-use crate::etypes::{push_etype, read_etype};
+use kdb_base::limits::MAX_OLD_SETS;
 use kdb_base::{Blob, Etype, MemoryOut};
+use kdb_format::etypes::{push_etype, read_etype};
 use kdb_format::lists::{read_list_u16, write_list_u16};
 use kdb_format::writing::{push_counted, push_u16};
 use kdb_format::{Format, FormatFault, Reader};
 use std::alloc::Global;
 use std::marker::Model;
 
-/// The most remembered sets of a principal.
-pub const MAX_SETS: usize = 15;
-
 /// A key of an earlier password, wrapped under the history key.
-#[derive(Debug, Drop)]
+#[derive(Debug, Drop, PartialEq, Eq)]
 pub struct OldKey {
     pub etype: Etype,
     pub wrapped: Blob,
@@ -58,8 +58,27 @@ impl OldKeys {
     }
 }
 
+impl PartialEq for OldKeys {
+    ghost use Rattle.std.specs.Cmp.Lexicographic.{pointwise, lists_equiv};
+    ghost use Rattle.std.specs.Cmp.{partial_equiv_from_equiv};
+
+    ghost eq = { pointwise ⟦<OldKey as PartialEq>⟧.eq };
+
+    ghost laws = { partial_equiv_from_equiv (lists_equiv (Prim.search (comparing, rules))) };
+
+    fn eq(&self, other: &OldKeys) -> bool {
+        self.as_slice() == other.as_slice()
+    }
+}
+
+impl Eq for OldKeys {
+    ghost use Rattle.std.specs.Cmp.Lexicographic.{lists_equiv};
+
+    ghost laws = { lists_equiv (Prim.search (comparing, rules)) };
+}
+
 /// The keys of an earlier password, and the version that they had.
-#[derive(Debug, Drop)]
+#[derive(Debug, Drop, PartialEq, Eq)]
 pub struct OldSet {
     pub kvno: u16,
     pub keys: OldKeys,
@@ -100,6 +119,26 @@ impl OldSets {
     {
         &self.items
     }
+}
+
+impl PartialEq for OldSets {
+    ghost use Rattle.std.specs.Cmp.Lexicographic.{pointwise, lists_equiv};
+    ghost use Rattle.std.specs.Cmp.{partial_equiv_from_equiv, and_equiv, on_equiv};
+
+    ghost eq = { pointwise ⟦<OldSet as PartialEq>⟧.eq };
+
+    ghost laws = { partial_equiv_from_equiv (lists_equiv (and_equiv (on_equiv (λ s. s.kvno) (Prim.search (comparing, rules))) (on_equiv (λ s. s.keys) (lists_equiv (Prim.search (comparing, rules)))))) };
+
+    fn eq(&self, other: &OldSets) -> bool {
+        self.as_slice() == other.as_slice()
+    }
+}
+
+impl Eq for OldSets {
+    ghost use Rattle.std.specs.Cmp.Lexicographic.{lists_equiv};
+    ghost use Rattle.std.specs.Cmp.{and_equiv, on_equiv};
+
+    ghost laws = { lists_equiv (and_equiv (on_equiv (λ s. s.kvno) (Prim.search (comparing, rules))) (on_equiv (λ s. s.keys) (lists_equiv (Prim.search (comparing, rules))))) };
 }
 
 /// The format of a remembered key: its type, and the wrapped key.
@@ -168,7 +207,7 @@ pub(crate) fn read_sets(alloc: Global, reader: &mut Reader) -> Result<OldSets, F
     ensures { Gives result reader.new (old_sets_at reader.old) }
 {
     let sets = read_list_u16::<OldSetFormat>(alloc, reader)?;
-    if sets.len() > MAX_SETS {
+    if sets.len() > MAX_OLD_SETS {
         return Err(FormatFault::Malformed);
     }
     Ok(OldSets::from_vec(sets))

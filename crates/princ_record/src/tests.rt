@@ -1,10 +1,5 @@
-ghost use Rattle.std.specs.Prelude.{Some, IfOk};
-ghost use Rattle.princ_record.specs.Entries.{IsOp, IsRow};
-ghost use Rattle.princ_record.specs.PrintedNames.{IsPrinted};
-ghost use Rattle.princ_record.specs.Undoing.{IsBegun, IsNewName};
-
 use super::*;
-use kdb_base::{Blob, Point, Salt, Time};
+use kdb_base::{Blob, Salt};
 use policy_rules::Policy;
 use std::test::*;
 
@@ -26,6 +21,17 @@ const MASTER_TAGS: &[u8] =
     b"\0\x04\0\x02\0\x08\0\xf1\x53\x65a@R\0\0\x08\0\x02\x02\0\0\x09\0\x06\x01\0\0\xf1\x53\x65\0\x0a\0\x09\x01\0\x12\0\x03\0xyz";
 
 const TWO_KEYS: &[u8] = b"\0\x02\0\x02\0\x12\0\0\0\0\0\x03xyz\0\x02\0\x11\0\x04\0\x01s\0\x02uv";
+
+// The master keys of versions 2 and 1.
+const MASTER_KEYS: &[u8] = b"\0\x02\0\x02\0\x14\0\0\0\0\0\x03xyz\0\x01\0\x11\0\0\0\0\0\x02uv";
+
+// Four items, of which the last has two attributes.
+const STRING_TAGS: &[u8] =
+    b"\0\x04\0\x01\0\x04\0\xf1\x53\x65\0\x02\0\x08\0\xf1\x53\x65a@R\0\0\x08\0\x02\x01\0\0\x0b\0\x09a\0b c\0d\0\0";
+
+// No password change, and an attribute.
+const FRESH_TAGS: &[u8] =
+    b"\0\x03\0\x02\0\x08\0\xf1\x53\x65a@R\0\0\x08\0\x02\x01\0\0\x0b\0\x04a\0b\0";
 
 const ONE_KEY: &[u8] = b"\0\x01\0\x07\0\x12\0\x04\0\x01s\0\x03xyz";
 
@@ -57,7 +63,7 @@ fn a_principal_is_read_and_written(rt: HostRuntime) -> Result<(), Fail> {
             PREAUTH,
             LIVES,
             MASTER_TAGS,
-            TWO_KEYS,
+            MASTER_KEYS,
             NO_POLICY,
             NO_OLD,
         ],
@@ -78,8 +84,7 @@ fn a_principal_is_read_and_written(rt: HostRuntime) -> Result<(), Fail> {
         let text = encode(rt.alloc(), &princ)?;
         assert_eq!(rt; text.as_slice(), bytes.as_slice());
         let again = copy(rt.alloc(), &princ)?;
-        assert_eq!(rt; again.name.as_slice(), princ.name.as_slice());
-        assert_eq!(rt; again.keys.as_slice().len(), princ.keys.as_slice().len());
+        assert!(rt; again == princ);
         assert_eq!(rt;
             (princ.attributes, princ.max_life, princ.max_renew),
             (0x80, 3600, 7200)
@@ -165,6 +170,75 @@ fn what_is_no_principal(rt: HostRuntime) -> Result<(), Fail> {
 }
 
 #[test]
+fn a_row_with_attributes(rt: HostRuntime) -> Result<(), Fail> {
+    for (tags, set, count) in &[(STRING_TAGS, Some(1700000000), 2), (FRESH_TAGS, None, 1)] {
+        let bytes = joined(&rt, &[ALICE, PREAUTH, LIVES, tags, ONE_KEY, POLICY, NO_OLD])?;
+        let princ = decode(rt.alloc(), &bytes)?;
+        assert_eq!(rt; princ.pw_changed, *set);
+        assert_eq!(rt; princ.strings.as_slice().len(), *count);
+        assert_eq!(rt; encoded_len(&princ), bytes.len());
+        assert!(rt; is_row(&princ) && !is_row_1(&princ));
+        let text = encode(rt.alloc(), &princ)?;
+        assert_eq!(rt; text.as_slice(), bytes.as_slice());
+        assert!(rt; copy(rt.alloc(), &princ)? == princ);
+    }
+    Ok(())
+}
+
+fn is_refused(rt: &HostRuntime, name: &[u8], tags: &[u8], keys: &[u8]) -> Result<bool, Fail> {
+    let bytes = joined(rt, &[name, PREAUTH, LIVES, tags, keys, NO_POLICY, NO_OLD])?;
+    Ok(decode(rt.alloc(), &bytes).err() == Some(RowFault::BadRecord))
+}
+
+const ITEMS: &[u8] = b"\0\x02\0\x08\0\xf1\x53\x65a@R\0\0\x08\0\x02\x01\0";
+
+#[test]
+fn what_is_no_row_with_attributes(rt: HostRuntime) -> Result<(), Fail> {
+    let wrong: [(&[u8], &[u8]); 7] = [
+        // An item of no attribute, keys that fall, and equal ones.
+        (b"\0\x03", b"\0\x0b\0\0"),
+        (b"\0\x03", b"\0\x0b\0\x06b\0\0a\0\0"),
+        (b"\0\x03", b"\0\x0b\0\x06a\0\0a\0\0"),
+        // An item that is counted and missing, one that is not counted, and one too many.
+        (b"\0\x03", b""),
+        (b"\0\x02", b"\0\x0b\0\x04a\0b\0"),
+        (b"\0\x04", b"\0\x0b\0\x04a\0b\0"),
+        // Another type in its place.
+        (b"\0\x03", b"\0\x0a\0\x04a\0b\0"),
+    ];
+    for (count, item) in &wrong {
+        let tags = joined(&rt, &[count, ITEMS, item])?;
+        assert!(rt; is_refused(&rt, ALICE, &tags, ONE_KEY)?, "{tags:?}");
+    }
+    // Seventeen attributes of four bytes are 44 bytes in hexadecimal.
+    let mut tags = joined(&rt, &[b"\0\x03", ITEMS, b"\0\x0b\0\x44"])?;
+    for i in 0..17u8 {
+        tags.extend_from_slice(&[b'a', b'a' + i, 0, 0])?;
+    }
+    assert!(rt; is_refused(&rt, ALICE, &tags, ONE_KEY)?);
+    Ok(())
+}
+
+#[test]
+fn what_are_no_keys_of_the_master(rt: HostRuntime) -> Result<(), Fail> {
+    assert!(rt; !is_refused(&rt, MASTER, MASTER_TAGS, MASTER_KEYS)?);
+    let wrong: [&[u8]; 4] = [
+        // No keys, rising ones, two of one version, and another version than the record's.
+        NO_KEYS,
+        b"\0\x02\0\x02\0\x12\0\0\0\0\0\x01x\0\x03\0\x12\0\0\0\0\0\x01y",
+        b"\0\x02\0\x02\0\x12\0\0\0\0\0\x01x\0\x02\0\x11\0\0\0\0\0\x01y",
+        b"\0\x01\0\x03\0\x12\0\0\0\0\0\x01x",
+    ];
+    for keys in &wrong {
+        assert!(rt; is_refused(&rt, MASTER, MASTER_TAGS, keys)?, "{keys:?}");
+    }
+    // Attributes of K/M.
+    let tags = joined(&rt, &[b"\0\x05", &MASTER_TAGS[2..], b"\0\x0b\0\x04a\0b\0"])?;
+    assert!(rt; is_refused(&rt, MASTER, &tags, MASTER_KEYS)?);
+    Ok(())
+}
+
+#[test]
 fn a_policy_is_read_and_written(rt: HostRuntime) -> Result<(), Fail> {
     let bytes = b"\0\x03std\0\0\0\x3c\0\0\0\x0a\0\x08\0\x03\0\x02".as_slice();
     let policy = decode_policy(rt.alloc(), bytes)?;
@@ -195,103 +269,5 @@ fn a_policy_is_read_and_written(rt: HostRuntime) -> Result<(), Fail> {
             "{bytes:?}"
         );
     }
-    Ok(())
-}
-
-#[test]
-fn a_reply_has_the_code_of_iprop(rt: HostRuntime) {
-    let codes = [
-        (0, Some(ReplyCode::UpdateOk)),
-        (1, None),
-        (2, Some(ReplyCode::FullResyncNeeded)),
-        (3, Some(ReplyCode::Busy)),
-        (4, Some(ReplyCode::Nil)),
-        (5, Some(ReplyCode::PermDenied)),
-        (6, None),
-    ];
-    for (number, code) in codes {
-        assert_eq!(rt; ReplyCode::from_number(number), code);
-        if let Some(code) = code {
-            assert_eq!(rt; code.number(), number);
-        }
-    }
-    let asked = Point {
-        sno: 7,
-        time: Time::new(1, 2),
-    };
-    let none = Entries::from_vec(Vec::new(rt.alloc()));
-    let reply = PollReply::new(ReplyCode::Nil, asked, none);
-    assert_eq!(rt; reply.code(), ReplyCode::Nil);
-    assert_eq!(rt; reply.asked().sno, 7);
-    assert_eq!(rt; reply.updates().len(), 0);
-    assert_eq!(rt; reply.into_updates().as_slice().len(), 0);
-}
-
-fn princ_named(rt: &HostRuntime, name: &[u8]) -> Result<Princ, Fail>
-    ensures { IfOk result (λ p. IsRow p) }
-{
-    let bytes = joined(rt, &[name, PREAUTH, LIVES, TAGS, TWO_KEYS, POLICY, OLD])?;
-    let princ = decode(rt.alloc(), &bytes)?;
-    if encoded_len(&princ) > 8000 {
-        return Err(Fail::from("too long"));
-    }
-    Ok(princ)
-}
-
-/// Begins the change where there is room for it.
-fn begun(rows: &mut Rows, op: Op) -> Result<Begun, Fail>
-    requires op { IsOp (Some op) }
-    requires name { IsNewName op rows.old }
-    ensures { IfOk result (λ b. IsBegun b rows.new) }
-{
-    if !rows.has_room_for(&op) {
-        return Err(Fail::from("no room"));
-    }
-    Ok(rows.begin(op)?)
-}
-
-fn renaming(rows: &mut Rows, old: Blob, princ: Princ) -> Result<Begun, Fail>
-    requires old { IsPrinted old }
-    requires row { IsRow princ }
-    ensures { IfOk result (λ b. IsBegun b rows.new) }
-{
-    if rows.princ(princ.name.as_slice()).is_some() {
-        return Err(Fail::from("the new name is there"));
-    }
-    begun(rows, Op::Rename(old, princ))
-}
-
-fn names_are(rows: &Rows, names: &[&[u8]]) -> bool {
-    rows.princs().len() == names.len()
-        && rows
-            .princs()
-            .iter()
-            .zip(names)
-            .all(|(p, name)| p.name.as_slice() == *name)
-}
-
-#[test]
-fn a_change_is_finished_or_taken_back(rt: HostRuntime) -> Result<(), Fail> {
-    let alloc = rt.alloc();
-    let mut rows = Rows::from_vecs(Vec::new(alloc), Vec::new(alloc)).ok_or("no rows")?;
-    for name in &[b"\0\x03b@R".as_slice(), b"\0\x03d@R"] {
-        let put = begun(&mut rows, Op::PutPrinc(princ_named(&rt, name)?))?;
-        rows.finish(put);
-    }
-    let put = begun(&mut rows, Op::PutPrinc(princ_named(&rt, b"\0\x03c@R")?))?;
-    assert!(rt; names_are(&rows, &[b"b@R", b"c@R", b"d@R"]));
-    rows.undo(put);
-    assert!(rt; names_are(&rows, &[b"b@R", b"d@R"]));
-    let old = princ_named(&rt, b"\0\x03d@R")?.name;
-    let rename = renaming(&mut rows, old, princ_named(&rt, b"\0\x03a@R")?)?;
-    assert!(rt; names_are(&rows, &[b"a@R", b"b@R"]));
-    rows.undo(rename);
-    assert!(rt; names_are(&rows, &[b"b@R", b"d@R"]));
-    let name = princ_named(&rt, b"\0\x03b@R")?.name;
-    let drop = begun(&mut rows, Op::DropPrinc(name))?;
-    assert_eq!(rt; drop.dropped_princ(), Some(b"b@R".as_slice()));
-    assert!(rt; names_are(&rows, &[b"b@R", b"d@R"]));
-    rows.finish(drop);
-    assert!(rt; names_are(&rows, &[b"d@R"]));
     Ok(())
 }

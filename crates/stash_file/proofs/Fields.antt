@@ -7,10 +7,10 @@ use Rattle.std.proofs.lemmas.Option.{same_Some}
 use Rattle.kdb_format.specs.Readings.{known, bytes_at}
 use Rattle.kdb_format.specs.Spellings.{big}
 use Rattle.kdb_format.specs.Fields.{IsBytes, IsBytes-front, IsField}
-use Rattle.kdb_format.specs.Laws.{bind_some, same_field, first_field, then_field, last_field, made_field, choice_field, bytes_field, big_field, checked_field, counted_field, list_field}
-use Rattle.stash_file.specs.Pieces.{Entry, Piece, entry_text, piece_text, has_length, type_of, IsEntry, IsHole, IsPiece}
+use Rattle.kdb_format.specs.Laws.{bind_some, same_field, first_field, then_field, last_field, made_field, choice_field, bytes_field, big_field, counted_field, list_field}
+use Rattle.stash_file.specs.Pieces.{Entry, Piece, entry_text, piece_text, IsEntry, IsHole, IsPiece}
 use Rattle.stash_file.specs.Pieces.Piece.{Hole, Held}
-use Rattle.stash_file.specs.Parsing.{fields_at, entry_at, entry_in, held_at, hole_at, piece_at}
+use Rattle.stash_file.specs.Parsing.{entry_at, entry_in, held_at, hole_at, piece_at}
 
 abbrev IsShort : List ℕ → Type 0
 IsShort text = length text < 2 ^ 16
@@ -30,8 +30,8 @@ pub record AreFields (e : Entry) : Type 0 where
   key_type : e.key_type < 2 ^ 16
   key : IsShort e.key
 
-pub fields_field : IsField fields_at entry_text (λ e. (length e.components < 2 ^ 16) × AreFields e)
-unfolding fields_at entry_text
+fields_field : IsField entry_at entry_text (λ e. (length e.components < 2 ^ 16) × AreFields e)
+unfolding entry_at entry_text
 fields_field = same_field
     (first_field (big_field 2) (λ (e : Entry). length e.components) (λ count _.
     same_field
@@ -52,10 +52,9 @@ fields_field = same_field
     (λ e f. f)
 
 pub entry_field : IsField entry_at entry_text IsEntry
-unfolding entry_at
-entry_field = same_field (checked_field (λ (e : Entry). has_length (type_of e) e.key) fields_field)
-    (λ e f. let g = f.0.1 in (refl, record { realm = g.realm; count = f.0.0; components = g.components; name_type = g.name_type; time = g.time; version = g.version; key_type = g.key_type; key = g.key; fits = f.1 }))
-    (λ e f. ((f.count, record { realm = f.realm; components = f.components; name_type = f.name_type; time = f.time; version = f.version; key_type = f.key_type; key = f.key }), f.fits))
+entry_field = same_field fields_field
+    (λ e f. let g = f.1 in (refl, record { realm = g.realm; count = f.0; components = g.components; name_type = g.name_type; time = g.time; version = g.version; key_type = g.key_type; key = g.key }))
+    (λ e f. (f.count, record { realm = f.realm; components = f.components; name_type = f.name_type; time = f.time; version = f.version; key_type = f.key_type; key = f.key }))
 
 -- ---- pieces
 

@@ -1,5 +1,7 @@
 pub mod Fields
 pub mod Uniques
-pub mod Briefs
+pub mod Tellings
+pub mod Loops
 pub mod Steps
+pub mod Judged
 pub mod Entries

@@ -1,4 +1,5 @@
 pub mod Pieces
+pub mod Keytabs
 pub mod Stashes
 pub mod Written
 pub mod Answers

@@ -6,7 +6,7 @@ use Rattle.kdb_base.specs.declared.versions.Master.{Master}
 use Rattle.kdb_format.specs.Spellings.{big}
 use Rattle.stash_file.specs.Pieces.{Entry, Piece, piece_text}
 use Rattle.stash_file.specs.Pieces.Piece.{Held}
-use Rattle.stash_file.specs.Stashes.{with_version}
+use Rattle.stash_file.specs.Keytabs.{with_version}
 use Rattle.stash_file.specs.declared.keys.StashKey.{StashKey}
 
 -- the entry of K/M of the realm, of a principal's name type (1), with the low byte of the version

@@ -1,12 +1,18 @@
 //! Laws of stashes. They do no work.
 
 ghost use Rattle.std.specs.Prelude.{◌≡◌, ℕ, List};
-ghost use Rattle.stash_file.specs.Stashes.{IsStash, IsBadAt};
+ghost use Rattle.kdb_format.specs.Fields.{IsBytes};
+ghost use Rattle.stash_file.specs.Stashes.{IsStash, IsBadAt, IsJudged};
 ghost use Rattle.stash_file.specs.declared.keys.StashKey.{StashKey};
 
 /// A stash has one list of keys.
 pub fn stash_has_one_list_of_keys()
     ensures { (text : List ℕ) (a b : List StashKey) → IsStash text a → IsStash text b → a ≡ b }
+{}
+
+/// Each text of bytes is a stash, or it is bad somewhere.
+pub fn each_text_is_judged()
+    ensures { (text : List ℕ) → IsBytes text → IsJudged text }
 {}
 
 /// A stash is bad nowhere.

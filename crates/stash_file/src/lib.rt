@@ -4,13 +4,16 @@
 
 pub mod faults;
 pub mod keys;
+pub mod keytabs;
 pub mod laws;
-mod pieces;
+pub mod pieces;
 pub mod reading;
 pub mod writing;
 
 pub use faults::StashFault;
 pub use keys::{StashKey, StashList};
+pub use keytabs::read_entries;
+pub use pieces::{Entry, has_key, is_end, read_entry, read_piece};
 pub use reading::read_stash;
 pub use writing::write_stash;
 

@@ -1,6 +1,7 @@
 ghost use Rattle.std.specs.Prelude.{◌≡◌, ◌++◌, ◌∷◌, [], ◌≤◌, length, IfOk, OnOk};
-ghost use Rattle.stash_file.specs.Pieces.{IsPiece, entry_text, key_of_piece, piece_text};
-ghost use Rattle.stash_file.specs.Stashes.{IsStash};
+ghost use Rattle.stash_file.specs.Pieces.{entry_text, piece_text};
+ghost use Rattle.stash_file.specs.Keytabs.{Stands};
+ghost use Rattle.stash_file.specs.Stashes.{IsStash, has_master_key, keys_by};
 ghost use Rattle.stash_file.specs.Written.{entry_of, piece_of, stash_keys, stash_text};
 
 use crate::reading::VERSION;
@@ -35,8 +36,8 @@ fn push_entry(out: &mut Vec<u8>, realm: &[u8], secs: u32, master: &Master) -> Re
 fn push_piece(out: &mut Vec<u8>, realm: &[u8], secs: u32, master: &Master) -> Result<(), MemoryOut>
     requires { length realm.now ≤ 64 }
     ensures text { OnOk result (out.new.items ≡ out.old.items ++ piece_text (piece_of realm.now secs master.now)) }
-    ensures fits { OnOk result (IsPiece (piece_of realm.now secs master.now)) }
-    ensures told { OnOk result (key_of_piece (piece_of realm.now secs master.now) ≡ record { version = master.now.version; key = master.now.key } ∷ []) }
+    ensures fits { OnOk result (Stands has_master_key (piece_of realm.now secs master.now)) }
+    ensures told { OnOk result (keys_by (piece_of realm.now secs master.now) ≡ record { version = master.now.version; key = master.now.key } ∷ []) }
 {
     let size = FIXED + realm.len() + master.key.as_slice().len();
     push_u32(out, size as u32)?;

@@ -1,5 +1,5 @@
 -- Contents: readings of all of the bytes, and spellings that belong to them.
-use Rattle.std.proofs.Common.{◌≡◌, ℕ, zero, suc, ◌<◌, ◌≤◌, Bool, cond, List, [], ◌∷◌, ◌++◌, length, map, Option, Some, None, refl, ap, subst, ◌∙◌, arith}
+use Rattle.std.proofs.Common.{◌≡◌, ℕ, zero, suc, ◌<◌, ◌≤◌, Bool, true, cond, List, [], ◌∷◌, ◌++◌, length, map, Option, Some, None, refl, ap, subst, ◌∙◌, arith}
 use Rattle.std.specs.Prelude.{option_map, option_and_then, if◌then◌else◌}
 use Rattle.std.specs.List.{All, AllByRecursion, flat_map}
 use Rattle.std.proofs.lemmas.List.{length-append}
@@ -88,6 +88,32 @@ items_content {s = s} {F = F} field some = record {
   again = λ xs f. within_again field some (length (flat_map s xs)) xs (omega arith) (recursion_from_All F xs f);
 }
 
+-- the same reading, where what fits is said by another name
+pub same_content : {A : Type 0} {read : List ℕ → Option A} {s : A → List ℕ} {F G : A → Type 0} → IsContent read s F → ((x : A) → F x → G x) → ((x : A) → G x → F x) → IsContent read s G
+same_content content to from = record {
+  spelled = λ bytes x fits e. content.spelled bytes x fits e;
+  fits = λ bytes x fits e. to x (content.fits bytes x fits e);
+  again = λ x f. content.again x (from x f);
+}
+
+-- a value that passes a test
+pub checked_content : {A : Type 0} {read : List ℕ → Option A} {s : A → List ℕ} {F : A → Type 0} (test : A → Bool) → IsContent read s F
+    → IsContent (λ bytes. option_and_then (λ x. if test x then Some x else None) (read bytes)) s (λ x. F x × (test x ≡ true))
+checked_content {A = A} {read = read} {s = s} {F = F} test content =
+    let taken : (bytes : List ℕ) (x : A) → IsBytes bytes → option_and_then (λ (y : A). cond (test y) (Some y) None) (read bytes) ≡ Some x
+    → (bytes ≡ s x) × (F x × (test x ≡ true)) = λ bytes x fits e.
+    let a = bind_some (λ (y : A). cond (test y) (Some y) None) (read bytes) x e in
+    let g = cond_some (test a.0) a.0 x a.2 in
+    subst (λ (y : A). (bytes ≡ s y) × (F y × (test y ≡ true))) g.1
+    (content.spelled bytes a.0 fits a.1, (content.fits bytes a.0 fits a.1, g.0)) in
+    record {
+      spelled = λ bytes x fits e. (taken bytes x fits e).0;
+      fits = λ bytes x fits e. (taken bytes x fits e).1;
+      again = λ x f.
+          ap (option_and_then (λ (y : A). cond (test y) (Some y) None)) (content.again x f.0)
+          ∙ ap (λ (b : Bool). cond b (Some x) None) f.1;
+    }
+
 -- values whose numbers rise
 unfoldable pub in_order : {A : Type 0} → (A → ℕ) → (List ℕ → Option (List A)) → List ℕ → Option (List A)
 in_order number read bytes = option_and_then (λ xs. if rising_from 0 (map number xs) then Some xs else None) (read bytes)
@@ -95,17 +121,6 @@ in_order number read bytes = option_and_then (λ xs. if rising_from 0 (map numbe
 pub in_order_content : {A : Type 0} {read : List ℕ → Option (List A)} {s : List A → List ℕ} {F : List A → Type 0} (number : A → ℕ) → IsContent read s F
     → IsContent (in_order number read) s (λ xs. F xs × AreRising (map number xs))
 unfolding in_order
-in_order_content {A = A} {read = read} {s = s} {F = F} number content =
-    let taken : (bytes : List ℕ) (xs : List A) → IsBytes bytes → option_and_then (λ (ys : List A). cond (rising_from 0 (map number ys)) (Some ys) None) (read bytes) ≡ Some xs
-    → (bytes ≡ s xs) × (F xs × AreRising (map number xs)) = λ bytes xs fits e.
-    let a = bind_some (λ (ys : List A). cond (rising_from 0 (map number ys)) (Some ys) None) (read bytes) xs e in
-    let g = cond_some (rising_from 0 (map number a.0)) a.0 xs a.2 in
-    subst (λ (ys : List A). (bytes ≡ s ys) × (F ys × AreRising (map number ys))) g.1
-    (content.spelled bytes a.0 fits a.1, (content.fits bytes a.0 fits a.1, rising_is _ g.0)) in
-    record {
-      spelled = λ bytes xs fits e. (taken bytes xs fits e).0;
-      fits = λ bytes xs fits e. (taken bytes xs fits e).1;
-      again = λ xs f.
-          ap (option_and_then (λ (ys : List A). cond (rising_from 0 (map number ys)) (Some ys) None)) (content.again xs f.0)
-          ∙ ap (λ (b : Bool). cond b (Some xs) None) (is_rising _ f.1);
-    }
+in_order_content number content = same_content (checked_content (λ xs. rising_from 0 (map number xs)) content)
+    (λ xs f. (f.0, rising_is _ f.1))
+    (λ xs f. (f.0, is_rising _ f.1))

@@ -4,9 +4,10 @@ use Rattle.std.specs.Prelude.{nat_eq}
 use Rattle.std.specs.List.{list_any, list_all}
 use Rattle.std.proofs.lemmas.Bool.{or_cases, and_parts, eqb-true, ltb-true}
 
--- every type: the last password change, the modifier, the master key's version, the activations and the auxiliary keys
+-- every type: the last password change, the modifier, the master key's version, the activations, the auxiliary keys and the
+-- string attributes
 abbrev pub kinds : List ℕ
-kinds = 1 ∷ 2 ∷ 8 ∷ 9 ∷ 10 ∷ []
+kinds = 1 ∷ 2 ∷ 8 ∷ 9 ∷ 10 ∷ 11 ∷ []
 
 unfoldable pub is_kind : ℕ → Bool
 is_kind kind = list_any (nat_eq kind) kinds

@@ -7,3 +7,7 @@ pub mod Numbers
 pub mod Modifiers
 pub mod Versions
 pub mod Answers
+pub mod KeyOrder
+pub mod KeyOrderLaws
+pub mod Strings
+pub mod StringLaws

@@ -1,23 +1,21 @@
 -- Activations and auxiliary keys, by rising versions of the master key.
-use Rattle.std.proofs.Common.{◌≡◌, ℕ, ◌+◌, ◌*◌, ◌^◌, ◌<◌, List, [], ◌∷◌, ◌++◌, length, map, Option, Some, None, refl, sym, ap, ◌∙◌, arith, inl, inr}
-use Rattle.std.specs.Prelude.{option_map}
+use Rattle.std.proofs.Common.{◌≡◌, ℕ, ◌+◌, ◌*◌, ◌^◌, ◌<◌, List, [], ◌∷◌, ◌++◌, length, map, Option, refl, sym, ap, ◌∙◌, arith}
 use Rattle.std.specs.List.{All, flat_map, sum_by}
-use Rattle.std.proofs.lemmas.List.{length-append, append-nil}
+use Rattle.std.proofs.lemmas.List.{length-append}
 use Rattle.std.proofs.lemmas.List.Sums.{sum_by-cons}
-use Rattle.std.proofs.lemmas.Bool.{cases_eq, ne_eqb}
-use Rattle.std.proofs.lemmas.Option.{same_Some}
-use Rattle.kdb_base.specs.Etypes.{number_of, etype_of}
+use Rattle.kdb_base.specs.Etypes.{number_of}
 use Rattle.kdb_base.specs.Versions.{AreRising}
 use Rattle.kdb_base.specs.declared.keys.Etype.{Etype}
-use Rattle.kdb_base.specs.declared.keys.Etype.TheVariants.{Aes128, Aes256}
 use Rattle.kdb_base.specs.declared.versions.Activation.{Activation}
 use Rattle.kdb_base.specs.declared.versions.AuxKey.{AuxKey}
-use Rattle.kdb_format.specs.Readings.{Reading, ◌>>=◌, done, known, little_at, bytes_at}
+use Rattle.kdb_format.specs.Etypes.{etype_le_at, etype_le_text}
+use Rattle.kdb_format.specs.EtypeLaws.{etype_le_field}
+use Rattle.kdb_format.specs.Readings.{Reading, ◌>>=◌, done, little_at, bytes_at}
 use Rattle.kdb_format.specs.Spellings.{little}
 use Rattle.kdb_format.specs.Numbers.{length-little}
 use Rattle.kdb_format.specs.Fields.{IsField}
 use Rattle.kdb_format.specs.Laws.{same_field, first_field, then_field, last_field, little_field, bytes_field}
-use Rattle.tagged_data.specs.Contents.{IsContent, items_of, items_content, in_order, in_order_content, map_some}
+use Rattle.tagged_data.specs.Contents.{IsContent, items_of, items_content, same_content, in_order, in_order_content}
 use Rattle.tagged_data.specs.Numbers.{version_at, IsVersion, version_field}
 
 -- ---- activations
@@ -63,13 +61,6 @@ unfolding activations_text
 length-activations_text [] = refl
 length-activations_text (a ∷ list) = omega (arith, length-append (activation a) (flat_map activation list), length-activation a, length-activations_text list)
 
-same_content : {A : Type 0} {read : List ℕ → Option A} {s : A → List ℕ} {F G : A → Type 0} → IsContent read s F → ((x : A) → F x → G x) → ((x : A) → G x → F x) → IsContent read s G
-same_content content to from = record {
-  spelled = λ bytes x fits e. content.spelled bytes x fits e;
-  fits = λ bytes x fits e. to x (content.fits bytes x fits e);
-  again = λ x f. content.again x (from x f);
-}
-
 pub activations_content : IsContent activations_at activations_text AreActivations
 unfolding activations_at activations_text
 activations_content = same_content (in_order_content (λ (a : Activation). a.version) (items_content activation_field (λ a _. omega (arith, length-activation a))))
@@ -77,61 +68,6 @@ activations_content = same_content (in_order_content (λ (a : Activation). a.ver
     (λ list f. (f.each, f.rising))
 
 -- ---- auxiliary keys
-
--- the number of an encryption type
-unfoldable pub etype_at : Reading Etype
-etype_at = do
-  number ← little_at 2
-  known (etype_of number)
-
-unfoldable pub etype_text : Etype → List ℕ
-etype_text etype = little 2 (number_of etype)
-
-number_is : (n : ℕ) (etype : Etype) → etype_of n ≡ Some etype → number_of etype ≡ n
-number_is n etype e =
-    elim (cases_eq n 17) [
-      | inl is ↦
-          let here : etype_of n ≡ Some Aes128 = rw is refl in
-          ap number_of (same_Some etype Aes128 (sym e ∙ here)) ∙ sym is
-      | inr not17 ↦
-          elim (cases_eq n 18) [
-            | inl is ↦
-                let here : etype_of n ≡ Some Aes256 = rw is refl in
-                ap number_of (same_Some etype Aes256 (sym e ∙ here)) ∙ sym is
-            | inr not18 ↦
-                let no17 = ne_eqb n 17 not17 in
-                let no18 = ne_eqb n 18 not18 in
-                let none : etype_of n ≡ None = rw (no17, no18) refl in
-                absurd cc
-          ]
-    ]
-
-of_number : (etype : Etype) → etype_of (number_of etype) ≡ Some etype
-of_number Aes128 = refl
-of_number Aes256 = refl
-
--- the type of a number that was read
-type_field : (n : ℕ) → IsField (known (etype_of n)) (λ _. []) (λ etype. (number_of etype ≡ n) × Unit {0})
-type_field n = record {
-  spelled = λ bytes etype rest fits e.
-      let a = map_some (λ (t : Etype). let x : Etype × List ℕ = (t, bytes) in x) (etype_of n) (etype, rest) e in
-      ap (λ (x : Etype × List ℕ). x.1) a.2;
-  fits = λ bytes etype rest fits e.
-      let a = map_some (λ (t : Etype). let x : Etype × List ℕ = (t, bytes) in x) (etype_of n) (etype, rest) e in
-      (ap number_of (sym (ap (λ (x : Etype × List ℕ). x.0) a.2)) ∙ number_is n a.0 a.1, tt);
-  again = λ etype rest f.
-      ap (option_map (λ (t : Etype). let x : Etype × List ℕ = (t, rest) in x)) (ap etype_of (sym f.0) ∙ of_number etype);
-}
-
-small_number : (etype : Etype) → number_of etype < 2 ^ 16
-small_number Aes128 = omega arith
-small_number Aes256 = omega arith
-
-pub etype_field : IsField etype_at etype_text (λ _. Unit {0})
-unfolding etype_at etype_text
-etype_field = same_field (first_field (little_field 2) number_of (λ n _. type_field n))
-    (λ etype f. (append-nil (little 2 (number_of etype)), tt))
-    (λ etype _. (small_number etype, tt))
 
 -- a length, and that many bytes
 unfoldable pub wrapped_at : Reading (List ℕ)
@@ -152,12 +88,12 @@ wrapped_field =
 unfoldable pub aux_key_at : Reading AuxKey
 aux_key_at = do
   version ← version_at
-  etype ← etype_at
+  etype ← etype_le_at
   wrapped ← wrapped_at
   done (record { version = version; etype = etype; wrapped = wrapped })
 
 unfoldable pub aux_key : AuxKey → List ℕ
-aux_key k = little 2 k.version ++ (etype_text k.etype ++ wrapped_text k.wrapped)
+aux_key k = little 2 k.version ++ (etype_le_text k.etype ++ wrapped_text k.wrapped)
 
 pub record IsAuxKey (k : AuxKey) : Type 0 where
   pub version : IsVersion k.version
@@ -172,7 +108,7 @@ pub aux_key_field : IsField aux_key_at aux_key IsAuxKey
 unfolding aux_key_at aux_key
 aux_key_field = same_field
     (first_field version_field (λ (k : AuxKey). k.version) (λ version _.
-    then_field {K = λ (k : AuxKey). k.version ≡ version} etype_field (λ (k : AuxKey). k.etype) (λ etype _.
+    then_field {K = λ (k : AuxKey). k.version ≡ version} etype_le_field (λ (k : AuxKey). k.etype) (λ etype _.
     last_field {K = λ (k : AuxKey). (k.etype ≡ etype) × (k.version ≡ version)} wrapped_field (λ (k : AuxKey). k.wrapped) (λ wrapped. record { version = version; etype = etype; wrapped = wrapped })
     (λ _ _. (refl, (refl, refl)))
     (λ k e. same_key k version etype e.1 e.0))))
@@ -190,7 +126,7 @@ pub record AreAuxKeys (list : List AuxKey) : Type 0 where
   pub rising : AreRising (map (λ k. k.version) list)
 
 length-aux_key : (k : AuxKey) → length (aux_key k) ≡ 6 + length k.wrapped
-unfolding aux_key etype_text wrapped_text
+unfolding aux_key etype_le_text wrapped_text
 length-aux_key k =
     omega (
       arith,

@@ -18,6 +18,9 @@ pub const ACTIVATIONS: u16 = 9;
 /// The newest master key, wrapped under each older one.
 pub const AUX_KEYS: u16 = 10;
 
+/// The string attributes.
+pub const STRINGS: u16 = 11;
+
 /// The numbers of the types. A law, and no work.
 pub fn numbers_of_the_types()
     ensures pw_change { PW_CHANGE ≡ 1 }
@@ -25,6 +28,7 @@ pub fn numbers_of_the_types()
     ensures mkvno { MKVNO ≡ 8 }
     ensures activations { ACTIVATIONS ≡ 9 }
     ensures aux_keys { AUX_KEYS ≡ 10 }
+    ensures strings { STRINGS ≡ 11 }
 {}
 
 /// Whether it is the number of a type.
@@ -34,6 +38,6 @@ pub fn is_kind(number: u16) -> bool
 {
     matches!(
         number,
-        PW_CHANGE | MODIFIER | MKVNO | ACTIVATIONS | AUX_KEYS
+        PW_CHANGE | MODIFIER | MKVNO | ACTIVATIONS | AUX_KEYS | STRINGS
     )
 }

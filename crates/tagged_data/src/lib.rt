@@ -11,6 +11,7 @@ pub mod modifiers;
 pub mod numbers;
 pub mod rest;
 pub mod rising;
+pub mod string_attributes;
 pub mod versions;
 
 pub use faults::TagFault;
@@ -18,6 +19,9 @@ pub use items::TagItem;
 pub use lists::{TagList, Tagged, content, push_tagged, read_tagged, tagged_len, write_tagged};
 pub use modifiers::{modifier, push_modifier};
 pub use numbers::{mkvno, pw_change};
+pub use string_attributes::{
+    StringAttribute, StringAttributes, is_string_key, is_string_value, push_strings, strings,
+};
 pub use versions::{activations, aux_keys, push_activations, push_aux_keys};
 
 #[cfg(test)]

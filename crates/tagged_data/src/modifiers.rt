@@ -18,7 +18,8 @@ fn first_zero(bytes: &[u8]) -> Option<usize>
     bytes.iter().position(|byte| *byte == 0)
 }
 
-fn read_ended<'a>(reader: &mut Reader<'a>) -> Result<&'a [u8], Malformed>
+/// The bytes before the next zero byte, which is read too. No byte is read where there is none.
+pub fn read_ended<'a>(reader: &mut Reader<'a>) -> Result<&'a [u8], Malformed>
     ensures { ReadsAs (λ text. text.now) result reader.new (ended_at reader.old) }
 {
     let rest = reader.rest();
@@ -70,8 +71,9 @@ pub fn push_modifier(out: &mut Vec<u8>, secs: u32, name: &[u8]) -> Result<(), Me
     Ok(())
 }
 
+/// Appends the text and a zero byte.
 #[tactic(auto, unfolding(crate::specs::Modifiers::ended))]
-fn push_ended(out: &mut Vec<u8>, text: &[u8]) -> Result<(), MemoryOut>
+pub fn push_ended(out: &mut Vec<u8>, text: &[u8]) -> Result<(), MemoryOut>
     ensures { OnOk result (out.new.items ≡ out.old.items ++ ended text.now) }
 {
     push_bytes(out, text)?;

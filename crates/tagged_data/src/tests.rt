@@ -36,7 +36,7 @@ fn what_is_no_list(rt: HostRuntime) {
         b"\0\x02\0\x08\0\0\0\x08\0\0",
         b"\0\x02\0\x08\0\0\0\x01\0\0",
         b"\0\x01\0\x03\0\0",
-        b"\0\x01\0\x0b\0\0",
+        b"\0\x01\0\x0c\0\0",
     ];
     for bytes in &wrong {
         assert_eq!(rt;
@@ -163,5 +163,86 @@ fn a_list_of_items(rt: HostRuntime) -> Result<(), Fail> {
         bytes,
     })?;
     assert_eq!(rt; mkvno(&TagList::from_vec(items)), Some(1));
+    Ok(())
+}
+
+// Two attributes: the second has no bytes in its value.
+const STRINGS: &[u8] = b"\0\x01\0\x0b\0\x11pw_len\x0012 a\0x-.\0\0";
+
+#[test]
+fn string_attributes_are_read_and_written(rt: HostRuntime) -> Result<(), Fail> {
+    let (list, used) = read_tagged(rt.alloc(), STRINGS)?;
+    assert_eq!(rt; used, STRINGS.len());
+    let attributes = strings(rt.alloc(), &list)?;
+    if let [first, second] = attributes.as_slice() {
+        assert_eq!(rt; first.key.as_slice(), b"pw_len".as_slice());
+        assert_eq!(rt; first.value.as_slice(), b"12 a".as_slice());
+        assert_eq!(rt; second.key.as_slice(), b"x-.".as_slice());
+        assert!(rt; second.value.is_empty());
+    } else {
+        return Err(Fail::from("not two attributes"));
+    }
+    let mut out = Vec::new(rt.alloc());
+    push_strings(&mut out, &attributes)?;
+    assert_eq!(rt; out.as_slice(), &STRINGS[6..23]);
+    Ok(())
+}
+
+#[test]
+fn what_is_no_content_of_attributes(rt: HostRuntime) {
+    let wrong: [&[u8]; 12] = [
+        // No attribute, a key without a value, and a value that does not end.
+        b"",
+        b"a\0",
+        b"a\0b",
+        // No bytes in the key, and a byte that no key has.
+        b"\0b\0",
+        b"a b\0b\0",
+        b"a/b\0b\0",
+        // A control byte in the value, and the last one of ASCII.
+        b"a\0\x1f\0",
+        b"a\0\x7f\0",
+        // Keys that are equal, that fall, and of which the second begins the first.
+        b"a\0b\0a\0c\0",
+        b"b\0b\0a\0c\0",
+        b"ab\0b\0a\0c\0",
+        // A zero byte too many.
+        b"a\0b\0\0",
+    ];
+    for bytes in &wrong {
+        assert_eq!(rt;
+            string_attributes::strings_in(rt.alloc(), bytes).err(),
+            Some(kdb_format::FormatFault::Malformed),
+            "{bytes:?}"
+        );
+    }
+}
+
+#[test]
+fn how_long_keys_and_values_are(rt: HostRuntime) -> Result<(), Fail> {
+    let most = vec![in rt.alloc(); b'a'; 1025]?;
+    assert!(rt; is_string_key(&most[..64]) && !is_string_key(&most[..65]));
+    assert!(rt; is_string_key(b"A") && !is_string_key(b""));
+    assert!(rt; is_string_value(&most[..1024]) && !is_string_value(&most));
+    assert!(rt; is_string_value(b"") && is_string_value(b" ~\x80\xff"));
+    Ok(())
+}
+
+// So many attributes, with the keys aa, ab and so on.
+fn many(rt: &HostRuntime, count: u8) -> Result<Vec<u8>, Fail> {
+    let mut out = Vec::new(rt.alloc());
+    for i in 0..count {
+        let second = (b'a').wrapping_add(i);
+        out.extend_from_slice(&[b'a', second, 0, 0])?;
+    }
+    Ok(out)
+}
+
+#[test]
+fn at_most_sixteen_attributes(rt: HostRuntime) -> Result<(), Fail> {
+    let most = many(&rt, 16)?;
+    assert!(rt; string_attributes::strings_in(rt.alloc(), &most).is_ok());
+    let over = many(&rt, 17)?;
+    assert!(rt; string_attributes::strings_in(rt.alloc(), &over).is_err());
     Ok(())
 }

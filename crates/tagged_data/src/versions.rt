@@ -4,12 +4,12 @@ ghost use Rattle.std.specs.Prelude.{◌≡◌, ◌++◌, ◌<◌, ◌^◌, ℕ, 
 ghost use Rattle.std.specs.List.{All};
 ghost use Rattle.kdb_base.specs.declared.versions.Activation.{Activation};
 ghost use Rattle.kdb_base.specs.declared.versions.AuxKey.{AuxKey};
-ghost use Rattle.kdb_format.specs.Answers.{Reads, ReadsAs};
+ghost use Rattle.kdb_format.specs.Answers.{ReadsAs};
 ghost use Rattle.tagged_data.specs.Answers.{Finds};
 ghost use Rattle.tagged_data.specs.Lists.{content};
 ghost use Rattle.tagged_data.specs.Versions.{activation, activation_at, activation_field, activations_at, activations_text, AreActivations, IsActivation};
 ghost use Rattle.tagged_data.specs.Versions.{aux_key, aux_key_at, aux_key_field, aux_keys_at, aux_keys_text, AreAuxKeys, IsAuxKey};
-ghost use Rattle.tagged_data.specs.Versions.{etype_at, etype_text, wrapped_at, wrapped_text};
+ghost use Rattle.tagged_data.specs.Versions.{wrapped_at, wrapped_text};
 
 use crate::faults::TagFault;
 use crate::kinds::{ACTIVATIONS, AUX_KEYS};
@@ -17,7 +17,8 @@ use crate::lists::{TagList, content};
 use crate::numbers::take_version;
 use crate::rest::read_rest;
 use crate::rising::are_rising;
-use kdb_base::{Activation, Activations, AuxKey, AuxList, Blob, Etype, MemoryOut};
+use kdb_base::{Activation, Activations, AuxKey, AuxList, Blob, MemoryOut};
+use kdb_format::etypes::{push_etype_le, read_etype_le};
 use kdb_format::writing::{push_bytes, push_u16_le, push_u32_le};
 use kdb_format::{Format, FormatFault, Malformed, Reader};
 use std::alloc::Global;
@@ -98,17 +99,6 @@ pub fn activations(alloc: Global, list: &TagList) -> Result<Activations, TagFaul
     }
 }
 
-#[tactic(auto, unfolding(crate::specs::Versions::etype_at))]
-fn read_etype(reader: &mut Reader) -> Result<Etype, Malformed>
-    ensures { Reads result reader.new (etype_at reader.old) }
-{
-    let number = reader.u16_le()?;
-    match Etype::from_number(number) {
-        Some(etype) => Ok(etype),
-        None => Err(Malformed),
-    }
-}
-
 #[tactic(auto, unfolding(crate::specs::Versions::wrapped_at))]
 fn read_wrapped<'a>(reader: &mut Reader<'a>) -> Result<&'a [u8], Malformed>
     ensures { ReadsAs (λ bytes. bytes.now) result reader.new (wrapped_at reader.old) }
@@ -134,7 +124,7 @@ impl Format for AuxKeyFormat {
     #[tactic(auto, unfolding(crate::specs::Versions::aux_key_at))]
     fn read(alloc: Global, reader: &mut Reader) -> Result<AuxKey, FormatFault> {
         let version = take_version(reader)?;
-        let etype = read_etype(reader)?;
+        let etype = read_etype_le(reader)?;
         let wrapped = Blob::from_bytes(alloc, read_wrapped(reader)?)?;
         Ok(AuxKey {
             version,
@@ -158,21 +148,13 @@ fn push_wrapped(out: &mut Vec<u8>, bytes: &[u8]) -> Result<(), MemoryOut>
     Ok(())
 }
 
-#[tactic(auto, unfolding(crate::specs::Versions::etype_text))]
-fn push_etype(out: &mut Vec<u8>, etype: Etype) -> Result<(), MemoryOut>
-    ensures { OnOk result (out.new.items ≡ out.old.items ++ etype_text etype) }
-{
-    push_u16_le(out, etype.number())?;
-    Ok(())
-}
-
 #[tactic(auto, unfolding(crate::specs::Versions::aux_key))]
 fn push_aux_key(out: &mut Vec<u8>, value: &AuxKey) -> Result<(), MemoryOut>
     requires { length value.now.wrapped < 2 ^ 16 }
     ensures { OnOk result (out.new.items ≡ out.old.items ++ aux_key value.now) }
 {
     push_u16_le(out, value.version)?;
-    push_etype(out, value.etype)?;
+    push_etype_le(out, value.etype)?;
     push_wrapped(out, value.wrapped.as_slice())?;
     Ok(())
 }

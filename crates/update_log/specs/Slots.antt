@@ -2,8 +2,9 @@
 use Rattle.std.specs.Prelude.{ℕ, ◌+◌, ◌-◌, ◌*◌, ◌%◌, ◌≡◌, ◌≢◌, List, [], take, drop, length, slice_index, Some}
 use Rattle.kdb_base.specs.declared.moments.Point.{Point}
 use Rattle.kdb_format.specs.Readings.{padded}
-use Rattle.princ_record.specs.Entries.{logged_at}
-use Rattle.princ_record.specs.declared.entries.Entry.{Entry}
+use Rattle.princ_rows.specs.Entries.{logged_at}
+use Rattle.princ_rows.specs.declared.entries.Entry.{Entry}
+use Rattle.princ_rows.specs.declared.entries.Logged.{Logged}
 
 -- the slot in which the entry of a serial stands: the log has one slot more than it holds entries
 unfoldable pub slot_of : Point → ℕ → ℕ → ℕ
@@ -22,9 +23,13 @@ pub record IsOpen (block : ℕ) (bytes : List ℕ) : Type 0 where
 abbrev pub IsClosed : ℕ → List ℕ → Type 0
 IsClosed block bytes = IsOpen block bytes → ⊥
 
+-- the entry of a change of no unit
+abbrev pub unplaced : Entry → Logged
+unplaced entry = record { entry = entry; cell = 0 }
+
 -- behind the gate stands the entry, with zeros behind it
 abbrev pub Spells : ℕ → List ℕ → Entry → Type 0
-Spells block bytes entry = padded (block - 1) logged_at (drop 1 bytes) ≡ Some (entry, [])
+Spells block bytes entry = padded (block - 1) logged_at (drop 1 bytes) ≡ Some (unplaced entry, [])
 
 -- The slot is open and spells the entry.
 pub record Stands (block slot : ℕ) (file : List ℕ) (entry : Entry) : Type 0 where

@@ -3,20 +3,20 @@ ghost use Rattle.kdb_base.specs.Causes.{Rose, HasCause};
 ghost use Rattle.kdb_base.specs.declared.outcomes.Halt.TheVariants.{MemoryOut as IsMemoryOut, DiskFault as IsDiskFault};
 ghost use Rattle.kdb_disk.specs.View.{View, IsAfter};
 ghost use Rattle.kdb_disk.specs.Moments.{LeavesOnly, Differs};
-ghost use Rattle.princ_record.specs.declared.entries.Entry.{Entry};
+ghost use Rattle.princ_rows.specs.declared.entries.Entry.{Entry};
 ghost use Rattle.std.specs.VecDeque.{deque_len, deque_capacity};
-ghost use Rattle.princ_record.specs.Entries.{IsOp, logged};
-ghost use Rattle.update_log.specs.Slots.{slot_of, Spells};
+ghost use Rattle.princ_rows.specs.Entries.{IsOp, logged};
+ghost use Rattle.update_log.specs.Slots.{slot_of, Spells, unplaced};
 ghost use Rattle.update_log.specs.Logs.{ComesNext, with_prepared, committed, newest, begun};
 ghost use Rattle.update_log.specs.Moments.{HasLog, HasPrepared, LeavesLog, LeavesEither, ReadsOthers};
 
-use crate::bodies::{copy_entry, write_body};
+use crate::bodies::write_body;
 use crate::slots::place_of;
 use crate::writes::{write_first, write_next};
 use kdb_base::{Halt, MemoryOut, Point};
 use kdb_disk::{Disk, DiskFailed, open_gate};
-use princ_record::laws::entries_have_their_lengths;
-use princ_record::{Entry, Op};
+use princ_rows::laws::entries_have_their_lengths;
+use princ_rows::{Entry, Op, copy_entry};
 use std::alloc::Global;
 use std::collections::VecDeque;
 use std::marker::Model;
@@ -56,7 +56,7 @@ fn marker_of(base: &Point) -> Entry
 }
 
 // What is written for the base marker.
-#[tactic(auto, unfolding(princ_record::specs::Entries::key_of, princ_record::specs::Entries::row_of))]
+#[tactic(auto, unfolding(princ_rows::specs::Entries::key_of, princ_rows::specs::Entries::row_of))]
 fn marker_body(alloc: Global, base: &Point, block: u32) -> Result<Vec<u8>, MemoryOut>
     requires block { (2048 ≤ block) × (block ≤ 10240) }
     ensures long { IfOk result (λ body. length body.items + 1 ≡ block) }
@@ -233,7 +233,7 @@ impl Log {
     fn body_of(&mut self, alloc: Global, entry: &Entry) -> Result<Vec<u8>, MemoryOut>
         requires comes { ComesNext self.old.held entry.now }
         requires fits { IsOp entry.now.op }
-        requires short { length (logged entry.now) ≤ self.old.block - 1 }
+        requires short { length (logged (unplaced entry.now)) ≤ self.old.block - 1 }
         ensures ok { OnOk result (self.new ≡ with_prepared (Some entry.now) self.old) }
         ensures err { OnErr result (self.new ≡ with_prepared None self.old) }
         ensures long { IfOk result (λ body. length body.items + 1 ≡ self.old.block) }
@@ -277,7 +277,7 @@ impl Log {
     ) -> Result<(), Halt>
         requires comes { ComesNext self.old.held entry.now }
         requires fits { IsOp entry.now.op }
-        requires short { length (logged entry.now) ≤ self.old.block - 1 }
+        requires short { length (logged (unplaced entry.now)) ≤ self.old.block - 1 }
         requires log { D.tells → HasLog self.old (D.view disk.old) }
         ensures moments { D.tells → LeavesOnly (D.view disk.old) (D.view disk.new) (LeavesLog self.old (D.view disk.old)) }
         ensures prepared { D.tells → OnOk result (HasPrepared self.new (D.view disk.new)) }

@@ -1,14 +1,15 @@
 ghost use Rattle.std.specs.Prelude.{◌≡◌, ◌≢◌, ◌≤◌, ◌+◌, IfOk, OnOk, None, length};
-ghost use Rattle.princ_record.specs.Entries.{IsOp, logged};
+ghost use Rattle.princ_rows.specs.Entries.{IsOp, logged};
 ghost use Rattle.princ_record.specs.PrintedNames.{IsPrinted};
 ghost use Rattle.update_log.specs.Moments.{HasLog};
+ghost use Rattle.update_log.specs.Slots.{unplaced};
 
 use super::*;
 use kdb_base::{Blob, Fails, Halt, Point, Time};
 use kdb_disk::{Disk, MemoryDisk, Pick};
-use princ_record::laws::entries_have_their_lengths;
 use princ_record::names::is_printed;
-use princ_record::{Entry, Op};
+use princ_rows::laws::entries_have_their_lengths;
+use princ_rows::{Entry, Op};
 use std::alloc::Global;
 use std::test::*;
 
@@ -54,12 +55,12 @@ fn make_on(alloc: Global, disk: &mut MemoryDisk) -> Result<Log, Fail>
 }
 
 // The entry that drops a principal, behind the last one and at its time.
-#[tactic(auto, unfolding(princ_record::specs::Entries::key_of, princ_record::specs::Entries::row_of))]
+#[tactic(auto, unfolding(princ_rows::specs::Entries::key_of, princ_rows::specs::Entries::row_of))]
 fn next_entry(alloc: Global, last: &Point) -> Result<Entry, Fail>
     ensures point { IfOk result (λ e. e.point ≡ record { sno = last.now.sno + 1; time = last.now.time }) }
     ensures change { IfOk result (λ e. e.op ≢ None) }
     ensures fits { IfOk result (λ e. IsOp e.op) }
-    ensures short { IfOk result (λ e. length (logged e) ≤ 2047) }
+    ensures short { IfOk result (λ e. length (logged (unplaced e)) ≤ 2047) }
 {
     entries_have_their_lengths();
     if last.sno == u32::MAX {

@@ -1,5 +1,5 @@
 use Rattle.std.proofs.Common.{subst, sym}
-use Rattle.princ_record.specs.Rows.{AreRows}
+use Rattle.princ_rows.specs.Rows.{AreRows}
 use Rattle.kadm_top.proofs.Making.{no_rows}
 use Rattle.kadm_top.proofs.run.no_rows.Goals as goal
 

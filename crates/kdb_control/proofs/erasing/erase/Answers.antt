@@ -3,6 +3,8 @@ use Rattle.kdb_control.proofs.Steps.{run_on, images_have}
 use Rattle.kdb_control.proofs.Emptied.{erased}
 use Rattle.kdb_control.proofs.erasing.erase.Goals as goal
 
-pub returns-clause-moments : goal.returns-clause-moments
-returns-clause-moments g c tells =
-    erased (run_on (looked (images_have (c.requires tells)) (c.sync.ensures.looks tells)) (c.shut_both.ensures.moments tells)) (c.cut_files.ensures.moments tells)
+pub returns-clause-crash : goal.returns-clause-crash
+returns-clause-crash g c = record {
+  told = λ tells.
+      erased (run_on (looked (images_have (c.requires tells)) (c.sync.ensures.looks tells)) (c.shut_both.ensures.crash.told tells)) (c.cut_files.ensures.crash.told tells);
+}

@@ -1,6 +1,6 @@
 use Rattle.std.proofs.Common.{Ok, subst}
 use Rattle.kdb_disk.specs.Moments.{LeavesOnly}
-use Rattle.princ_record.specs.Rows.{RowLists}
+use Rattle.princ_rows.specs.Rows.{RowLists}
 use Rattle.kdb_store.specs.Places.{Holds}
 use Rattle.kdb_store.specs.Moments.{FindsEither}
 use Rattle.kdb_store.specs.Steps.{next_choice}

@@ -8,4 +8,4 @@ returns-clause-none g c tells = on_ok_weaker c.erase.result nothing_recovers (c.
 
 pub returns-clause-moments : goal.returns-clause-moments
 returns-clause-moments g c tells =
-    erased_all c.args.control.now (subst (λ (n : ℕ). 1 ≤ n) c.image_file.ensures.value c.image_file.ensures.low) (c.requires tells) (c.erase.ensures.moments tells)
+    erased_all c.args.control.now (subst (λ (n : ℕ). 1 ≤ n) c.image_file.ensures.value c.image_file.ensures.low) (c.requires tells) (c.erase.ensures.crash.told tells)

@@ -1,3 +1,5 @@
+use Rattle.std.proofs.Common.{ap}
+use Rattle.kdb_control.specs.Choice.{Choice}
 use Rattle.kdb_store.proofs.Making.{no_image}
 use Rattle.kdb_disk.proofs.Runs.{keeps_then}
 use Rattle.kdb_store.proofs.files.read_opened.Goals as goal
@@ -7,4 +9,4 @@ returns-in-Ok-clause-keeps g c tells = keeps_then (c.read_image.ensures.keeps te
 
 pub returns-in-Err-clause-answer : goal.returns-in-Err-clause-answer
 returns-in-Err-clause-answer g c tells =
-    no_image c.in-Err.stop (g.D.Disk.view c.args.disk.now).seen c.args.control c.image_file-file.result (c.requires tells) c.image_file-file.ensures.value (c.in-Err.ensures.found tells)
+    no_image c.in-Err.stop (g.D.Disk.view c.args.disk.now).seen c.args.control c.control.inside.format c.image_file-file.result (c.requires tells) (ap (λ (x : Choice). x.format) c.control.view_is) c.image_file-file.ensures.value (c.in-Err.ensures.found tells)

@@ -1,7 +1,7 @@
 use Rattle.std.proofs.Common.{◌∙◌, ◌++◌, ap, List, ℕ}
 use Rattle.std.specs.Prelude.{option_map}
 use Rattle.kdb_format.specs.Laws.{whole_again}
-use Rattle.princ_record.specs.Rows.{RowLists}
+use Rattle.princ_rows.specs.Rows.{RowLists}
 use Rattle.kdb_store.specs.Images.{image, image_in}
 use Rattle.kdb_store.specs.Laws.{image_field}
 use Rattle.kdb_store.specs.Leaving.{left}

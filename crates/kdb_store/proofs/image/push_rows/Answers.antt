@@ -2,7 +2,7 @@ use Rattle.std.proofs.Common.{◌+◌, ◌∙◌, ◌++◌, refl, ap, arith, Boo
 use Rattle.std.specs.Prelude.{filter, option_map}
 use Rattle.kdb_format.specs.Spellings.{counted_list}
 use Rattle.policy_rules.specs.Rules.{Rules}
-use Rattle.princ_record.specs.Undoing.{is_left}
+use Rattle.princ_rows.specs.Undoing.{is_left}
 use Rattle.princ_record.specs.declared.princs.Princ.{Princ as Principal}
 use Rattle.kdb_store.specs.Leaving.{left}
 use Rattle.kdb_store.specs.StoredRows.{row}

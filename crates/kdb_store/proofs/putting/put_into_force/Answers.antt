@@ -15,10 +15,10 @@ switch-requires-clause-now g c tells =
 pub returns-clause-moments : goal.returns-clause-moments
 returns-clause-moments g c tells before after found would =
     switched c.args.file (force_of (option_map (λ c. c.now) c.args.now)) before c.args.next.now after c.args.content.now c.requires.image c.requires.low c.requires.spare (c.requires.now tells) found would
-    (c.replace_file.ensures.moments tells) (c.in_ok-replace_file.ensures.ok tells) (c.switch.ensures.moments tells)
+    (c.replace_file.ensures.moments tells) (c.in_ok-replace_file.ensures.ok tells) (c.switch.ensures.crash.told tells)
 
 pub returns-clause-holds : goal.returns-clause-holds
 returns-clause-holds g c tells after would =
     on_ok_weaker c.switch.result
-    (in_force_now c.args.file (force_of (option_map (λ c. c.now) c.args.now)) c.args.next.now after c.args.content.now c.requires.image would (c.replace_file.ensures.moments tells) (c.in_ok-replace_file.ensures.ok tells) (c.switch.ensures.moments tells))
+    (in_force_now c.args.file (force_of (option_map (λ c. c.now) c.args.now)) c.args.next.now after c.args.content.now c.requires.image would (c.replace_file.ensures.moments tells) (c.in_ok-replace_file.ensures.ok tells) (c.switch.ensures.crash.told tells))
     (c.switch.ensures.ok tells)

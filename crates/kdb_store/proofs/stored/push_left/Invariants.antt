@@ -1,7 +1,7 @@
 use Rattle.std.proofs.Common.{◌≡◌, ◌++◌, take}
 use Rattle.std.specs.Prelude.{filter, option_map}
 use Rattle.std.specs.List.{flat_map}
-use Rattle.princ_record.specs.Undoing.{is_left}
+use Rattle.princ_rows.specs.Undoing.{is_left}
 use Rattle.kdb_store.specs.StoredRows.{row}
 use Rattle.kdb_store.proofs.stored.push_left.Given as goal
 

@@ -2,7 +2,7 @@ use Rattle.std.proofs.Common.{◌-◌, ◌+◌, ◌∙◌, ap, Err, List}
 use Rattle.std.proofs.lemmas.Result.{err_from_is_err_and}
 use Rattle.kdb_format.specs.Items.{with_front, items_more, items_refused, items_done}
 use Rattle.kdb_format.specs.Readings.{list_at, checked}
-use Rattle.princ_record.specs.Rows.{RowLists}
+use Rattle.princ_rows.specs.Rows.{RowLists}
 use Rattle.kdb_store.specs.StoredRows.{row_at, stored}
 use Rattle.kdb_store.specs.declared.stored.StoredRow.{StoredRow}
 use Rattle.kdb_store.proofs.Rows.{refused, unparted, parted_all}

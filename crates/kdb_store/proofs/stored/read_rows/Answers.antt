@@ -1,6 +1,6 @@
 use Rattle.std.proofs.Common.{◌∙◌, refl, sym, subst, ap, Some}
 use Rattle.std.proofs.lemmas.Result.{err_from_is_err_and}
-use Rattle.princ_record.specs.Rows.{RowLists, AreRows}
+use Rattle.princ_rows.specs.Rows.{RowLists, AreRows}
 use Rattle.kdb_store.proofs.Rows.{no_count, rows_refused, records_fit, rows_given, no_rows}
 use Rattle.kdb_store.proofs.stored.read_rows.Goals as goal
 

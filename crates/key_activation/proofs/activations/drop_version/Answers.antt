@@ -4,7 +4,7 @@ use Rattle.std.proofs.lemmas.Fn.{filter_same}
 use Rattle.kdb_base.specs.declared.versions.Activation.{Activation}
 use Rattle.key_activation.specs.Activations.{without_activation}
 use Rattle.key_activation.proofs.Edits.{rising_after_drop}
-use Rattle.key_activation.proofs.Single.{without_gone, without_others}
+use Rattle.key_activation.proofs.Single.{numbered_without, without_gone, without_others}
 use Rattle.key_activation.proofs.activations.drop_version.Goals as goal
 
 pub from_vec-requires : goal.from_vec-requires
@@ -27,3 +27,6 @@ returns-clause-gone c = rw (kept c) (without_gone c.args.version c.args.list.now
 
 pub returns-clause-others : goal.returns-clause-others
 returns-clause-others c = λ v other. rw (kept c) (without_others c.args.version c.args.list.now v other)
+
+pub returns-clause-numbered : goal.returns-clause-numbered
+returns-clause-numbered c = λ h. rw (kept c) (numbered_without c.args.version c.args.list.now h)

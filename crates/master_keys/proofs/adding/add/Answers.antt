@@ -2,6 +2,7 @@ use Rattle.std.proofs.Common.{◌+◌, ◌∙◌, ap, arith, length, map, sym, s
 use Rattle.kdb_base.specs.Versions.{AreRising}
 use Rattle.kdb_base.specs.declared.versions.AuxKey.{AuxKey}
 use Rattle.master_keys.proofs.Added.{added_rising, aux_versions, chain_is, chain_length, masters_are, old_types, record_is}
+use Rattle.master_keys.proofs.AddedSpelled.{added_spelled}
 use Rattle.master_keys.proofs.Live.{last_is_named}
 use Rattle.master_keys.proofs.adding.add.Goals as goal
 
@@ -50,3 +51,10 @@ returns-clause-chain c =
     chain_is c.args.entry.now c.args.masters.now c.args.key.now c.args.random.now c.requires.chain c.as_slice-items.result.now c.in_ok-keys.keys.items c.as_slice-older.result.now c.in_ok-aux.aux.items c.from_vec.result
     c.as_slice-items.ensures c.as_slice-older.ensures.value c.in_ok-keys.ensures.keys c.in_ok-aux.ensures.keys c.from_vec.ensures c.in_ok-keys.ensures.holds c.in_ok-aux.ensures.are in
     rw (returns-clause-entry c, returns-clause-masters c) chain
+
+pub returns-clause-spelled : goal.returns-clause-spelled
+returns-clause-spelled c f =
+    let chain =
+    chain_is c.args.entry.now c.args.masters.now c.args.key.now c.args.random.now c.requires.chain c.as_slice-items.result.now c.in_ok-keys.keys.items c.as_slice-older.result.now c.in_ok-aux.aux.items c.from_vec.result
+    c.as_slice-items.ensures c.as_slice-older.ensures.value c.in_ok-keys.ensures.keys c.in_ok-aux.ensures.keys c.from_vec.ensures c.in_ok-keys.ensures.holds c.in_ok-aux.ensures.are in
+    rw (returns-clause-entry c) (added_spelled c.args.entry.now c.args.masters.now c.args.key.now c.args.random.now c.requires.chain f c.requires.greatest c.requires.few chain)

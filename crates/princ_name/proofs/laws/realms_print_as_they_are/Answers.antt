@@ -1,4 +1,4 @@
-use Rattle.princ_name.specs.RealmNames.{prints_in, is_name_in}
+use Rattle.princ_name.specs.RealmLaws.{prints_in, is_name_in}
 use Rattle.princ_name.proofs.laws.realms_print_as_they_are.Goals as goal
 
 pub returns-clause-prints : goal.returns-clause-prints

@@ -1,5 +1,5 @@
 -- The loop begins at the word, and a fault of a byte is the word's.
-use Rattle.std.proofs.Common.{◌≡◌, ◌+◌, false, [], ◌∷◌, Err, refl, sym, ap, ◌∙◌, drop}
+use Rattle.std.proofs.Common.{◌≡◌, ◌+◌, true, [], ◌∷◌, Err, refl, sym, ap, ◌∙◌, drop}
 use Rattle.std.proofs.lemmas.List.{drop_more}
 use Rattle.princ_name.specs.Reading.{Said, texts_with, said_texts}
 use Rattle.princ_name.specs.Faults.{first_fault}
@@ -9,7 +9,7 @@ use Rattle.princ_name.specs.declared.faults.NameFault.TheVariants.{BadName}
 use Rattle.princ_name.proofs.Takes.{joined-none}
 use Rattle.princ_name.proofs.reading.read_word.Goals as goal
 
-texts-none : (said : Said) → texts_with [] [] false said ≡ said_texts said
+texts-none : (said : Said) → texts_with [] [] true said ≡ said_texts said
 unfolding texts_with
 texts-none said = ap (λ (p : Part). p ∷ said.others) (joined-none said.first)
 
@@ -18,11 +18,11 @@ unfolding first_fault
 loop-at-init c =
     let texts = c.new-reading.ensures.texts in
     let text = c.new-reading.ensures.text in
-    let wild = c.new-reading.ensures.wild in
+    let bare = c.new-reading.ensures.bare in
     let behind = c.new-reading.ensures.behind_slash in
     let mark = c.new-reading.ensures.realm_at in
     record {
-      texts = rw (texts, text, wild, behind, mark) (texts-none _);
+      texts = rw (texts, text, bare, behind, mark) (texts-none _);
       mark = rw (behind, mark) refl;
       fault = rw (behind, mark) refl;
     }

@@ -17,6 +17,7 @@ returns c =
       c.policy_len.ensures.value,
       c.pw_text_len.ensures.value,
       c.chain_len.ensures.value,
+      c.strings_item_len.ensures.value,
       keys,
       sets,
     )

@@ -4,7 +4,7 @@ use Rattle.std.proofs.lemmas.Bool.{false≢true}
 use Rattle.std.proofs.lemmas.Bool.Decides.{Decides-eqb}
 use Rattle.std.proofs.lemmas.Slice.Eq.{starts_is}
 use Rattle.kdb_format.specs.Spellings.{zeros}
-use Rattle.stash_file.specs.Stashes.{IsEnd, IsMark}
+use Rattle.stash_file.specs.Keytabs.{IsEnd, IsMark}
 use Rattle.stash_file.proofs.pieces.is_end.Goals as goal
 
 marked : (rest : List ℕ) (r : Bool) → r ≡ pointwise eqb (zeros 4) (take (length (zeros 4)) rest) → r ≡ true → IsMark rest

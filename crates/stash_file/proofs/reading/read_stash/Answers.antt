@@ -1,6 +1,6 @@
 use Rattle.std.proofs.Common.{◌≡◌, ℕ, List, Err, refl, ap}
 use Rattle.stash_file.specs.Answers.{Gives, RefusesAt}
-use Rattle.stash_file.specs.Stashes.{IsStash, IsBadAt}
+use Rattle.stash_file.specs.Stashes.{has_master_key, IsStash, IsBadAt}
 use Rattle.stash_file.specs.declared.faults.StashFault.{StashFault}
 use Rattle.stash_file.specs.declared.faults.StashFault.TheVariants.{BadStash, MemoryOut}
 use Rattle.stash_file.specs.declared.keys.StashKey.{StashKey}
@@ -13,8 +13,8 @@ no_stash text (BadStash place) bad keys f = not_bad text keys place f (bad place
 no_stash text MemoryOut bad keys f = tt
 
 this_place : (text : List ℕ) (fault : StashFault) → ((place : ℕ) → fault ≡ BadStash place → IsBadAt text place)
-    → (place : ℕ) → IsBadAt text place → RefusesAt (Err fault) place
-this_place text (BadStash at) bad place f = one_place text at place (bad at refl) f
+    → (place : ℕ) → IsBadAt text place → RefusesAt {A = List StashKey} (Err fault) place
+this_place text (BadStash at) bad place f = one_place has_master_key text at place (bad at refl) f
 this_place text MemoryOut bad place f = tt
 
 pub returns-in-Ok-clause-only : goal.returns-in-Ok-clause-only

@@ -1,5 +1,5 @@
 use Rattle.std.proofs.Common.{sym, subst}
-use Rattle.princ_record.specs.Rows.{AreRows}
+use Rattle.princ_rows.specs.Rows.{AreRows}
 use Rattle.dump_text.proofs.Orders.{no_rows}
 use Rattle.dump_text.proofs.progress.Progress.new.Goals as goal
 

@@ -1,6 +1,6 @@
 use Rattle.std.proofs.Common.{◌≡◌, ◌++◌, subst}
 use Rattle.std.specs.Prelude.{OnOk}
-use Rattle.princ_record.specs.Rows.{RowLists}
+use Rattle.princ_rows.specs.Rows.{RowLists}
 use Rattle.kdb_store.specs.Images.{image}
 use Rattle.kdb_store.proofs.Rows.{left_all}
 use Rattle.kdb_store.proofs.image.ImageFormatFormat.write.Goals as goal

@@ -21,9 +21,9 @@ returns-then-byte-eq64-clause-taken c = takes-at c.args.at c.args.byte c.args.se
   was = c.requires.clear;
   is = c.requires.clear;
   none = none_is _ (sym c.is_some.ensures ∙ c.if-is_some.false);
-  texts = c.in_ok-push.ensures.items ∙ ap (λ (t : List ℕ). c.args.self.now.texts.items ++ (record { text = t; wild = c.args.self.now.wild }) ∷ []) (c.from_vec.ensures ∙ ap (λ v. v.items) c.replace-text.ensures.value);
+  texts = c.in_ok-push.ensures.items ∙ ap (λ (t : List ℕ). c.args.self.now.texts.items ++ (record { text = t; bare = c.args.self.now.bare }) ∷ []) (c.from_vec.ensures ∙ ap (λ v. v.items) c.replace-text.ensures.value);
   text = ap (λ v. v.items) c.replace-text.ensures.after ∙ c.new.ensures.items;
-  wild = refl;
+  bare = refl;
 }) refl
 
 pub returns-else-byte-eq64-clause-taken : goal.returns-else-byte-eq64-clause-taken
@@ -31,7 +31,7 @@ returns-else-byte-eq64-clause-taken c = takes-between c.args.at c.args.byte c.ar
   was = c.requires.clear;
   is = c.requires.clear;
   none = none_is _ (sym c.is_some.ensures ∙ c.if-is_some.false);
-  texts = c.in_ok-push.ensures.items ∙ ap (λ (t : List ℕ). c.args.self.now.texts.items ++ (record { text = t; wild = c.args.self.now.wild }) ∷ []) (c.from_vec.ensures ∙ ap (λ v. v.items) c.replace-text.ensures.value);
+  texts = c.in_ok-push.ensures.items ∙ ap (λ (t : List ℕ). c.args.self.now.texts.items ++ (record { text = t; bare = c.args.self.now.bare }) ∷ []) (c.from_vec.ensures ∙ ap (λ v. v.items) c.replace-text.ensures.value);
   text = ap (λ v. v.items) c.replace-text.ensures.after ∙ c.new.ensures.items;
-  wild = refl;
+  bare = refl;
 }) (none_is _ (sym c.is_some.ensures ∙ c.if-is_some.false))

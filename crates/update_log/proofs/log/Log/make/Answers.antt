@@ -3,7 +3,7 @@ use Rattle.kdb_disk.proofs.Differing.{started_differs}
 use Rattle.kdb_disk.proofs.Runs.{started}
 use Rattle.kdb_disk.specs.Moments.{Differs}
 use Rattle.kdb_disk.specs.View.{IsAfter}
-use Rattle.princ_record.specs.declared.entries.Entry.{Entry}
+use Rattle.princ_rows.specs.declared.entries.Entry.{Entry}
 use Rattle.update_log.specs.Moments.{IsMarker}
 use Rattle.update_log.proofs.log.Log.make.Goals as goal
 

@@ -1,0 +1,65 @@
+ghost use Rattle.std.specs.Prelude.{◌≡◌, ◌≤◌, ◌⊎◌, ◌||◌, codes, is_some, map};
+ghost use Rattle.std.specs.Str.{bytes_eq};
+ghost use Rattle.kdb_base.specs.Causes.{Rose};
+ghost use Rattle.kdb_ports.specs.Told.{after_told};
+ghost use Rattle.kadm_top.specs.Parts.{SaidPart};
+ghost use Rattle.kadm_top.specs.Words.{is_alone};
+
+use crate::replies::write_whole;
+use crate::words::is_word;
+use kdb_base::Status;
+use kdb_ports::Sink;
+
+/// The answer to `--help`.
+pub const USAGE: &[u8] = b"\
+kdb_tool keeps the principal database of the folder that it is started in.
+usage:
+  kdb_tool create REALM [--]    makes a database of this realm
+  kdb_tool admin [--]           answers the lines of standard input
+  kdb_tool destroy [-f] [--]    ends the database; -f has no effect
+  kdb_tool --help               prints this
+  kdb_tool --version            prints the version
+docs/COMMANDS.md describes the lines, the replies and the status.
+";
+
+/// The answer to `--version`.
+pub const VERSION: &[u8] = b"kdb_tool 0.1.0\n";
+
+/// What a word asks for that stands alone.
+fn text_for(word: &[u8]) -> Option<&'static [u8]>
+    ensures { is_some result ≡ (bytes_eq word.now (codes "--help") || bytes_eq word.now (codes "--version")) }
+{
+    if is_word(word, b"--help") {
+        return Some(USAGE);
+    }
+    if is_word(word, b"--version") {
+        return Some(VERSION);
+    }
+    None
+}
+
+/// The text that is asked for where the words are `--help` or `--version` and no other, for which no
+/// file is wanted.
+#[tactic(auto, unfolding(crate::specs::Words::is_alone))]
+pub fn text_alone(words: &[Vec<u8>]) -> Option<&'static [u8]>
+    ensures { is_some result ≡ is_alone (map (λ word. word.items) words.now) }
+{
+    match words {
+        [word] => text_for(word.as_slice()),
+        _ => None,
+    }
+}
+
+/// Writes a text, and answers the status of a run that does no more.
+pub fn say_text<K: Sink>(sink: &mut K, text: &[u8]) -> Status
+    ensures whole { result ≡ Status.Done → K.taken sink.new ≡ after_told (K.taken sink.old) text.now }
+    ensures part { result ≡ Status.WriteFault → SaidPart text.now (K.taken sink.old) (K.taken sink.new) }
+    ensures either { (result ≡ Status.Done) ⊎ (result ≡ Status.WriteFault) }
+    ensures later { K.faults sink.old ≤ K.faults sink.new }
+    ensures cause { result ≡ Status.WriteFault → Rose (K.faults sink.old) (K.faults sink.new) }
+{
+    match write_whole(sink, text) {
+        Ok(()) => Status::Done,
+        Err(_) => Status::WriteFault,
+    }
+}

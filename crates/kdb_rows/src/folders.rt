@@ -1,0 +1,293 @@
+//! Runs over a real folder, and what stands in it afterwards.
+ghost use Rattle.std.specs.Prelude.{◌<◌};
+
+use crate::rim::Still;
+use kadm_top::run_local;
+use kdb_base::Status;
+use kdb_disk::folder::NAMES;
+use kdb_disk::{Disk, DiskFailed, FILES, FileReader, Folder};
+use kdb_ports::{ReaderSource, SystemClock, WriterSink, ZeroEntropy};
+use std::alloc::Global;
+use std::fs;
+use std::fs::{File, Permissions};
+use std::os::unix::fs::{MetadataExt, PermissionsExt, symlink};
+use std::rt::Files;
+use std::test::Fail;
+use std::time::Duration;
+
+/// A new folder under the one for temporary files.
+fn new_folder(rt: &HostRuntime) -> Result<String, Fail> {
+    let alloc = rt.alloc();
+    let place = std::env::temp_dir(rt)?;
+    for number in 0..10_000 {
+        let path = format!(in alloc; "{}/kdb_rows-{number}", place.as_str())?;
+        if fs::create_dir(rt, path.as_str()).is_ok() {
+            return Ok(path);
+        }
+    }
+    Err(Fail::from(DiskFailed))
+}
+
+/// The path of a file of a folder.
+fn path_of(alloc: Global, folder: &str, name: &str) -> Result<String, Fail> {
+    Ok(format!(in alloc; "{folder}/{name}")?)
+}
+
+/// How many of a database's files are in a folder.
+fn count_files(rt: &HostRuntime, folder: &str) -> Result<usize, Fail> {
+    let mut count = 0;
+    for name in NAMES {
+        let path = path_of(rt.alloc(), folder, name)?;
+        if fs::exists(rt, path.as_str())? && count < 7 {
+            count += 1;
+        }
+    }
+    Ok(count)
+}
+
+/// The bits of a file by which anybody but its owner may read or write it, or anybody run it.
+fn wide_bits(rt: &HostRuntime, folder: &str, name: &str) -> Result<u32, Fail> {
+    let path = path_of(rt.alloc(), folder, name)?;
+    Ok(fs::metadata(rt, path.as_str())?.mode() & 0o7177)
+}
+
+/// A run over a folder: its status, and what it wrote. The words are separated by spaces.
+fn run_in(
+    rt: &HostRuntime,
+    folder: &str,
+    words: &str,
+    input: &[u8],
+) -> Result<(Status, Vec<u8>), Fail> {
+    let alloc = rt.alloc();
+    let mut list = Vec::new(alloc);
+    for word in words.split(' ') {
+        list.push(word.as_bytes().to_vec(alloc)?)?;
+    }
+    let mut source = ReaderSource::new(input);
+    let mut sink = WriterSink::new(Vec::new(alloc));
+    let mut disk = Folder::new(rt, alloc, folder);
+    let since_1970 = Some(Duration::new(1_700_000_000, 123_456_789));
+    let mut clock = SystemClock::new(Still { since_1970 });
+    let status = run_local(
+        alloc,
+        &list,
+        &mut source,
+        &mut sink,
+        &mut disk,
+        &mut clock,
+        &mut ZeroEntropy,
+    );
+    Ok((status, sink.into_writer()))
+}
+
+/// Runs one after another in a folder: words, input, status and replies.
+const RUNS: [(&str, &[u8], Status, &[u8]); 10] = [
+    (
+        "admin",
+        b"addprinc -nokey a\n",
+        Status::Refused,
+        b"err 20 NotADatabase\n",
+    ),
+    ("destroy", b"", Status::Refused, b"err 20 NotADatabase\n"),
+    ("frob", b"", Status::Refused, b"err 1 BadLine\n"),
+    (
+        "create EXAMPLE_ORG",
+        b"",
+        Status::Refused,
+        b"err 13 BadValue realm\n",
+    ),
+    (
+        "create EXAMPLE.ORG",
+        b"",
+        Status::Done,
+        b"ok 1 1700000000.123456\n",
+    ),
+    (
+        "admin",
+        b"addprinc -nokey a\naddprinc -nokey a\n",
+        Status::Refused,
+        b"ok 2 1700000000.123456\nerr 3 Duplicate\n",
+    ),
+    (
+        "create EXAMPLE.ORG",
+        b"",
+        Status::Refused,
+        b"err 21 AlreadyThere\n",
+    ),
+    (
+        "admin",
+        b"delprinc a\nlistprincs\n",
+        Status::Done,
+        b"ok 3 1700000000.123456\nok\n",
+    ),
+    ("destroy", b"", Status::Done, b"ok\n"),
+    (
+        "admin",
+        b"listprincs\n",
+        Status::Refused,
+        b"err 20 NotADatabase\n",
+    ),
+];
+
+#[test]
+fn a_database_in_a_folder(rt: HostRuntime) -> Result<(), Fail> {
+    let folder = new_folder(&rt)?;
+    let mut number = 0;
+    for (words, input, status, replies) in RUNS {
+        let (ended, written) = run_in(&rt, folder.as_str(), words, input)?;
+        assert_eq!(rt; ended, status, "{words}");
+        assert_eq!(rt; written.as_slice(), replies);
+        number = if number < 20 { number + 1 } else { number };
+        // The first four make no file.
+        let files = count_files(&rt, folder.as_str())?;
+        assert!(rt;
+            (number <= 4) == (files == 0),
+            "{files} files after {words}"
+        );
+    }
+    assert_eq!(rt; wide_bits(&rt, folder.as_str(), "control")?, 0);
+    assert_eq!(rt; wide_bits(&rt, folder.as_str(), "image.0")?, 0);
+    fs::remove_dir_all(&rt, folder.as_str())?;
+    Ok(())
+}
+
+/// What each file is to hold, by its number: as many dots as the number and one more, and its own word.
+const CONTENTS: [&[u8]; 7] = [
+    b".zero",
+    b"..one",
+    b"...two",
+    b"....three",
+    b".....four",
+    b"......five",
+    b".......six",
+];
+
+/// Writes the dots of a file, and then its word behind them.
+fn write_both<R: Files<File = File>>(
+    disk: &mut Folder<'_, R>,
+    file: u8,
+    content: &[u8],
+) -> Result<(), Fail>
+    requires { file < 7 }
+{
+    let at = file as usize + 1;
+    if content.len() >= at {
+        let (dots, word) = content.split_at(at);
+        disk.write_at(file, 0, dots)?;
+        disk.write_at(file, at as u64, word)?;
+        disk.sync(file)?;
+    }
+    Ok(())
+}
+
+#[test]
+fn each_file_of_a_folder_has_its_own_bytes(rt: HostRuntime) -> Result<(), Fail> {
+    let alloc = rt.alloc();
+    let folder = new_folder(&rt)?;
+    let mut disk = Folder::new(&rt, alloc, folder.as_str());
+    for file in 0..FILES {
+        write_both(&mut disk, file, CONTENTS[file as usize])?;
+    }
+    // From outside, by name.
+    for (name, content) in NAMES.into_iter().zip(CONTENTS) {
+        let path = path_of(alloc, folder.as_str(), name)?;
+        assert_eq!(rt; fs::read(&rt, path.as_str())?.as_slice(), content);
+        assert_eq!(rt; wide_bits(&rt, folder.as_str(), name)?, 0);
+    }
+    drop(disk);
+    // And by another opening.
+    let mut disk = Folder::new(&rt, alloc, folder.as_str());
+    for file in 0..FILES {
+        let mut reader = FileReader::open(alloc, &mut disk, file, 0)?;
+        reader.fill(&mut disk, 20)?;
+        assert_eq!(rt; reader.held(), CONTENTS[file as usize]);
+    }
+    fs::remove_dir_all(&rt, folder.as_str())?;
+    Ok(())
+}
+
+#[test]
+fn a_missing_file_stays_missing(rt: HostRuntime) -> Result<(), Fail> {
+    let alloc = rt.alloc();
+    let folder = new_folder(&rt)?;
+    let mut disk = Folder::new(&rt, alloc, folder.as_str());
+    for file in 0..FILES {
+        assert_eq!(rt; disk.length(file), Ok(0));
+        assert_eq!(rt; disk.read(file, 0, &mut [0; 3]), Ok(0));
+        assert_eq!(rt; disk.cut(file, 0), Ok(()));
+        assert_eq!(rt; disk.write_at(file, 0, b""), Ok(()));
+        assert_eq!(rt; disk.sync(file), Ok(()));
+    }
+    assert_eq!(rt; disk.cut(3, 1), Err(DiskFailed));
+    assert_eq!(rt; count_files(&rt, folder.as_str())?, 0);
+    // The lock is there though there is no file.
+    let mut second = Folder::new(&rt, alloc, folder.as_str());
+    assert_eq!(rt; second.length(0), Err(DiskFailed));
+    fs::remove_dir_all(&rt, folder.as_str())?;
+    Ok(())
+}
+
+#[test]
+fn a_file_that_others_may_read_is_closed_to_them(rt: HostRuntime) -> Result<(), Fail> {
+    let alloc = rt.alloc();
+    let folder = new_folder(&rt)?;
+    let path = path_of(alloc, folder.as_str(), "stash.1")?;
+    fs::write(&rt, path.as_str(), b"old")?;
+    fs::set_permissions(&rt, path.as_str(), Permissions::from_mode(0o666))?;
+    let mut disk = Folder::new(&rt, alloc, folder.as_str());
+    assert_eq!(rt; disk.length(6), Ok(3));
+    disk.write_at(6, 3, b"new")?;
+    assert_eq!(rt; wide_bits(&rt, folder.as_str(), "stash.1")?, 0);
+    assert_eq!(rt;
+        fs::read(&rt, path.as_str())?.as_slice(),
+        b"oldnew".as_slice()
+    );
+    fs::remove_dir_all(&rt, folder.as_str())?;
+    Ok(())
+}
+
+#[test]
+fn a_link_is_no_file(rt: HostRuntime) -> Result<(), Fail> {
+    let alloc = rt.alloc();
+    let folder = new_folder(&rt)?;
+    let path = path_of(alloc, folder.as_str(), "image.1")?;
+    let other = path_of(alloc, folder.as_str(), "other")?;
+    symlink(&rt, other.as_str(), path.as_str())?;
+    let (status, replies) = run_in(&rt, folder.as_str(), "create EXAMPLE.ORG", b"")?;
+    assert_eq!(rt; status, Status::DiskFault);
+    assert_eq!(rt; replies.as_slice(), b"".as_slice());
+    assert!(rt; !fs::exists(&rt, other.as_str())?);
+    fs::remove_dir_all(&rt, folder.as_str())?;
+    Ok(())
+}
+
+/// Writes into a file and syncs it, twice, where another file takes its name meanwhile.
+fn write_twice<R: Files<File = File>>(
+    rt: &R,
+    disk: &mut Folder<'_, R>,
+    path: &str,
+) -> Result<(), Fail> {
+    disk.write_at(1, 0, b"abc")?;
+    disk.sync(1)?;
+    fs::remove_file(rt, path)?;
+    fs::write(rt, path, b"xyz")?;
+    disk.write_at(1, 3, b"def")?;
+    Ok(())
+}
+
+#[test]
+fn after_a_failed_sync_every_call_fails(rt: HostRuntime) -> Result<(), Fail> {
+    let alloc = rt.alloc();
+    let folder = new_folder(&rt)?;
+    let path = path_of(alloc, folder.as_str(), "image.0")?;
+    let mut disk = Folder::new(&rt, alloc, folder.as_str());
+    write_twice(&rt, &mut disk, path.as_str())?;
+    assert_eq!(rt; disk.sync(1), Err(DiskFailed));
+    assert_eq!(rt; disk.sync(2), Err(DiskFailed));
+    assert_eq!(rt; disk.length(1), Err(DiskFailed));
+    assert_eq!(rt; disk.read(1, 0, &mut [0; 3]), Err(DiskFailed));
+    assert_eq!(rt; disk.write_at(1, 0, b"abc"), Err(DiskFailed));
+    assert_eq!(rt; disk.cut(2, 0), Err(DiskFailed));
+    fs::remove_dir_all(&rt, folder.as_str())?;
+    Ok(())
+}

@@ -1,0 +1,5 @@
+pub mod Entries
+pub mod Rows
+pub mod Effects
+pub mod Undoing
+pub mod Replies

@@ -1,0 +1,60 @@
+//! Copies of changes and of entries. Only want of memory can refuse one.
+
+ghost use Rattle.std.specs.Prelude.{◌≡◌, IfOk};
+
+use crate::entries::{Entry, Op};
+use kdb_base::{Blob, MemoryOut};
+use princ_record::{copy, copy_policy};
+use std::alloc::Global;
+
+fn copy_blob(alloc: Global, bytes: &Blob) -> Result<Blob, MemoryOut>
+    ensures { IfOk result (λ x. x ≡ bytes.now) }
+{
+    Blob::from_bytes(alloc, bytes.as_slice())
+}
+
+/// The same change.
+pub fn copy_op(alloc: Global, op: &Op) -> Result<Op, MemoryOut>
+    ensures { IfOk result (λ x. x ≡ op.now) }
+{
+    match op {
+        Op::PutPrinc(princ) => {
+            let princ = copy(alloc, princ)?;
+            Ok(Op::PutPrinc(princ))
+        }
+        Op::DropPrinc(name) => {
+            let name = copy_blob(alloc, name)?;
+            Ok(Op::DropPrinc(name))
+        }
+        Op::Rename(old, princ) => {
+            let old = copy_blob(alloc, old)?;
+            let princ = copy(alloc, princ)?;
+            Ok(Op::Rename(old, princ))
+        }
+        Op::PutPolicy(policy) => {
+            let policy = copy_policy(alloc, policy)?;
+            Ok(Op::PutPolicy(policy))
+        }
+        Op::DropPolicy(name) => {
+            let name = copy_blob(alloc, name)?;
+            Ok(Op::DropPolicy(name))
+        }
+    }
+}
+
+/// The same entry.
+pub fn copy_entry(alloc: Global, entry: &Entry) -> Result<Entry, MemoryOut>
+    ensures { IfOk result (λ x. x ≡ entry.now) }
+{
+    let point = entry.point;
+    match &entry.op {
+        Some(op) => {
+            let op = copy_op(alloc, op)?;
+            Ok(Entry {
+                point,
+                op: Some(op),
+            })
+        }
+        None => Ok(Entry { point, op: None }),
+    }
+}
