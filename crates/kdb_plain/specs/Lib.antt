@@ -1,0 +1,7 @@
+pub mod Heads
+pub mod Keys
+pub mod Lengths
+pub mod Lists
+pub mod States
+pub mod Strings
+pub mod Versions
