@@ -1,5 +1,5 @@
 -- What a search by key finds among records in the order of their keys.
-use Rattle.std.proofs.Common.{◌≡◌, ◌≢◌, ℕ, zero, suc, ◌<◌, Bool, true, false, List, [], ◌∷◌, length, map, get_or, Option, Some, None, refl, sym, ap, subst, ◌∙◌, arith}
+use Rattle.std.proofs.Common.{◌≡◌, ◌≢◌, ℕ, zero, suc, ◌<◌, Bool, true, false, List, [], ◌∷◌, length, map, get_or, Option, Some, None, refl, sym, ap, ◌∙◌, arith}
 use Rattle.std.specs.Prelude.{Contains, find, IfSome, option_map, ◌||◌}
 use Rattle.std.specs.List.{All, AllByRecursion, list_any}
 use Rattle.std.specs.List.Sorted.{IsStrictlySortedBy}

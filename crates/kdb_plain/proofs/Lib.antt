@@ -5,3 +5,5 @@ pub mod Valid
 pub mod Lasts
 pub mod StringItems
 pub mod Drawn
+pub mod Named
+pub mod Purged

@@ -1,5 +1,5 @@
 -- Sums of numbers that are told in 64 bits.
-use Rattle.std.proofs.Common.{◌≡◌, ℕ, ◌+◌, ◌≤◌, List, [], ◌∷◌, refl, ap, sym, ◌∙◌, arith}
+use Rattle.std.proofs.Common.{◌≡◌, ℕ, ◌+◌, arith}
 use Rattle.std.specs.Prelude.{min}
 use Rattle.kdb_plain.specs.Lengths.{in_64_bits}
 

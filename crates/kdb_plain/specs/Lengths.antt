@@ -1,5 +1,5 @@
 -- How long a plain principal's row is once its keys are wrapped.
-use Rattle.std.specs.Prelude.{ℕ, ◌+◌, ◌-◌, ◌*◌, ◌^◌, List, length, take, min, Option, Some, None}
+use Rattle.std.specs.Prelude.{ℕ, ◌+◌, ◌-◌, ◌*◌, List, length, take, min, Option, Some, None}
 use Rattle.std.specs.List.{last_or, sum_by}
 use Rattle.kdb_base.specs.Key.{Key}
 use Rattle.kdb_base.specs.declared.keys.Etype.{Etype}

@@ -1,15 +1,56 @@
 //! Laws of plain states. They do no work.
 
-ghost use Rattle.std.specs.Prelude.{◌≡◌, ◌≤◌};
+ghost use Rattle.std.specs.Prelude.{◌≡◌, ◌≢◌, ◌+◌, ◌≤◌, ℕ, List, Some, None, true, length};
+ghost use Rattle.kdb_base.specs.Limits.{most_rows};
 ghost use Rattle.kdb_base.specs.Moment.{Moment};
-ghost use Rattle.kdb_plain.specs.States.{IsValid};
+ghost use Rattle.kdb_base.specs.declared.moments.Point.{Point};
+ghost use Rattle.master_keys.specs.Purging.{live_masters};
+ghost use Rattle.master_keys.specs.Versions.{last_version};
+ghost use Rattle.policy_rules.specs.Rules.{Rules};
+ghost use Rattle.princ_record.specs.Policies.{IsPolicy};
+ghost use Rattle.kdb_plain.specs.Changes.{IsOrdinary, drop_policy, drop_princ, put_policy, put_princ};
+ghost use Rattle.kdb_plain.specs.States.{HasItsPolicy, IsListed, IsValid, policy_named, princ_named, users_of};
+ghost use Rattle.kdb_plain.specs.Versions.{dead_versions, serves, serving_masters};
+ghost use Rattle.kdb_plain.specs.declared.princs.PlainPrinc.{PlainPrinc};
 ghost use Rattle.kdb_plain.specs.declared.states.State.{State};
 
 use key_activation::laws::some_version_stays_active;
 
-/// A state that is valid at one time is valid at every later one.
+/// A state that is valid at one time is valid at every later one, whatever its point is.
 pub fn valid_later()
-    ensures { (s : State) (early late : Moment) → early.secs ≤ late.secs → IsValid early s → IsValid late s }
+    ensures later { (s : State) (early late : Moment) → early.secs ≤ late.secs → IsValid early s → IsValid late s }
+    ensures point { (s : State) (time : Moment) (point : Point) → IsValid time s → IsValid time (record s { point = point }) }
 {
     some_version_stays_active();
 }
+
+/// What was put is found by its name, what was dropped is not, and every other name finds what it found before.
+pub fn changes_are_found()
+    ensures put { (q : PlainPrinc) (s : State) → princ_named q.name (put_princ q s).princs ≡ Some q }
+    ensures others { (name : List ℕ) (q : PlainPrinc) (s : State) → name ≢ q.name → princ_named name (put_princ q s).princs ≡ princ_named name s.princs }
+    ensures dropped { (name : List ℕ) (s : State) → princ_named name (drop_princ name s).princs ≡ None }
+    ensures left { (name gone : List ℕ) (s : State) → name ≢ gone → princ_named name (drop_princ gone s).princs ≡ princ_named name s.princs }
+    ensures put_policy { (p : Rules) (s : State) → policy_named p.name (put_policy p s).policies ≡ Some p }
+    ensures other_policies { (name : List ℕ) (p : Rules) (s : State) → name ≢ p.name → policy_named name (put_policy p s).policies ≡ policy_named name s.policies }
+    ensures dropped_policy { (name : List ℕ) (s : State) → policy_named name (drop_policy name s).policies ≡ None }
+    ensures left_policies { (name gone : List ℕ) (s : State) → name ≢ gone → policy_named name (drop_policy gone s).policies ≡ policy_named name s.policies }
+{}
+
+/// A principal other than K/M and kadmin/history may be put into a valid state where its master key and its policy
+/// are there and there is room, and may be dropped.
+pub fn principals_keep_states_valid()
+    ensures put { (time : Moment) (s : State) (q : PlainPrinc) → IsValid time s → IsOrdinary s.realm q.name → IsListed s.masters q.mkvno → HasItsPolicy s.policies q → length (put_princ q s).princs + length s.policies ≤ most_rows → IsValid time (put_princ q s) }
+    ensures drop { (time : Moment) (s : State) (name : List ℕ) → IsValid time s → IsOrdinary s.realm name → IsValid time (drop_princ name s) }
+{}
+
+/// A policy may be put into a valid state where there is room, and dropped where no principal names it.
+pub fn policies_keep_states_valid()
+    ensures put { (time : Moment) (s : State) (p : Rules) → IsValid time s → IsPolicy p → length s.princs + length (put_policy p s).policies ≤ most_rows → IsValid time (put_policy p s) }
+    ensures drop { (time : Moment) (s : State) (name : List ℕ) → IsValid time s → users_of name s.princs ≡ 0 → IsValid time (drop_policy name s) }
+{}
+
+/// The newest master key serves always, and a purge of the versions that do not serve leaves the master keys that do.
+pub fn serving_versions_stay()
+    ensures newest { (s : State) (secs : ℕ) → serves s secs (last_version s.masters) ≡ true }
+    ensures purged { (s : State) (secs : ℕ) → live_masters (dead_versions s secs) s.masters ≡ serving_masters s secs }
+{}

@@ -1,4 +1,4 @@
-use Rattle.std.proofs.Common.{◌≡◌, Option, ap, sym, ◌∙◌}
+use Rattle.std.proofs.Common.{Option, ap, sym, ◌∙◌}
 use Rattle.std.specs.List.{sum_by}
 use Rattle.kdb_base.specs.declared.keys.Etype.{Etype}
 use Rattle.kdb_base.specs.declared.versions.Master.{Master}

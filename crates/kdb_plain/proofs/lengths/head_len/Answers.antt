@@ -1,4 +1,4 @@
-use Rattle.std.proofs.Common.{◌≡◌, ◌+◌, arith, refl, length, ap, ◌∙◌}
+use Rattle.std.proofs.Common.{◌+◌, arith, refl, length, ap, ◌∙◌}
 use Rattle.kdb_plain.specs.Heads.{plain_head}
 use Rattle.kdb_plain.specs.Lengths.{in_64_bits}
 use Rattle.princ_record.specs.Princs.{name_of}

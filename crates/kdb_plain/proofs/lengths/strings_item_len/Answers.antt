@@ -1,4 +1,4 @@
-use Rattle.std.proofs.Common.{◌≡◌, refl, sym, ap, subst, ◌∙◌, List}
+use Rattle.std.proofs.Common.{refl, sym, ap, ◌∙◌, List}
 use Rattle.std.specs.List.{sum_by}
 use Rattle.tagged_data.specs.StringLaws.{string_len}
 use Rattle.tagged_data.specs.declared.string_attributes.StringAttribute.{StringAttribute}

@@ -1,0 +1,33 @@
+-- Changes of a state by one principal or one policy.
+use Rattle.std.specs.Prelude.{ℕ, ◌≢◌, List}
+use Rattle.master_keys.specs.First.{master_name}
+use Rattle.policy_rules.specs.Rules.{Rules}
+use Rattle.princ_rows.specs.Effects.{put_by, drop_by}
+use Rattle.kdb_plain.specs.States.{history_name}
+use Rattle.kdb_plain.specs.declared.princs.PlainPrinc.{PlainPrinc}
+use Rattle.kdb_plain.specs.declared.states.State.{State}
+
+abbrev pub name_of : PlainPrinc → List ℕ
+name_of q = q.name
+
+abbrev pub policy_name : Rules → List ℕ
+policy_name p = p.name
+
+-- the principal stands in its place, and takes that of another with its name
+abbrev pub put_princ : PlainPrinc → State → State
+put_princ q s = record s { princs = put_by name_of q s.princs }
+
+-- no principal has the name
+abbrev pub drop_princ : List ℕ → State → State
+drop_princ name s = record s { princs = drop_by name_of name s.princs }
+
+abbrev pub put_policy : Rules → State → State
+put_policy p s = record s { policies = put_by policy_name p s.policies }
+
+abbrev pub drop_policy : List ℕ → State → State
+drop_policy name s = record s { policies = drop_by policy_name name s.policies }
+
+-- neither K/M nor kadmin/history, which keep the database's own keys
+pub record IsOrdinary (realm name : List ℕ) : Type 0 where
+  pub other_than_master : name ≢ master_name realm
+  pub other_than_history : name ≢ history_name realm
