@@ -1,0 +1,4 @@
+pub mod Cells
+pub mod CellFields
+pub mod Sheets
+pub mod Changes

@@ -1,0 +1,6 @@
+//! A file of cells: a heading, and units of one row each, of which a change writes one.
+#![tactic(auto)]
+
+pub mod units;
+
+pub use units::{StoredRow, clear_unit, fill_unit, read_unit};
