@@ -1,1 +1,3 @@
 pub mod UnitTexts
+pub mod Entries
+pub mod Indexing

@@ -2,3 +2,5 @@ pub mod Cells
 pub mod CellFields
 pub mod Sheets
 pub mod Changes
+pub mod Leads
+pub mod Indexes

@@ -1,6 +1,8 @@
 //! A file of cells: a heading, and units of one row each, of which a change writes one.
 #![tactic(auto)]
 
+pub mod index;
 pub mod units;
 
+pub use index::UnitIndex;
 pub use units::{StoredRow, clear_unit, fill_unit, read_unit};
