@@ -3,7 +3,7 @@ use Rattle.std.proofs.Common.{◌≡◌, ℕ, zero, suc, ◌+◌, ◌-◌, ◌<�
 use Rattle.std.specs.Prelude.{IfOk, option_and_then}
 use Rattle.std.specs.List.{list_all}
 use Rattle.std.proofs.lemmas.Bool.{le-ltb}
-use Rattle.std.proofs.lemmas.List.{append-nil, drop-replicate, take_all, drop-drop, nil_from_length}
+use Rattle.std.proofs.lemmas.List.{append-nil, drop-replicate, take_all, drop_all, drop-drop, nil_from_length}
 use Rattle.std.proofs.lemmas.Option.{same_Some}
 use Rattle.kdb_format.specs.declared.faults.FormatFault.{FormatFault}
 use Rattle.kdb_format.specs.declared.faults.FormatFault.TheVariants as faults
@@ -11,11 +11,11 @@ use Rattle.kdb_format.specs.Answers.{Finds, Refuses}
 use Rattle.kdb_format.specs.Fields.{IsBytes}
 use Rattle.kdb_format.specs.Readings.{padded, known, bytes_at}
 use Rattle.kdb_format.specs.Spellings.{big, counted, zeros, put}
-use Rattle.kdb_format.specs.Lengths.{put_behind, length-zeros}
+use Rattle.kdb_format.specs.Lengths.{put_behind, length-zeros, length-counted}
 use Rattle.kdb_format.specs.Numbers.{length-big}
 use Rattle.kdb_cells.specs.declared.units.StoredRow.{StoredRow}
 use Rattle.kdb_cells.specs.Cells.{Cell, kind_of, row_text, unit_size, IsCell, cell_at, behind_state, cell_text, unit_at, unit_text, front_of, cell_of, unit_with, IsRowText}
-use Rattle.kdb_cells.specs.CellFields.{unit_field, cell_short, length-cell}
+use Rattle.kdb_cells.specs.CellFields.{unit_field, cell_short, length-cell, row_room}
 
 -- ---- reading
 
@@ -121,3 +121,39 @@ free_unit format = by (unit_size format) (cell_short format None tt)
     by : (n : ℕ) → length (big 1 0 ++ []) ≤ n → zeros n ≡ (big 1 0 ++ []) ++ zeros (n - length (big 1 0 ++ []))
     by zero le = absurd (omega (arith, le))
     by (suc n) le = let same : n ≡ suc n - 1 = omega arith in ap (λ (m : ℕ). 0 ∷ zeros m) same
+
+unit_small : (format : ℕ) → unit_size format ≤ 16384
+unfolding unit_size
+unit_small format = by (eqb format 1)
+  where
+    by : (b : Bool) → cond b 8192 16384 ≤ 16384
+    by true = omega arith
+    by false = omega arith
+
+-- a row has room in its unit
+pub row_fits : {format kind : ℕ} {name text : List ℕ} {r : StoredRow} → IsRowText format kind name text r → (length text < 65536) × (3 + length text ≤ unit_size format)
+row_fits {format} {text = text} {r = r} is =
+    let room : 3 + length text ≤ unit_size format = omega (arith, ap (λ (t : List ℕ). length t) is.spelled, row_room format r is.stored) in
+    (omega (arith, room, unit_small format), room)
+
+-- ---- a page, as a vector that was lent as a slice of its own length
+
+pub lent_whole : (len : ℕ) (new old : List ℕ) → len ≡ length old → length new ≡ length old → take len (new ++ drop (length new) old) ≡ new
+lent_whole len new old all same =
+    ap (λ (rest : List ℕ). take len (new ++ rest)) (drop_all (length new) old (omega (arith, same)))
+    ∙ ap (take len) (append-nil new)
+    ∙ take_all len new (omega (arith, all, same))
+
+pub length-unit_with : (n kind : ℕ) (row : List ℕ) → 3 + length row ≤ n → length (unit_with n kind row) ≡ n
+unfolding unit_with
+length-unit_with n kind row room =
+    let z = zeros (n - (3 + length row)) in
+    let front = big 1 kind ++ counted row in
+    omega (arith, length-append front z, length-append (big 1 kind) (counted row), length-big 1 kind, length-counted row, length-zeros (n - (3 + length row)), room)
+
+-- the page of a row is the text of its unit
+pub row_page : {format kind : ℕ} {name text : List ℕ} {r : StoredRow} (page : List ℕ) (n : ℕ) → n ≡ unit_size format → page ≡ unit_with n kind text → IsRowText format kind name text r → page ≡ unit_text format (Some r)
+row_page {kind = kind} {text = text} page n long filled is = filled ∙ ap (λ (m : ℕ). unit_with m kind text) long ∙ row_unit is
+
+pub free_page : (format : ℕ) (page : List ℕ) (n : ℕ) → n ≡ unit_size format → page ≡ zeros n → page ≡ unit_text format None
+free_page format page n long cleared = cleared ∙ ap zeros long ∙ free_unit format

@@ -4,3 +4,4 @@ pub mod Sheets
 pub mod Changes
 pub mod Leads
 pub mod Indexes
+pub mod CellFiles

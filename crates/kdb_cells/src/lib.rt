@@ -1,8 +1,10 @@
 //! A file of cells: a heading, and units of one row each, of which a change writes one.
 #![tactic(auto)]
 
+pub mod cells;
 pub mod index;
 pub mod units;
 
+pub use cells::{Cells, unit_size};
 pub use index::UnitIndex;
 pub use units::{StoredRow, clear_unit, fill_unit, read_unit};
