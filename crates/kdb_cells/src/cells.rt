@@ -101,6 +101,27 @@ impl Cells {
         })
     }
 
+    /// The number of the file.
+    pub fn file(&self) -> u8
+        ensures { result ≡ self.now.file }
+    {
+        self.file
+    }
+
+    /// The file's format.
+    pub fn format(&self) -> u16
+        ensures { result ≡ self.now.format }
+    {
+        self.format
+    }
+
+    /// How many rows there are.
+    pub fn len(&self) -> usize
+        ensures { result ≡ count self.now }
+    {
+        self.index.len()
+    }
+
     /// Gives a unit for the [`Cells::put`] or [`Cells::take_out`] that comes next: the key's own, or
     /// the least free one, or the first one past the file's end. What that call needs of memory is
     /// taken here.

@@ -203,6 +203,13 @@ impl UnitIndex {
         }
     }
 
+    /// How many keys there are.
+    pub fn len(&self) -> usize
+        ensures { result ≡ count self.now }
+    {
+        self.entries.len()
+    }
+
     /// Gives a unit for the change that comes next: the key's own, or the least free one, or the
     /// first one past the file's end. What that change needs of memory is taken here.
     pub fn place(&mut self, key: &[u8]) -> Result<u32, MemoryOut>
