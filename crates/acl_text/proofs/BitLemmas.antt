@@ -1,17 +1,19 @@
 -- Bits that are forced on, and bits that are forced off.
-use Rattle.std.proofs.Common.{◌≡◌, ℕ, ◌/◌, ◌%◌, ◌^◌, ◌<◌, ◌≤◌, min, max, Bool, true, false, Option, Some, None, option_map, List, [], ◌∷◌, ◌⊎◌, inl, inr, sym, ap, ◌∙◌, fold, arith}
+use Rattle.std.proofs.Common.{◌≡◌, ℕ, ◌/◌, ◌%◌, ◌^◌, ◌<◌, ◌≤◌, ◌==◌, ◌&&◌, length, min, max, Bool, true, false, Option, Some, None, option_map, List, [], ◌∷◌, ◌⊎◌, inl, inr, sym, ap, ◌∙◌, fold, arith}
 use Rattle.std.specs.Prelude.{bit_and, bit_or, if◌then◌else◌}
 use Rattle.std.specs.Int.{bit_at, bit_not}
 use Rattle.std.specs.Int.Width.{w32}
-use Rattle.std.specs.Option.{option_and_then}
+use Rattle.std.specs.List.{filter_map}
 use Rattle.std.proofs.lemmas.Bool.{cases_lt}
 use Rattle.std.proofs.Math.Nat.{div-eq_of_lt, pow-le-pow_right}
 use Rattle.std.proofs.lemmas.Nat.Bits.{bit_at-zero, bit_at_and, bit_at_not, bit_at_or, same_from_bits}
-use Rattle.acl_text.specs.Restrictions.{are_single, bits_of, limits_by, limits_in, limits_of, restrictions_in, with_flag}
+use Rattle.acl_text.specs.Restrictions.{are_restrictions, bits_of, limits_among, limits_by, limits_from, limits_in, limits_of, restrictions, with_flag}
 use Rattle.acl_text.specs.declared.limits.Bits.{Bits}
 use Rattle.acl_text.specs.declared.limits.Limits.{Limits}
-use Rattle.acl_text.specs.declared.restrictions.Restriction.{Restriction}
-use Rattle.acl_text.specs.declared.restrictions.Restriction.TheVariants as given
+use Rattle.kadm_options.specs.OptionValues.{flag_of}
+use Rattle.kadm_options.specs.Options.{OptionParts, option_named, options_in}
+use Rattle.kadm_values.specs.declared.flags.FlagChange.{FlagChange}
+use Rattle.kadm_options.specs.declared.options.Given.{Given}
 
 -- no bit is in both
 Apart : ℕ → ℕ → Type 0
@@ -57,17 +59,15 @@ clear_apart set clear bit apart i =
     ∙ ap (λ (n : ℕ). min (min (bit_at set i) (bit_at (bit_not w32 bit) i)) n) (bit_at_or clear bit i)
     ∙ less_apart (bit_at set i) (bit_at clear i) (bit_at bit i) (bit_at (bit_not w32 bit) i) (apart i) (apart_not bit i)
 
-flag_apart : (bits : Bits) (restriction : Restriction) → Apart bits.set bits.clear → Apart (with_flag bits restriction).set (with_flag bits restriction).clear
+changed_apart : (sets : Bool) (bits : Bits) (bit : ℕ) → Apart bits.set bits.clear
+    → Apart (with_flag bits (record { set = sets; bit = bit })).set (with_flag bits (record { set = sets; bit = bit })).clear
 unfolding with_flag
-flag_apart bits (given.Flag true bit) apart = set_apart bits.set bits.clear bit apart
-flag_apart bits (given.Flag false bit) apart = clear_apart bits.set bits.clear bit apart
-flag_apart bits given.ClearPolicy apart = apart
-flag_apart bits (given.Policy name) apart = apart
-flag_apart bits (given.Seconds setting seconds) apart = apart
+changed_apart true bits bit apart = set_apart bits.set bits.clear bit apart
+changed_apart false bits bit apart = clear_apart bits.set bits.clear bit apart
 
-flags_apart : (bits : Bits) (restrictions : List Restriction) → Apart bits.set bits.clear → Apart (fold with_flag bits restrictions).set (fold with_flag bits restrictions).clear
+flags_apart : (bits : Bits) (changes : List FlagChange) → Apart bits.set bits.clear → Apart (fold with_flag bits changes).set (fold with_flag bits changes).clear
 flags_apart bits [] apart = apart
-flags_apart bits (restriction ∷ restrictions) apart = flags_apart (with_flag bits restriction) restrictions (flag_apart bits restriction apart)
+flags_apart bits (change ∷ changes) apart = flags_apart (with_flag bits change) changes (changed_apart change.set bits change.bit apart)
 
 none_apart : Apart 0 0
 unfolding Apart
@@ -77,26 +77,25 @@ apart_is : (a b : ℕ) → Apart a b → bit_and a b ≡ 0
 unfolding Apart
 apart_is a b apart = same_from_bits (bit_and a b) 0 (λ i. bit_at_and a b i ∙ apart i ∙ sym (bit_at-zero i))
 
-limits_apart : (restrictions : List Restriction) → bit_and (limits_of restrictions).set (limits_of restrictions).clear ≡ 0
+limits_apart : (options : List Given) → bit_and (limits_of options).set (limits_of options).clear ≡ 0
 unfolding limits_of bits_of
-limits_apart restrictions = apart_is _ _ (flags_apart (record { set = 0; clear = 0 }) restrictions none_apart)
+limits_apart options = apart_is _ _ (flags_apart (record { set = 0; clear = 0 }) (filter_map flag_of options) none_apart)
 
-single_apart : (b : Bool) (restrictions : List Restriction) (limits : Limits) → (if b then Some (limits_of restrictions) else None) ≡ Some limits
+good_apart : (good : Bool) (options : List Given) (limits : Limits) → (if good then Some (limits_of options) else None) ≡ Some limits
     → bit_and limits.set limits.clear ≡ 0
-single_apart true restrictions limits is =
-    let same : limits_of restrictions ≡ limits = cc in
-    ap (λ (l : Limits). bit_and l.set l.clear) (sym same) ∙ limits_apart restrictions
-single_apart false restrictions limits is = absurd (cc)
+good_apart true options limits is =
+    let same : limits_of options ≡ limits = cc in
+    ap (λ (l : Limits). bit_and l.set l.clear) (sym same) ∙ limits_apart options
+good_apart false options limits is = absurd (cc)
 
-by_apart : (found : Option (List Restriction)) (limits : Limits)
-    → option_and_then (λ restrictions. if are_single restrictions then Some (limits_of restrictions) else None) found ≡ Some limits
-    → bit_and limits.set limits.clear ≡ 0
-by_apart None limits is = absurd (cc)
-by_apart (Some restrictions) limits is = single_apart (are_single restrictions) restrictions limits is
-
-words_apart : (words : List (List ℕ)) (limits : Limits) → limits_by words ≡ Some limits → bit_and limits.set limits.clear ≡ 0
+from_apart : (found : Option OptionParts) (limits : Limits) → limits_from found ≡ Some limits → bit_and limits.set limits.clear ≡ 0
 unfolding limits_by
-words_apart words limits is = by_apart (restrictions_in None words) limits is
+from_apart None limits is = absurd (cc)
+from_apart (Some parts) limits is = good_apart (length parts.rest == 0 && are_restrictions parts.options) parts.options limits is
+
+words_apart : (words : List (List ℕ)) (limits : Limits) → limits_among words ≡ Some limits → bit_and limits.set limits.clear ≡ 0
+unfolding limits_among
+words_apart words limits is = from_apart (options_in (option_named restrictions true) words) limits is
 
 found_apart : (found : Option Limits) (limits : Limits) → option_map (λ l. Some l) found ≡ Some (Some limits) → found ≡ Some limits
 found_apart None limits is = absurd (cc)
@@ -106,4 +105,4 @@ found_apart (Some other) limits is = cc
 pub all_apart : (words : List (List ℕ)) (limits : Limits) → limits_in words ≡ Some (Some limits) → bit_and limits.set limits.clear ≡ 0
 unfolding limits_in
 all_apart [] limits is = absurd (cc)
-all_apart (word ∷ words) limits is = words_apart (word ∷ words) limits (found_apart (limits_by (word ∷ words)) limits is)
+all_apart (word ∷ words) limits is = words_apart (word ∷ words) limits (found_apart (limits_among (word ∷ words)) limits is)

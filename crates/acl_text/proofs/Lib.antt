@@ -1,5 +1,5 @@
 pub mod TextLemmas
 pub mod TargetLemmas
-pub mod RestrictionLemmas
 pub mod RuleLemmas
 pub mod BitLemmas
+pub mod LimitLemmas

@@ -6,6 +6,5 @@ pub mod Rules
 pub mod Decisions
 pub mod Restricting
 pub mod Joining
-pub mod Taking
 pub mod Reading
 pub mod Answers

@@ -7,7 +7,6 @@ pub mod faults;
 pub mod laws;
 mod letters;
 pub mod limits;
-mod restrictions;
 mod rules;
 mod targets;
 #[cfg(test)]

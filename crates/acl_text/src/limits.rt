@@ -2,10 +2,14 @@
 
 ghost use Rattle.std.specs.Prelude.{◌≡◌, IfOk, OnErr, OnOk, is_some, option_map, true, unwrap_or};
 ghost use Rattle.acl_text.specs.Restricting.{counted_from, lesser, names_policy, restricted};
-ghost use Rattle.acl_text.specs.Restrictions.{bits_of, limits_by, limits_of, policy_in, policy_of, seconds_in, seconds_of, with_flag};
+ghost use Rattle.acl_text.specs.Restrictions.{are_restrictions, bits_of, limits_among, limits_by, limits_of, restrictions, with_flag};
 
-use crate::restrictions::{Restriction, Setting, are_single, read_restrictions, same_setting};
-use kdb_base::{Blob, MemoryOut, Time};
+use kadm_options::{
+    Given, Opening, OptionName, Setting, ValueKind, are_single, find_policy, find_seconds,
+    first_bad, flags_among, read_options,
+};
+use kadm_values::FlagChange;
+use kdb_base::{Blob, Field, MemoryOut, Time};
 use std::alloc::Global;
 
 /// The restrictions of a line. No bit is forced both on and off.
@@ -51,130 +55,117 @@ struct Bits {
     clear: u32,
 }
 
+// What a line may have behind its target, beside flags.
+static RESTRICTIONS: [Opening; 6] = [
+    Opening::Alone(OptionName::ClearPolicy),
+    Opening::Value(Setting {
+        option: OptionName::Policy,
+        kind: ValueKind::PolicyName,
+        field: Field::Policy,
+    }),
+    Opening::Value(Setting {
+        option: OptionName::Expire,
+        kind: ValueKind::Duration,
+        field: Field::Expire,
+    }),
+    Opening::Value(Setting {
+        option: OptionName::PwExpire,
+        kind: ValueKind::Duration,
+        field: Field::PwExpire,
+    }),
+    Opening::Value(Setting {
+        option: OptionName::MaxLife,
+        kind: ValueKind::Duration,
+        field: Field::MaxLife,
+    }),
+    Opening::Value(Setting {
+        option: OptionName::MaxRenewLife,
+        kind: ValueKind::Duration,
+        field: Field::MaxRenewLife,
+    }),
+];
+
+#[tactic(auto, unfolding(crate::specs::Restrictions::restrictions))]
+fn known_restrictions() -> &'static [Opening; 6]
+    ensures { result.now ≡ restrictions }
+{
+    &RESTRICTIONS
+}
+
 // The bits with one more flag, which counts for more than those before it.
 #[tactic(auto, unfolding(crate::specs::Restrictions::with_flag))]
-fn with_flag(bits: &Bits, restriction: &Restriction) -> Bits
-    ensures { result ≡ with_flag bits.now restriction.now }
+fn with_flag(bits: &Bits, change: &FlagChange) -> Bits
+    ensures { result ≡ with_flag bits.now change.now }
 {
-    match restriction {
-        Restriction::Flag(true, bit) => Bits {
-            set: bits.set | *bit,
-            clear: bits.clear & !*bit,
-        },
-        Restriction::Flag(false, bit) => Bits {
-            set: bits.set & !*bit,
-            clear: bits.clear | *bit,
-        },
-        Restriction::ClearPolicy => *bits,
-        Restriction::Policy(_) => *bits,
-        Restriction::Seconds(_, _) => *bits,
+    if change.set {
+        Bits {
+            set: bits.set | change.bit,
+            clear: bits.clear & !change.bit,
+        }
+    } else {
+        Bits {
+            set: bits.set & !change.bit,
+            clear: bits.clear | change.bit,
+        }
     }
 }
 
 #[tactic(auto, unfolding(crate::specs::Restrictions::bits_of))]
-fn bits_of(restrictions: &[Restriction]) -> Bits
-    ensures { result ≡ bits_of restrictions.now }
+fn bits_of(changes: &[FlagChange]) -> Bits
+    ensures { result ≡ bits_of changes.now }
 {
     let mut bits = Bits { set: 0, clear: 0 };
-    for restriction in restrictions {
-        let next = with_flag(&bits, restriction);
+    for change in changes {
+        let next = with_flag(&bits, change);
         bits = next;
     }
     bits
 }
 
-fn policy_of(alloc: Global, restriction: &Restriction) -> Result<Option<Option<Blob>>, MemoryOut>
-    ensures { IfOk result (λ policy. policy ≡ policy_of restriction.now) }
-{
-    match restriction {
-        Restriction::Flag(_, _) => Ok(None),
-        Restriction::ClearPolicy => Ok(Some(None)),
-        Restriction::Policy(name) => {
-            let name = Blob::from_bytes(alloc, name.as_slice())?;
-            Ok(Some(Some(name)))
-        }
-        Restriction::Seconds(_, _) => Ok(None),
-    }
-}
-
-// The policy, where one is named or taken away.
-#[tactic(auto, unfolding(crate::specs::Restrictions::policy_in))]
-fn find_policy(
-    alloc: Global,
-    restrictions: &[Restriction],
-) -> Result<Option<Option<Blob>>, MemoryOut>
-    ensures { IfOk result (λ policy. policy ≡ policy_in restrictions.now) }
-{
-    for restriction in restrictions {
-        match policy_of(alloc, restriction)? {
-            Some(policy) => return Ok(Some(policy)),
-            None => {}
-        }
-    }
-    Ok(None)
-}
-
-fn seconds_of(wanted: Setting, restriction: &Restriction) -> Option<u32>
-    ensures { result ≡ seconds_of wanted restriction.now }
-{
-    match restriction {
-        Restriction::Flag(_, _) => None,
-        Restriction::ClearPolicy => None,
-        Restriction::Policy(_) => None,
-        Restriction::Seconds(setting, seconds) => {
-            if same_setting(wanted, *setting) {
-                Some(*seconds)
-            } else {
-                None
-            }
-        }
-    }
-}
-
-// The duration of a setting.
-#[tactic(auto, unfolding(crate::specs::Restrictions::seconds_in))]
-fn find_seconds(setting: Setting, restrictions: &[Restriction]) -> Option<u32>
-    ensures { result ≡ seconds_in setting restrictions.now }
-{
-    for restriction in restrictions {
-        match seconds_of(setting, restriction) {
-            Some(seconds) => return Some(seconds),
-            None => {}
-        }
-    }
-    None
-}
-
 #[tactic(auto, unfolding(crate::specs::Restrictions::limits_of))]
-fn limits_of(alloc: Global, restrictions: &[Restriction]) -> Result<Limits, MemoryOut>
-    ensures { IfOk result (λ limits. limits ≡ limits_of restrictions.now) }
+fn limits_of(alloc: Global, options: &[Given]) -> Result<Limits, MemoryOut>
+    ensures { IfOk result (λ limits. limits ≡ limits_of options.now) }
 {
-    let bits = bits_of(restrictions);
-    let policy = find_policy(alloc, restrictions)?;
+    let changes = flags_among(alloc, options)?;
+    let bits = bits_of(&changes);
+    let policy = find_policy(alloc, options)?;
     Ok(Limits {
         set: bits.set,
         clear: bits.clear,
         policy,
-        expire: find_seconds(Setting::Expire, restrictions),
-        pw_expire: find_seconds(Setting::PwExpire, restrictions),
-        max_life: find_seconds(Setting::MaxLife, restrictions),
-        max_renew: find_seconds(Setting::MaxRenewLife, restrictions),
+        expire: find_seconds(OptionName::Expire, options),
+        pw_expire: find_seconds(OptionName::PwExpire, options),
+        max_life: find_seconds(OptionName::MaxLife, options),
+        max_renew: find_seconds(OptionName::MaxRenewLife, options),
     })
 }
 
-/// The restrictions of at least one word, of which each setting has one at most.
-#[tactic(auto, unfolding(crate::specs::Restrictions::limits_by))]
-pub(crate) fn read_limits(alloc: Global, words: &[Blob]) -> Result<Option<Limits>, MemoryOut>
-    ensures { IfOk result (λ limits. limits ≡ limits_by words.now) }
+// Whether the options are restrictions: each has its value, and each setting stands at most once.
+#[tactic(auto, unfolding(crate::specs::Restrictions::are_restrictions))]
+fn are_restrictions(options: &[Given]) -> bool
+    ensures { result ≡ are_restrictions options.now }
 {
-    match read_restrictions(alloc, words)? {
-        Some(restrictions) => {
-            if !are_single(&restrictions) {
-                return Ok(None);
-            }
-            let limits = limits_of(alloc, &restrictions)?;
-            Ok(Some(limits))
-        }
+    are_single(options) && first_bad(options).is_none()
+}
+
+// What the options put in force, of which no words are left.
+#[tactic(auto, unfolding(crate::specs::Restrictions::limits_by))]
+fn limits_by(alloc: Global, options: &[Given], left: usize) -> Result<Option<Limits>, MemoryOut>
+    ensures { IfOk result (λ limits. limits ≡ limits_by options.now left) }
+{
+    if left != 0 || !are_restrictions(options) {
+        return Ok(None);
+    }
+    let limits = limits_of(alloc, options)?;
+    Ok(Some(limits))
+}
+
+/// The restrictions of at least one word, of which each setting has one at most.
+pub(crate) fn read_limits(alloc: Global, words: &[Blob]) -> Result<Option<Limits>, MemoryOut>
+    ensures { IfOk result (λ limits. limits ≡ limits_among words.now) }
+{
+    match read_options(alloc, known_restrictions(), true, words)? {
+        Some(found) => limits_by(alloc, &found.options, words.len() - found.count),
         None => Ok(None),
     }
 }

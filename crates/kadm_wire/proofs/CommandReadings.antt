@@ -7,7 +7,7 @@ use Rattle.kadm_wire.specs.Lines.{has_name, IsOn, is_glob_word, whole_glob, HasB
 use Rattle.kadm_wire.specs.Values.{SpellsFields}
 use Rattle.kadm_wire.specs.declared.lines.Reading.{Reading}
 use Rattle.kadm_wire.specs.declared.lines.Reading.TheVariants.{Skipped, Says, Refuses}
-use Rattle.kadm_wire.specs.declared.options.Given.{Given}
+use Rattle.kadm_options.specs.declared.options.Given.{Given}
 use Rattle.kadm_wire.specs.declared.verbs.Verb.{Verb}
 use Rattle.kadm_wire.specs.declared.verbs.Verb.TheVariants as verb
 use Rattle.kdb_base.specs.declared.outcomes.Field.{Field}

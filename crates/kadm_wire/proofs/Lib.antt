@@ -8,6 +8,4 @@ pub mod OptionLemmas
 pub mod ReadCommands
 pub mod ReplyLemmas
 pub mod SplittingLemmas
-pub mod StepLemmas
-pub mod ValueLemmas
 pub mod WordLemmas

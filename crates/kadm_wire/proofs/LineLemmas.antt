@@ -3,15 +3,19 @@ use Rattle.std.proofs.Common.{◌≡◌, ℕ, ◌≤◌, ◌<◌, Bool, true, fa
 use Rattle.std.specs.List.{flat_map, list_all}
 use Rattle.std.proofs.lemmas.Bool.Decides.{nat_tests}
 use Rattle.std.proofs.lemmas.Bool.{and_parts}
-use Rattle.kadm_wire.specs.Arguments.{SpellsOptions, BeginsPlain, Shape, SpellsShape, value_words, is_whole, others_fit, has_fields}
+use Rattle.kadm_options.specs.OptionValues.{IsFirstBad}
+use Rattle.kadm_options.specs.Options.{SpellsOptions, value_words}
+use Rattle.kadm_options.specs.declared.options.Given.{Given}
+use Rattle.kadm_options.specs.declared.options.Opening.{Opening}
+use Rattle.kadm_wire.specs.Arguments.{BeginsPlain, Shape, SpellsShape, named_by, is_whole, others_fit, has_fields}
 use Rattle.kadm_wire.specs.Judged.{AreFields}
 use Rattle.kadm_wire.specs.Lines.{IsComment, IsLine, ReadsCommand, IsOn, has_name, SpellsCommand, is_glob_word, whole_glob, Gives, IsReading}
 use Rattle.kadm_wire.specs.Reads.{IsNameRead, WordsGive, WordsBreak, IsWordsRead, AreShort}
-use Rattle.kadm_wire.specs.Values.{IsFirstBad, SpellsFields}
+use Rattle.kadm_wire.specs.LineReadings.{fields_in}
+use Rattle.kadm_wire.specs.Values.{SpellsFields}
 use Rattle.kadm_wire.specs.Words.{SpellsWords, SpellsPlain, SpellsQuoted, quoted, quoted_byte}
 use Rattle.kadm_wire.specs.declared.lines.Reading.{Reading}
 use Rattle.kadm_wire.specs.declared.lines.Reading.TheVariants.{Skipped, Says, Refuses}
-use Rattle.kadm_wire.specs.declared.options.Given.{Given}
 use Rattle.kadm_wire.specs.declared.verbs.Verb.{Verb}
 use Rattle.kadm_wire.specs.declared.verbs.Verb.TheVariants as verb
 use Rattle.kdb_base.specs.declared.outcomes.Field.{Field}
@@ -25,23 +29,21 @@ use Rattle.kadm_wire.specs.Split.{IsSplit}
 use Rattle.kadm_wire.specs.Steps.{shape_of, IsRead}
 use Rattle.kadm_wire.specs.declared.arguments.Arguments.{Arguments}
 use Rattle.kadm_wire.proofs.ArgumentLemmas.{one_shape}
+use Rattle.kadm_wire.proofs.FieldReadings.{fields_are_read}
 use Rattle.kadm_wire.proofs.WordLemmas.{one_split}
 
 -- ---- commands
 
-pub fields_read : (options options' : List Given) (r : Result PrincOptions Field) (fields : PrincOptions) → options' ≡ options → r ≡ Ok fields → AreFields options' r
-    → SpellsFields options fields
-fields_read options options' r fields same is h =
-    let P : List Given → Type 0 = λ os. AreFields os (Ok fields) in
-    let Q : Result PrincOptions Field → Type 0 = λ x. AreFields options' x in
-    subst P same (subst Q is h)
+read_same : (options options' : List Given) (r : Result PrincOptions Field) → options' ≡ options → r ≡ fields_in options' → AreFields options r
+read_same options options' r same h = subst (λ (x : Result PrincOptions Field). AreFields options x) (sym (h ∙ ap fields_in same)) (fields_are_read options)
 
-pub fields_bad : (options options' : List Given) (r : Result PrincOptions Field) (field : Field) → options' ≡ options → r ≡ Err field → AreFields options' r
+pub fields_read : (options options' : List Given) (r : Result PrincOptions Field) (fields : PrincOptions) → options' ≡ options → r ≡ Ok fields → r ≡ fields_in options'
+    → SpellsFields options fields
+fields_read options options' r fields same is h = subst (λ (x : Result PrincOptions Field). AreFields options x) is (read_same options options' r same h)
+
+pub fields_bad : (options options' : List Given) (r : Result PrincOptions Field) (field : Field) → options' ≡ options → r ≡ Err field → r ≡ fields_in options'
     → IsFirstBad options field
-fields_bad options options' r field same is h =
-    let P : List Given → Type 0 = λ os. AreFields os (Err field) in
-    let Q : Result PrincOptions Field → Type 0 = λ x. AreFields options' x in
-    subst P same (subst Q is h)
+fields_bad options options' r field same is h = subst (λ (x : Result PrincOptions Field). AreFields options x) is (read_same options options' r same h)
 
 pub adds : (realm : List ℕ) (shape : Shape) (name : NameParts) (fields : PrincOptions) → shape.verb ≡ verb.AddPrinc → SpellsFields shape.options fields → IsOn realm shape name
     → Gives realm shape (Says (AddPrinc (record { name = name; options = fields })))
@@ -165,13 +167,13 @@ unfolding AreShort
 short_behind [] more short = short
 short_behind (word ∷ words) more short = short_behind words more short.1
 
-options_short : (v : Verb) (options : List Given) (rest words : List (List ℕ)) → SpellsOptions v options rest words → AreShort words → AreShort rest
+options_short : (named : List ℕ → Option Opening) (options : List Given) (rest words : List (List ℕ)) → SpellsOptions named options rest words → AreShort words → AreShort rest
 unfolding SpellsOptions AreShort
-options_short v [] rest words e short = rw e at short
-options_short v (option ∷ options) rest words led short =
+options_short named [] rest words e short = rw e at short
+options_short named (option ∷ options) rest words led short =
     let P : List (List ℕ) → Type 0 = λ ws. AreShort ws in
     let all = subst P led.words_are short in
-    options_short v options rest led.behind led.others (short_behind (value_words option) led.behind all.1)
+    options_short named options rest led.behind led.others (short_behind (value_words option) led.behind all.1)
 
 others_short : (others rest : List (List ℕ)) → (rest ≡ codes "--" ∷ others) ⊎ ((rest ≡ others) × BeginsPlain others) → AreShort rest → AreShort others
 unfolding AreShort
@@ -183,7 +185,7 @@ unfolding AreShort
 shape_short shape words s short =
     let P : List (List ℕ) → Type 0 = λ ws. AreShort ws in
     let all = subst P s.words_are short in
-    others_short shape.others s.rest s.others (options_short shape.verb shape.options s.rest s.arguments s.options all.1)
+    others_short shape.others s.rest s.others (options_short (named_by shape.verb) shape.options s.rest s.arguments s.options all.1)
 
 -- ---- lines
 

@@ -2,12 +2,13 @@
 use Rattle.std.proofs.Common.{◌≡◌, ℕ, ◌≤◌, ◌<◌, Bool, true, false, nat_lt, Option, Some, None, option_map, Ok, List, [], ◌∷◌, length, inl, inr, refl, sym, ap, subst, ◌∙◌, arith, if◌then◌else◌}
 use Rattle.std.proofs.lemmas.Bool.{cases_Bool}
 use Rattle.std.proofs.lemmas.Bool.Decides.{nat_tests}
-use Rattle.kadm_wire.specs.Arguments.{Shape, SpellsShape, verb_named, is_whole}
-use Rattle.kadm_wire.specs.LineReadings.{command_reading, shape_with, shape_behind, shape_in, shape_reading, words_reading, is_comment, line_reading, answer, reading}
+use Rattle.kadm_options.specs.Options.{options_from}
+use Rattle.kadm_wire.specs.Arguments.{Shape, SpellsShape, named_by, verb_named, is_whole}
+use Rattle.kadm_wire.specs.LineReadings.{command_reading, shape_by, shape_in, shape_reading, words_reading, is_comment, line_reading, answer, reading}
 use Rattle.kadm_wire.specs.Lines.{longest_line, IsComment, SpellsLine, IsLine, ReadsCommand, IsBadLine, IsPassedOver, IsReading}
 use Rattle.kadm_wire.specs.Reads.{IsWordsRead}
 use Rattle.kadm_wire.specs.Splitting.{words_from}
-use Rattle.kadm_wire.specs.Steps.{Parts, parts_from, IsRead}
+use Rattle.kadm_wire.specs.Steps.{IsRead}
 use Rattle.kadm_wire.specs.Words.{SpellsWords}
 use Rattle.kadm_wire.specs.declared.lines.Reading.{Reading}
 use Rattle.kadm_wire.specs.declared.lines.Reading.TheVariants.{Skipped, Says, Refuses}
@@ -16,7 +17,7 @@ use Rattle.kadm_wire.specs.declared.words.Place.TheVariants.{Between}
 use Rattle.kdb_base.specs.declared.outcomes.Refusal.{Refusal}
 use Rattle.kdb_base.specs.declared.outcomes.Refusal.TheVariants.{BadLine, LineTooLong}
 use Rattle.kdb_model.specs.declared.commands.Command.{Command}
-use Rattle.kadm_wire.proofs.ArgumentLemmas.{shape_read, read_shape, one_shape}
+use Rattle.kadm_wire.proofs.ArgumentLemmas.{behind_read, one_shape}
 use Rattle.kadm_wire.proofs.CommandReadings.{command_is_given, given_is_read}
 use Rattle.kadm_wire.proofs.LineLemmas.{too_long, comment_skipped, empty_skipped, unspelled_bad, line_read, none_whole, not_whole, words_give}
 use Rattle.kadm_wire.proofs.WordLemmas.{words_read, words_spelled, split_is}
@@ -34,15 +35,9 @@ tested_comment (byte ∷ rest) e = let first : byte ≡ 35 = grind (arith, nat_t
 
 -- ---- shapes
 
--- a shape that was found behind the command's word
-parts_found : (verb : Verb) (word : List ℕ) (words : List (List ℕ)) (r : Option Parts) → verb_named word ≡ Some verb → parts_from verb None words ≡ r
-    → IsRead (word ∷ words) (option_map (shape_with verb) r)
-parts_found verb word words None named e = λ shape s. (let read = shape_read shape word words (word ∷ words) verb refl (sym named) s in cc)
-parts_found verb word words (Some parts) named e = read_shape verb word words parts named e
-
-verb_found : (word : List ℕ) (words : List (List ℕ)) (v : Option Verb) → verb_named word ≡ v → IsRead (word ∷ words) (shape_behind v words)
+verb_found : (word : List ℕ) (words : List (List ℕ)) (v : Option Verb) → verb_named word ≡ v → IsRead (word ∷ words) (shape_by v words)
 verb_found word words None e = λ shape s. (let first : s.word ≡ word = (let are = s.words_are in cc) in let named = ap verb_named (sym first) ∙ s.verb in cc)
-verb_found word words (Some verb) e = parts_found verb word words (parts_from verb None words) e refl
+verb_found word words (Some verb) e = behind_read verb word words (options_from (named_by verb) None words) e refl
 
 -- the words' shape, or that they have none
 shape_is_read : (word : List ℕ) (words : List (List ℕ)) → IsRead (word ∷ words) (shape_in (word ∷ words))

@@ -1,19 +1,14 @@
 -- What a line says, as a function of its bytes.
-use Rattle.std.specs.Prelude.{ℕ, Bool, false, ◌==◌, nat_lt, if◌then◌else◌, List, [], ◌∷◌, length, Option, Some, None, is_some, option_map, Result, Ok, Err}
+use Rattle.std.specs.Prelude.{ℕ, Bool, false, ◌==◌, nat_lt, if◌then◌else◌, List, [], ◌∷◌, length, Option, Some, None, Result, Ok, Err}
 use Rattle.std.specs.List.{filter_map}
-use Rattle.std.specs.Option.{option_or, option_and_then}
-use Rattle.kadm_wire.specs.Arguments.{Shape, verb_named, is_whole}
+use Rattle.kadm_options.specs.OptionValues.{first_bad_in, flag_of, seconds_given}
+use Rattle.kadm_options.specs.declared.options.Given.{Given}
+use Rattle.kadm_options.specs.declared.options.OptionName.TheVariants.{Expire, PwExpire, MaxLife, MaxRenewLife}
+use Rattle.kadm_wire.specs.Arguments.{Shape, verb_named, is_whole, shape_behind}
 use Rattle.kadm_wire.specs.Lines.{longest_line, is_glob_word, whole_glob}
-use Rattle.kadm_values.specs.Readings.{duration_in, time_in}
 use Rattle.kadm_wire.specs.Splitting.{words_from}
-use Rattle.kadm_wire.specs.Steps.{Parts, parts_from}
-use Rattle.kadm_wire.specs.Values.{field_of, value_given, flag_of}
 use Rattle.kadm_wire.specs.declared.lines.Reading.{Reading}
 use Rattle.kadm_wire.specs.declared.lines.Reading.TheVariants.{Skipped, Says, Refuses}
-use Rattle.kadm_wire.specs.declared.options.Given.{Given}
-use Rattle.kadm_wire.specs.declared.options.Given.TheVariants.{Flag, NoKey, Force, Value}
-use Rattle.kadm_wire.specs.declared.options.Setting.{Setting}
-use Rattle.kadm_wire.specs.declared.options.Setting.TheVariants.{Expire, PwExpire, MaxLife, MaxRenewLife}
 use Rattle.kadm_wire.specs.declared.verbs.Verb.{Verb}
 use Rattle.kadm_wire.specs.declared.verbs.Verb.TheVariants as verb
 use Rattle.kadm_wire.specs.declared.words.Place.TheVariants.{Between}
@@ -29,35 +24,12 @@ use Rattle.princ_name.specs.Readings.{own_name_in}
 
 -- ---- values
 
--- times and durations, by their settings
-unfoldable pub setting_in : Setting → List ℕ → Option ℕ
-setting_in Expire word = time_in word
-setting_in PwExpire word = time_in word
-setting_in MaxLife word = duration_in word
-setting_in MaxRenewLife word = duration_in word
-
--- the field of an option whose word spells no value
-unfoldable pub bad_in : Given → Option Field
-bad_in (Flag change) = None
-bad_in NoKey = None
-bad_in Force = None
-bad_in (Value setting word) = if is_some (setting_in setting word) then None else Some (field_of setting)
-
--- the field of the first such option
-unfoldable pub first_bad_in : List Given → Option Field
-first_bad_in [] = None
-first_bad_in (option ∷ options) = option_or (bad_in option) (first_bad_in options)
-
--- the value of a setting, where it is given
-unfoldable pub field_in : Setting → List Given → Option ℕ
-field_in setting options = option_and_then (setting_in setting) (value_given setting options)
-
 abbrev pub given_fields : List Given → PrincOptions
 given_fields options = record {
-  expire = field_in Expire options;
-  pw_expire = field_in PwExpire options;
-  max_life = field_in MaxLife options;
-  max_renew = field_in MaxRenewLife options;
+  expire = seconds_given Expire options;
+  pw_expire = seconds_given PwExpire options;
+  max_life = seconds_given MaxLife options;
+  max_renew = seconds_given MaxRenewLife options;
   flags = filter_map flag_of options;
 }
 
@@ -99,17 +71,14 @@ command_reading realm verb options (word ∷ words) = word_reading realm verb op
 
 -- ---- words
 
-abbrev pub shape_with : Verb → Parts → Shape
-shape_with verb parts = record { verb = verb; options = parts.options; others = parts.others }
-
-abbrev pub shape_behind : Option Verb → List (List ℕ) → Option Shape
-shape_behind None words = None
-shape_behind (Some verb) words = option_map (shape_with verb) (parts_from verb None words)
+abbrev pub shape_by : Option Verb → List (List ℕ) → Option Shape
+shape_by None words = None
+shape_by (Some verb) words = shape_behind verb words
 
 -- the command of the first word, and the options and other words behind it; None where these words spell no command
 unfoldable pub shape_in : List (List ℕ) → Option Shape
 shape_in [] = None
-shape_in (word ∷ words) = shape_behind (verb_named word) words
+shape_in (word ∷ words) = shape_by (verb_named word) words
 
 abbrev pub shape_reading : List ℕ → Option Shape → Reading
 shape_reading realm None = Refuses BadLine

@@ -2,7 +2,8 @@
 use Rattle.std.specs.Prelude.{ℕ, ◌≡◌, ◌<◌, ◌≤◌, ◌⊎◌, Bool, true, false, not, ◌==◌, List, [], ◌∷◌, ◌++◌, length, Option, Some, None, if◌then◌else◌}
 use Rattle.std.specs.List.{list_any, list_all}
 use Rattle.kadm_wire.specs.Arguments.{Shape, SpellsShape, has_fields, is_whole}
-use Rattle.kadm_wire.specs.Values.{IsFirstBad, SpellsFields}
+use Rattle.kadm_options.specs.OptionValues.{IsFirstBad}
+use Rattle.kadm_wire.specs.Values.{SpellsFields}
 use Rattle.kadm_wire.specs.Words.{SpellsWords}
 use Rattle.kadm_wire.specs.declared.lines.Reading.{Reading}
 use Rattle.kadm_wire.specs.declared.lines.Reading.TheVariants.{Skipped, Says, Refuses}

@@ -1,13 +1,12 @@
 //! The options and the other words of a command.
 
-ghost use Rattle.std.specs.Prelude.{ℕ, ◌≡◌, ◌++◌, [], ◌∷◌, IfOk, IfSome, OnOk, None, length, option_map};
-ghost use Rattle.kadm_wire.specs.Arguments.{has_needed, is_whole, others_fit};
-ghost use Rattle.kadm_wire.specs.Steps.{IsRead, Steps, options_of, parts_from, parts_of, pending_of, shape_of};
+ghost use Rattle.std.specs.Prelude.{◌≡◌, IfOk, option_map};
+ghost use Rattle.kadm_wire.specs.Arguments.{is_whole, others_fit, others_in, shape_behind};
+ghost use Rattle.kadm_wire.specs.Steps.{IsRead, shape_of};
 
-use crate::options::{
-    Given, Opening, Setting, are_single, find_option, has_needed, is_dashes, is_signed,
-};
-use crate::verbs::{Verb, find_verb};
+use crate::options::{has_needed, known_options};
+use crate::verbs::{Verb, find_verb, has_fields};
+use kadm_options::{Given, are_single, is_dashes, read_options};
 use kdb_base::{Blob, MemoryOut};
 use std::alloc::Global;
 
@@ -29,129 +28,38 @@ fn copy_words(alloc: Global, words: &[Blob]) -> Result<Vec<Blob>, MemoryOut>
     Ok(copies)
 }
 
-// The options that were read, and the one before that wants its value.
-#[derive(Drop)]
-struct Reader {
-    options: Vec<Given>,
-    pending: Option<Setting>,
-}
-
-// What comes of a word.
-#[derive(Clone, Copy, Debug)]
-enum Step {
-    Taken,
-    // No option is spelled so.
-    Broken,
-    // It ends the options.
-    Dashes,
-    // It is the first of the other words.
-    Plain,
-}
-
-impl Reader {
-    // Takes the word of an option.
-    fn take_opening(&mut self, opening: Opening) -> Result<(), MemoryOut>
-        requires { self.old.pending ≡ None }
-        ensures options { OnOk result (self.new.options.items ≡ self.old.options.items ++ options_of opening) }
-        ensures pending { OnOk result (self.new.pending ≡ pending_of opening) }
-    {
-        match opening {
-            Opening::Flag(change) => {
-                self.options.push(Given::Flag(change))?;
-                Ok(())
-            }
-            Opening::NoKey => {
-                self.options.push(Given::NoKey)?;
-                Ok(())
-            }
-            Opening::Force => {
-                self.options.push(Given::Force)?;
-                Ok(())
-            }
-            Opening::Value(setting) => {
-                self.pending = Some(setting);
-                Ok(())
+// The words behind two dashes, where these stand first.
+#[tactic(auto, unfolding(crate::specs::Arguments::others_in))]
+fn behind_dashes(words: &[Blob]) -> &[Blob]
+    ensures { result.now ≡ others_in words.now }
+{
+    match words.split_first() {
+        Some((word, behind)) => {
+            if is_dashes(word.as_slice()) {
+                behind
+            } else {
+                words
             }
         }
-    }
-
-    fn take_value(&mut self, alloc: Global, setting: Setting, word: &[u8]) -> Result<(), MemoryOut>
-        ensures options { OnOk result (self.new.options.items ≡ self.old.options.items ++ Given.Value setting word.now ∷ []) }
-        ensures pending { OnOk result (self.new.pending ≡ None) }
-    {
-        let value = Blob::from_bytes(alloc, word)?;
-        self.options.push(Given::Value(setting, value))?;
-        self.pending = None;
-        Ok(())
-    }
-
-    fn take_word(&mut self, verb: Verb, word: &[u8]) -> Result<Step, MemoryOut>
-        requires { self.old.pending ≡ None }
-        ensures { IfOk result (λ step. Steps verb word.now self.old self.new step) }
-    {
-        if is_dashes(word) {
-            return Ok(Step::Dashes);
-        }
-        if !is_signed(word) {
-            return Ok(Step::Plain);
-        }
-        match find_option(verb, word) {
-            Some(opening) => {
-                self.take_opening(opening)?;
-                Ok(Step::Taken)
-            }
-            None => Ok(Step::Broken),
-        }
-    }
-
-    fn take(&mut self, alloc: Global, verb: Verb, word: &[u8]) -> Result<Step, MemoryOut>
-        ensures { IfOk result (λ step. Steps verb word.now self.old self.new step) }
-    {
-        match self.pending {
-            Some(setting) => {
-                self.take_value(alloc, setting, word)?;
-                Ok(Step::Taken)
-            }
-            None => self.take_word(verb, word),
-        }
-    }
-
-    // The arguments, where no option wants its value.
-    fn finish(self, alloc: Global, verb: Verb, others: &[Blob]) -> Result<Arguments, MemoryOut>
-        ensures verb { IfOk result (λ a. a.verb ≡ verb) }
-        ensures options { IfOk result (λ a. a.options.items ≡ self.options.items) }
-        ensures others { IfOk result (λ a. a.others.items ≡ others.now) }
-    {
-        let others = copy_words(alloc, others)?;
-        Ok(Arguments {
-            verb,
-            options: self.options,
-            others,
-        })
+        None => words,
     }
 }
 
 // The arguments of a command that these words spell.
 fn read_behind(alloc: Global, verb: Verb, words: &[Blob]) -> Result<Option<Arguments>, MemoryOut>
-    ensures parts { IfOk result (λ a. option_map parts_of a ≡ parts_from verb None words.now) }
-    ensures verb { IfOk result (λ a. IfSome a (λ x. x.verb ≡ verb)) }
+    ensures { IfOk result (λ a. option_map shape_of a ≡ shape_behind verb words.now) }
 {
-    let mut reader = Reader {
-        options: Vec::new(alloc),
-        pending: None,
-    };
-    for (at, word) in words.iter().enumerate() {
-        match reader.take(alloc, verb, word.as_slice())? {
-            Step::Taken => {}
-            Step::Broken => return Ok(None),
-            Step::Dashes => return Ok(Some(reader.finish(alloc, verb, &words[at + 1..])?)),
-            Step::Plain => return Ok(Some(reader.finish(alloc, verb, &words[at..])?)),
+    match read_options(alloc, known_options(verb), has_fields(verb), words)? {
+        Some(found) => {
+            let others = copy_words(alloc, behind_dashes(&words[found.count..]))?;
+            Ok(Some(Arguments {
+                verb,
+                options: found.options,
+                others,
+            }))
         }
+        None => Ok(None),
     }
-    if reader.pending.is_some() {
-        return Ok(None);
-    }
-    Ok(Some(reader.finish(alloc, verb, &[])?))
 }
 
 /// The command and the arguments that words spell.

@@ -3,11 +3,9 @@
 ghost use Rattle.std.specs.Prelude.{List, ℕ, ◌≡◌, ◌↔◌, Some, None, Ok, Err};
 ghost use Rattle.kadm_wire.specs.LineReadings.{line_reading, reading};
 ghost use Rattle.kadm_wire.specs.Lines.{IsReading};
-ghost use Rattle.kadm_wire.specs.Values.{SpellsValue};
 ghost use Rattle.kadm_wire.specs.Words.{SpellsWords};
 ghost use Rattle.kadm_wire.specs.declared.lines.Reading.{Reading};
 ghost use Rattle.kadm_wire.specs.declared.lines.Reading.TheVariants.{Skipped, Says, Refuses};
-ghost use Rattle.kadm_wire.specs.declared.options.Setting.{Setting};
 ghost use Rattle.kdb_base.specs.declared.outcomes.Refusal.{Refusal};
 ghost use Rattle.kdb_model.specs.Changes.{IsCommand};
 ghost use Rattle.kdb_model.specs.declared.commands.Command.{Command};
@@ -15,11 +13,6 @@ ghost use Rattle.kdb_model.specs.declared.commands.Command.{Command};
 /// A line has one list of words at most.
 pub fn line_has_one_list_of_words()
     ensures { (line : List ℕ) (a b : List (List ℕ)) → SpellsWords a line → SpellsWords b line → a ≡ b }
-{}
-
-/// A word spells one value of a setting at most.
-pub fn word_spells_one_value()
-    ensures { (setting : Setting) (word : List ℕ) (a b : ℕ) → SpellsValue setting word a → SpellsValue setting word b → a ≡ b }
 {}
 
 /// A line has one reading at most in a database of a realm: it is skipped, it says one command, or it is

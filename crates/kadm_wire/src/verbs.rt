@@ -2,7 +2,7 @@
 
 ghost use Rattle.std.specs.Prelude.{◌≡◌, find, map, option_map};
 ghost use Rattle.std.specs.Str.{bytes_eq};
-ghost use Rattle.kadm_wire.specs.Arguments.{is_addprinc, is_delprinc, has_fields, verb_named, verb_row, verb_rows};
+ghost use Rattle.kadm_wire.specs.Arguments.{is_addprinc, has_fields, verb_named, verb_row, verb_rows};
 
 use kadm_values::bytes::is_same;
 
@@ -120,10 +120,4 @@ pub(crate) fn is_addprinc(verb: Verb) -> bool
     ensures { result ≡ is_addprinc verb }
 {
     matches!(verb, Verb::AddPrinc)
-}
-
-pub(crate) fn is_delprinc(verb: Verb) -> bool
-    ensures { result ≡ is_delprinc verb }
-{
-    matches!(verb, Verb::DelPrinc)
 }

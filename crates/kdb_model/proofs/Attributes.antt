@@ -9,8 +9,8 @@ use Rattle.std.proofs.lemmas.List.Elements.{recursion_from_All}
 use Rattle.std.proofs.lemmas.Nat.{and_le_r}
 use Rattle.std.proofs.lemmas.Nat.Bits.{bit_at_and, bit_at_or, same_from_bits}
 use Rattle.princ_record.specs.Princs.{are_attributes, known_bits}
-use Rattle.kdb_model.specs.Flags.{with_flag, with_flags}
-use Rattle.kdb_model.specs.declared.commands.FlagChange.{FlagChange}
+use Rattle.kadm_values.specs.Flags.{with_flag, with_flags}
+use Rattle.kadm_values.specs.declared.flags.FlagChange.{FlagChange}
 
 -- each bit of a number that a mask leaves as it is
 masked : (a k i : ℕ) → bit_and a k ≡ a → min (bit_at a i) (bit_at k i) ≡ bit_at a i

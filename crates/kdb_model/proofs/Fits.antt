@@ -13,7 +13,7 @@ use Rattle.princ_record.specs.Printed.{is_master}
 use Rattle.princ_rows.specs.Rows.{RowLists}
 use Rattle.princ_record.specs.declared.princs.Princ.{Princ}
 use Rattle.kdb_model.specs.Changes.{AreOptions, IsBelow32, value_or, with_options, fresh_princ}
-use Rattle.kdb_model.specs.Flags.{with_flags}
+use Rattle.kadm_values.specs.Flags.{with_flags}
 use Rattle.kdb_model.specs.States.{has_policy}
 use Rattle.kdb_model.specs.declared.commands.PrincOptions.{PrincOptions}
 use Rattle.kdb_model.proofs.Attributes.{flags_known, attributes_short}

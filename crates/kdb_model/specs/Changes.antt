@@ -10,9 +10,9 @@ use Rattle.princ_record.specs.declared.princs.Princ.{Princ}
 use Rattle.princ_rows.specs.declared.entries.Op.{Op}
 use Rattle.princ_rows.specs.declared.entries.Op.TheVariants.{PutPrinc, DropPrinc}
 use Rattle.kdb_model.specs.Calls.{Call}
-use Rattle.kdb_model.specs.Flags.{with_flags}
+use Rattle.kadm_values.specs.Flags.{with_flags}
 use Rattle.kdb_model.specs.States.{princ_named, has_policy}
-use Rattle.kdb_model.specs.declared.commands.FlagChange.{FlagChange}
+use Rattle.kadm_values.specs.declared.flags.FlagChange.{FlagChange}
 use Rattle.kdb_model.specs.declared.commands.PrincOptions.{PrincOptions}
 use Rattle.kdb_model.specs.declared.commands.Command.{Command}
 use Rattle.kdb_model.specs.declared.commands.Command.TheVariants.{AddPrinc, ModPrinc, DelPrinc, GetPrinc, ListPrincs}

@@ -1,5 +1,4 @@
 pub mod Globs
-pub mod Flags
 pub mod Calls
 pub mod States
 pub mod Changes

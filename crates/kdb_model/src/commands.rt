@@ -1,16 +1,10 @@
 //! The commands of administrators, as values.
 ghost use Rattle.std.specs.Prelude.{◌≡◌};
 
+use kadm_values::FlagChange;
 use kdb_base::Blob;
 use princ_name::Name;
 use std::marker::Model;
-
-/// A flag of kadmin: whether it sets or clears an attribute, and the attribute's bit.
-#[derive(Clone, Copy, Debug)]
-pub struct FlagChange {
-    pub set: bool,
-    pub bit: u32,
-}
 
 /// Flags in the order of their line. Of two flags on one bit the later one counts.
 #[derive(Debug, Drop)]
@@ -20,7 +14,7 @@ pub struct FlagChanges {
 
 impl Model for FlagChanges {
     ghost use Rattle.std.specs.Prelude.{List};
-    ghost use Rattle.kdb_model.specs.declared.commands.FlagChange.{FlagChange};
+    ghost use Rattle.kadm_values.specs.declared.flags.FlagChange.{FlagChange};
 
     ghost Value = { List FlagChange };
 

@@ -17,7 +17,7 @@ pub mod states;
 mod step;
 
 pub use access::Acl;
-pub use commands::{AddPrinc, Command, FlagChange, FlagChanges, ModPrinc, PrincOptions};
+pub use commands::{AddPrinc, Command, FlagChanges, ModPrinc, PrincOptions};
 pub use globs::{glob_matches, is_glob};
 pub use plans::{Planned, plan};
 pub use replies::{NameList, Reply};

@@ -2,10 +2,10 @@
 
 ghost use Rattle.std.specs.Prelude.{◌≡◌, codes, IfOk};
 ghost use Rattle.kdb_model.specs.Changes.{value_or, with_options, default_policy, fresh_princ};
-ghost use Rattle.kdb_model.specs.Flags.{with_flag, with_flags};
 
-use crate::commands::{FlagChange, PrincOptions};
+use crate::commands::PrincOptions;
 use crate::lookups::has_policy;
+use kadm_values::with_flags;
 use kdb_base::{Blob, MemoryOut};
 use princ_record::{Keys, OldSets, Princ, copy};
 use princ_rows::Rows;
@@ -14,24 +14,6 @@ use tagged_data::StringAttributes;
 
 /// The policy that a new principal gets where there is one of this name.
 const DEFAULT_POLICY: &[u8] = b"default";
-
-fn with_flag(attributes: u32, flag: FlagChange) -> u32
-    ensures { result ≡ with_flag attributes flag }
-{
-    if flag.set {
-        attributes | flag.bit
-    } else {
-        attributes & !flag.bit
-    }
-}
-
-/// The attributes behind these flags, of which the last on a bit counts.
-#[tactic(auto, unfolding(crate::specs::Flags::with_flags))]
-fn with_flags(attributes: u32, flags: &[FlagChange]) -> u32
-    ensures { result ≡ with_flags attributes flags.now }
-{
-    flags.iter().fold(attributes, |attributes, flag| with_flag(attributes, *flag))
-}
 
 fn value_or(standing: u32, option: Option<u32>) -> u32
     ensures { result ≡ value_or standing option }

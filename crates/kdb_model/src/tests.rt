@@ -4,6 +4,7 @@ ghost use Rattle.princ_record.specs.Princs.{are_attributes};
 ghost use Rattle.kdb_model.specs.Changes.{AreOptions, IsCommand, IsOwnName};
 
 use super::*;
+use kadm_values::FlagChange;
 use kdb_base::limits::MAX_ROW_LEN;
 use kdb_base::{Blob, MemoryOut, Point, Refusal, Stop, Time};
 use princ_name::{Name, parse_own_name};

@@ -3,7 +3,7 @@ use Rattle.std.specs.Prelude.{IsTrue}
 use Rattle.std.specs.List.{All, AllByRecursion}
 use Rattle.std.proofs.lemmas.List.Elements.{All-from_recursion}
 use Rattle.princ_record.specs.Princs.{are_attributes}
-use Rattle.kdb_model.specs.declared.commands.FlagChange.{FlagChange}
+use Rattle.kadm_values.specs.declared.flags.FlagChange.{FlagChange}
 use Rattle.kdb_model.proofs.tests.changes.Goals as goal
 
 abbrev HasKnownBit : FlagChange → Type 0

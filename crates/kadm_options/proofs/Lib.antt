@@ -1,0 +1,3 @@
+pub mod OptionStepLemmas
+pub mod OptionLemmas
+pub mod OptionValueLemmas

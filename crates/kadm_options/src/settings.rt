@@ -1,0 +1,155 @@
+//! The values of options.
+
+ghost use Rattle.std.specs.Prelude.{◌≡◌, IfOk};
+ghost use Rattle.std.specs.List.{filter_map};
+ghost use Rattle.kadm_options.specs.OptionValues.{bad_in, first_bad_in, flag_of, is_readable, policy_by, policy_given, seconds_by, seconds_given, seconds_of};
+
+use crate::options::{Given, OptionName, ValueKind, same_option};
+use kadm_values::{FlagChange, read_duration, read_time};
+use kdb_base::{Blob, Field, MemoryOut};
+use policy_rules::is_policy_name;
+use std::alloc::Global;
+
+// Whether the word spells such a value.
+#[tactic(auto, unfolding(crate::specs::OptionValues::is_readable))]
+fn is_readable(kind: ValueKind, word: &[u8]) -> bool
+    ensures { result ≡ is_readable kind word.now }
+{
+    match kind {
+        ValueKind::Time => read_time(word).is_some(),
+        ValueKind::Duration => read_duration(word).is_some(),
+        ValueKind::PolicyName => is_policy_name(word),
+    }
+}
+
+// The seconds that the word spells, where the value is one of seconds.
+#[tactic(auto, unfolding(crate::specs::OptionValues::seconds_of))]
+fn seconds_of(kind: ValueKind, word: &[u8]) -> Option<u32>
+    ensures { result ≡ seconds_of kind word.now }
+{
+    match kind {
+        ValueKind::Time => read_time(word),
+        ValueKind::Duration => read_duration(word),
+        ValueKind::PolicyName => None,
+    }
+}
+
+// The field of an option whose value is unreadable.
+fn bad_field(given: &Given) -> Option<Field>
+    ensures { result ≡ bad_in given.now }
+{
+    match given {
+        Given::Flag(_) => None,
+        Given::Alone(_) => None,
+        Given::Value(setting, word) => {
+            if is_readable(setting.kind, word.as_slice()) {
+                None
+            } else {
+                Some(setting.field)
+            }
+        }
+    }
+}
+
+/// The field of the first option whose value is unreadable.
+#[tactic(auto, unfolding(crate::specs::OptionValues::first_bad_in))]
+pub fn first_bad(options: &[Given]) -> Option<Field>
+    ensures { result ≡ first_bad_in options.now }
+{
+    for given in options {
+        match bad_field(given) {
+            Some(field) => return Some(field),
+            None => {}
+        }
+    }
+    None
+}
+
+fn seconds_by(option: OptionName, given: &Given) -> Option<u32>
+    ensures { result ≡ seconds_by option given.now }
+{
+    match given {
+        Given::Flag(_) => None,
+        Given::Alone(_) => None,
+        Given::Value(setting, word) => {
+            if same_option(setting.option, option) {
+                seconds_of(setting.kind, word.as_slice())
+            } else {
+                None
+            }
+        }
+    }
+}
+
+/// The seconds of the first option of this name that has some: since 1970 those of a time, else those of a
+/// duration.
+#[tactic(auto, unfolding(crate::specs::OptionValues::seconds_given))]
+pub fn find_seconds(option: OptionName, options: &[Given]) -> Option<u32>
+    ensures { result ≡ seconds_given option options.now }
+{
+    for given in options {
+        match seconds_by(option, given) {
+            Some(seconds) => return Some(seconds),
+            None => {}
+        }
+    }
+    None
+}
+
+fn policy_by(alloc: Global, given: &Given) -> Result<Option<Option<Blob>>, MemoryOut>
+    ensures { IfOk result (λ policy. policy ≡ policy_by given.now) }
+{
+    match given {
+        Given::Flag(_) => Ok(None),
+        Given::Alone(option) => {
+            if same_option(*option, OptionName::ClearPolicy) {
+                Ok(Some(None))
+            } else {
+                Ok(None)
+            }
+        }
+        Given::Value(setting, word) => {
+            if same_option(setting.option, OptionName::Policy) {
+                let name = Blob::from_bytes(alloc, word.as_slice())?;
+                Ok(Some(Some(name)))
+            } else {
+                Ok(None)
+            }
+        }
+    }
+}
+
+/// The policy, `Some(None)` where it is taken away, and None where the options do not speak of it.
+#[tactic(auto, unfolding(crate::specs::OptionValues::policy_given))]
+pub fn find_policy(alloc: Global, options: &[Given]) -> Result<Option<Option<Blob>>, MemoryOut>
+    ensures { IfOk result (λ policy. policy ≡ policy_given options.now) }
+{
+    for given in options {
+        match policy_by(alloc, given)? {
+            Some(policy) => return Ok(Some(policy)),
+            None => {}
+        }
+    }
+    Ok(None)
+}
+
+fn flag_of(given: &Given) -> Option<FlagChange>
+    ensures { result ≡ flag_of given.now }
+{
+    match given {
+        Given::Flag(change) => Some(*change),
+        Given::Alone(_) => None,
+        Given::Value(_, _) => None,
+    }
+}
+
+/// What the flags do, in the order of the line.
+pub fn flags_among(alloc: Global, options: &[Given]) -> Result<Vec<FlagChange>, MemoryOut>
+    ensures { IfOk result (λ flags. flags.items ≡ filter_map flag_of options.now) }
+{
+    let flags = options
+        .iter()
+        .filter_map(|given| flag_of(given))
+        .collect(alloc)?;
+    Ok(flags)
+}

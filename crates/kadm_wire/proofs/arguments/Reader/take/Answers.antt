@@ -1,7 +1,0 @@
-use Rattle.kadm_wire.proofs.StepLemmas.{takes_value}
-use Rattle.kadm_wire.proofs.arguments.Reader.take.Goals as goal
-
-pub returns-in_ok-take_value-in-Some : goal.returns-in_ok-take_value-in-Some
-returns-in_ok-take_value-in-Some c =
-    takes_value c.args.verb c.args.word.now c.in-Some.setting c.args.self.now _ c.in-Some.is
-    c.in_ok-take_value-in-Some.ensures.options c.in_ok-take_value-in-Some.ensures.pending
