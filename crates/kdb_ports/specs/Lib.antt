@@ -2,3 +2,4 @@ pub mod Told
 pub mod Memory
 pub mod ChaCha
 pub mod Adapters
+pub mod Parts

@@ -10,9 +10,11 @@ pub mod sinks;
 pub mod sources;
 #[cfg(test)]
 mod tests;
+pub mod writing;
 
 pub use chacha::{ChaChaEntropy, SeededEntropy};
 pub use clocks::{Clock, MemoryClock, SystemClock};
 pub use entropies::{DrawFailed, Entropy, ZeroEntropy};
 pub use sinks::{MemorySink, Sink, WriteFailed, WriterSink};
 pub use sources::{MemorySource, ReadFailed, ReaderSource, Source};
+pub use writing::write_whole;

@@ -1,4 +1,6 @@
-use crate::{ChaChaEntropy, DrawFailed, Entropy, SeededEntropy};
+use crate::{
+    ChaChaEntropy, DrawFailed, Entropy, MemorySink, SeededEntropy, WriteFailed, write_whole,
+};
 use kdb_base::Fails;
 use std::cell::Cell;
 use std::io;
@@ -85,5 +87,17 @@ fn seeds_of_the_system(rt: HostRuntime) -> Result<(), Fail> {
     let mut second = [0; 32];
     SeededEntropy::new(&rt).draw(&mut second)?;
     assert_ne!(rt; first, second);
+    Ok(())
+}
+
+#[test]
+fn a_text_is_written_whole(rt: HostRuntime) -> Result<(), Fail> {
+    let fails = Fails::from_vec(vec![in rt.alloc(); 1u64]?);
+    let mut sink = MemorySink::new(rt.alloc(), fails)?;
+    write_whole(&mut sink, b"abc")?;
+    assert_eq!(rt; sink.written(), b"abc".as_slice());
+    assert_eq!(rt; write_whole(&mut sink, b"d"), Err(WriteFailed));
+    write_whole(&mut sink, b"")?;
+    assert_eq!(rt; sink.written(), b"abc".as_slice());
     Ok(())
 }
