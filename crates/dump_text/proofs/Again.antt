@@ -25,7 +25,8 @@ use Rattle.princ_record.specs.Policies.{policy, policy_at, policy_field, IsPolic
 use Rattle.princ_record.specs.Princs.{princ, princ_field}
 use Rattle.princ_rows.specs.Rows.{RowLists, AreRows}
 use Rattle.princ_record.specs.declared.princs.Princ.{Princ}
-use Rattle.dump_text.specs.Dumps.{ended, realm_line, point_line, princ_line, policy_line, end_line, six_digits, head_text, rows_text, row_count, dump_text}
+use Rattle.kadm_values.specs.Points.{point_text, six_digits}
+use Rattle.dump_text.specs.Dumps.{ended, realm_line, point_line, princ_line, policy_line, end_line, head_text, rows_text, row_count, dump_text}
 use Rattle.dump_text.specs.Lines.{lacks}
 use Rattle.dump_text.specs.Readings.{behind, realm_of, realm_in, with_digit, number_of, before_blank, behind_blank, near_time, near_point, is_point, written_so, point_in, bytes_or_none, hex_of, princ_of, policy_of}
 use Rattle.dump_text.specs.Judged.{Said, nothing, after, after_title, after_realm, after_point, after_row, after_end, with_princ, with_policy, policy_or_end, princ_or_other, dump_of, judged, judged_from, line_behind, IsDump, IsDumpText}
@@ -134,13 +135,13 @@ unfolding written_so
 written_again p good = rw (point_test p good, bytes_same (point_line p) (point_line p) refl) refl
 
 pub point_again : (p : Point) → IsPoint p → point_in (point_line p) ≡ Some p
-unfolding point_in point_line
+unfolding point_in point_line point_text
 point_again p good =
     ap (option_and_then (λ text. written_so (codes "point " ++ point_words p) (near_point text))) (behind_again (codes "point ") (point_words p))
     ∙ ap (written_so (codes "point " ++ point_words p)) (near_again p good) ∙ written_again p good
 
 pub point_lacks : (p : Point) → IsPoint p → lacks 10 (point_line p) ≡ true
-unfolding point_line lacks
+unfolding point_line point_text lacks
 point_lacks p good =
     let a = good.sno in let b = good.time.secs in let c = good.time.usecs in
     lacks-append 10 (decimal p.sno) (32 ∷ (decimal p.time.secs ++ (46 ∷ six_digits p.time.usecs))) (number_lacks 10 p.sno (omega arith) refl)

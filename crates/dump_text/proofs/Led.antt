@@ -21,7 +21,8 @@ use Rattle.princ_rows.specs.Entries.{same_bytes}
 use Rattle.princ_record.specs.Policies.{policy, policy_at, policy_field, IsPolicy}
 use Rattle.princ_record.specs.Princs.{princ, princ_at, princ_field}
 use Rattle.princ_record.specs.declared.princs.Princ.{Princ}
-use Rattle.dump_text.specs.Dumps.{realm_line, point_line, princ_line, policy_line, end_line, six_digits, row_count}
+use Rattle.kadm_values.specs.Points.{point_text, six_digits}
+use Rattle.dump_text.specs.Dumps.{realm_line, point_line, princ_line, policy_line, end_line, row_count}
 use Rattle.dump_text.specs.Readings.{behind, realm_of, realm_in, near_point, is_point, written_so, point_in, bytes_or_none, hex_of, princ_of, policy_of}
 use Rattle.dump_text.specs.Judged.{Said, rows_of, is_in_order, after_title, after_realm, after_point, with_princ, with_policy, after_end, policy_or_end, princ_or_other, after_row, point_or_row, realm_or_later, title_or_later, after}
 use Rattle.dump_text.specs.Reader.{Grows}
@@ -239,7 +240,7 @@ length-six n lt =
     omega (arith, digits, length-append (replicate (6 - length (decimal n)) 48) (decimal n), length-replicate {A = ℕ} (6 - length (decimal n)) 48)
 
 length-point : (p : Point) → is_point p ≡ true → length (point_line p) ≤ 34
-unfolding point_line
+unfolding point_line point_text
 length-point p good =
     let parts = and_parts (nat_lt p.sno 4294967296) (nat_lt p.time.secs 4294967296 && nat_lt p.time.usecs 1000000) good in
     let times = and_parts (nat_lt p.time.secs 4294967296) (nat_lt p.time.usecs 1000000) parts.1 in

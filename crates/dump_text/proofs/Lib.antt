@@ -1,6 +1,5 @@
 pub mod Again
 pub mod Blanks
-pub mod Digits
 pub mod Firsts
 pub mod Going
 pub mod Judging

@@ -14,7 +14,8 @@ use Rattle.policy_rules.specs.Rules.{Rules}
 use Rattle.princ_rows.specs.Rows.{RowLists}
 use Rattle.princ_record.specs.declared.princs.Princ.{Princ}
 use Rattle.dump_text.specs.Dumps.{ended, princ_line, policy_line, end_line, row_count, rows_text}
-use Rattle.dump_text.specs.Parts.{SaidPart, Holds}
+use Rattle.dump_text.specs.Parts.{Holds}
+use Rattle.kdb_ports.specs.Parts.{SaidPart}
 
 -- one text and then another
 pub holds_next : (before x y b c : List ℕ) (t u v : Option (List ℕ)) → Holds (before ++ x) t u b → Holds (b ++ y) u v c → Holds (before ++ (x ++ y)) t v c

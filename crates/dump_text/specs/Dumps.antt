@@ -1,9 +1,10 @@
 -- A dump: a whole database as text. Its first line says what it is, and its last line how many rows stand
 -- before it. Each line ends with a line feed, and one space stands between words.
-use Rattle.std.specs.Prelude.{ℕ, ◌+◌, ◌-◌, List, ◌++◌, codes, length, replicate}
+use Rattle.std.specs.Prelude.{ℕ, ◌+◌, List, ◌++◌, codes, length}
 use Rattle.std.specs.Fmt.{decimal}
 use Rattle.std.specs.List.{flat_map}
 use Rattle.hex.specs.Hex.{encode_lower}
+use Rattle.kadm_values.specs.Points.{point_text}
 use Rattle.kdb_base.specs.declared.moments.Point.{Point}
 use Rattle.policy_rules.specs.Rules.{Rules}
 use Rattle.princ_record.specs.Policies.{policy}
@@ -16,10 +17,6 @@ use Rattle.dump_text.specs.declared.versions.Version.{Version}
 abbrev pub line_feed : List ℕ
 line_feed = codes "\n"
 
--- six digits
-abbrev pub six_digits : ℕ → List ℕ
-six_digits n = replicate (6 - length (decimal n)) 48 ++ decimal n
-
 -- ---- lines, without the line feeds that end them
 
 unfoldable pub realm_line : List ℕ → List ℕ
@@ -27,7 +24,7 @@ realm_line realm = codes "realm " ++ realm
 
 -- a serial, and the time with six digits of microseconds
 unfoldable pub point_line : Point → List ℕ
-point_line point = codes "point " ++ (decimal point.sno ++ (codes " " ++ (decimal point.time.secs ++ (codes "." ++ six_digits point.time.usecs))))
+point_line point = codes "point " ++ point_text point
 
 -- the record's spelling in hexadecimal
 unfoldable pub princ_line : Princ → List ℕ

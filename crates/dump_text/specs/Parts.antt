@@ -1,11 +1,6 @@
 -- A text that is written in parts.
-use Rattle.std.specs.Prelude.{ℕ, ◌≡◌, List, ◌++◌, Option, take}
+use Rattle.std.specs.Prelude.{ℕ, ◌≡◌, List, ◌++◌, Option}
 use Rattle.kdb_ports.specs.Told.{after_told}
-
--- a front of a text was written
-pub record SaidPart (text : List ℕ) (old new : Option (List ℕ)) : Type 0 where
-  pub count : ℕ
-  pub part : new ≡ after_told old (take count text)
 
 -- of a text the front was written, and these bytes are held
 pub record Holds (text : List ℕ) (old new : Option (List ℕ)) (held : List ℕ) : Type 0 where

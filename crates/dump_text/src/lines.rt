@@ -2,10 +2,11 @@
 ghost use Rattle.std.specs.Prelude.{◌≡◌, ◌++◌, IfOk, OnOk, string_bytes};
 ghost use Rattle.hex.specs.Hex.{encode_lower};
 ghost use Rattle.princ_record.specs.Princs.{IsPrinc};
-ghost use Rattle.dump_text.specs.Dumps.{end_line, ended, head_text, point_line, policy_line, princ_line, realm_line, six_digits};
+ghost use Rattle.dump_text.specs.Dumps.{end_line, ended, head_text, point_line, policy_line, princ_line, realm_line};
 ghost use Rattle.dump_text.specs.Versions.{title};
 ghost use Rattle.dump_text.specs.declared.versions.Version.TheVariants.{Two};
 
+use kadm_values::push_point;
 use kdb_base::{MemoryOut, Point};
 use kdb_format::writing::push_bytes;
 use policy_rules::Policy;
@@ -38,29 +39,22 @@ fn push_realm(out: &mut Vec<u8>, realm: &[u8]) -> Result<(), MemoryOut>
     Ok(())
 }
 
-/// Six digits.
-fn print_micros(alloc: Global, usecs: u32) -> Result<String, MemoryOut>
-    ensures { IfOk result (λ text. string_bytes text ≡ six_digits usecs) }
-{
-    Ok(format!(in alloc; "{usecs:06}")?)
-}
-
+/// The line of a point.
 #[tactic(auto, unfolding(crate::specs::Dumps::point_line))]
-pub(crate) fn print_point(alloc: Global, point: &Point) -> Result<String, MemoryOut>
-    ensures { IfOk result (λ text. string_bytes text ≡ point_line point.now) }
+pub(crate) fn print_point(alloc: Global, point: &Point) -> Result<Vec<u8>, MemoryOut>
+    ensures { IfOk result (λ text. text.items ≡ point_line point.now) }
 {
-    let sno = point.sno;
-    let secs = point.time.secs();
-    let micros = print_micros(alloc, point.time.usecs())?;
-    let micros = micros.as_str();
-    Ok(format!(in alloc; "point {sno} {secs}.{micros}")?)
+    let mut text = Vec::new(alloc);
+    push_bytes(&mut text, b"point ")?;
+    push_point(alloc, &mut text, point)?;
+    Ok(text)
 }
 
-fn push_point(alloc: Global, out: &mut Vec<u8>, point: &Point) -> Result<(), MemoryOut>
+fn push_point_line(alloc: Global, out: &mut Vec<u8>, point: &Point) -> Result<(), MemoryOut>
     ensures { OnOk result (out.new.items ≡ out.old.items ++ ended (point_line point.now)) }
 {
     let text = print_point(alloc, point)?;
-    push_bytes(out, text.as_bytes())?;
+    push_bytes(out, &text)?;
     push_bytes(out, b"\n")?;
     Ok(())
 }
@@ -77,7 +71,7 @@ pub(crate) fn push_head(
 {
     push_title(out)?;
     push_realm(out, realm)?;
-    push_point(alloc, out, point)?;
+    push_point_line(alloc, out, point)?;
     Ok(())
 }
 

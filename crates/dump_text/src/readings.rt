@@ -113,7 +113,7 @@ fn written_so(alloc: Global, line: &[u8], point: Point) -> Result<Point, LineSto
     ensures { Finds result (written_so line.now point) }
 {
     let text = print_point(alloc, &point)?;
-    if text.as_bytes() != line {
+    if text.as_slice() != line {
         return Err(LineStop::Bad);
     }
     Ok(point)

@@ -2,17 +2,18 @@
 ghost use Rattle.std.specs.Prelude.{◌≡◌, ◌≢◌, ◌≤◌, ◌++◌, [], ℕ, Err, IfOk, OnErr, OnOk};
 ghost use Rattle.std.specs.List.{All, flat_map};
 ghost use Rattle.kdb_base.specs.Causes.{HasCause, Rose};
+ghost use Rattle.kdb_ports.specs.Parts.{SaidPart};
 ghost use Rattle.kdb_ports.specs.Told.{after_told};
 ghost use Rattle.princ_record.specs.RowLimits.{IsRow};
 ghost use Rattle.princ_record.specs.Princs.{IsPrinc};
 ghost use Rattle.dump_text.specs.Dumps.{dump_text, end_line, ended, head_text, policy_line, princ_line, row_count, rows_text};
 ghost use Rattle.dump_text.specs.declared.versions.Version.TheVariants.{Two};
-ghost use Rattle.dump_text.specs.Parts.{Holds, SaidPart};
+ghost use Rattle.dump_text.specs.Parts.{Holds};
 
 use crate::lines::{push_end, push_head, push_policy, push_princ};
 use crate::stops::{DumpStop, WriteStop};
 use kdb_base::{MemoryOut, Point};
-use kdb_ports::{Sink, WriteFailed};
+use kdb_ports::{Sink, WriteFailed, write_whole};
 use policy_rules::Policy;
 use princ_record::Princ;
 use princ_rows::{Boxed, Rows};
@@ -23,19 +24,6 @@ const PAGE: usize = 65536;
 
 /// What the buffer holds at most: a page, and a line behind it.
 const ROOM: usize = 97600;
-
-/// Writes all of the bytes.
-fn write_whole<K: Sink>(sink: &mut K, bytes: &[u8]) -> Result<(), WriteFailed>
-    ensures ok { OnOk result (K.taken sink.new ≡ after_told (K.taken sink.old) bytes.now) }
-    ensures err { OnErr result (SaidPart bytes.now (K.taken sink.old) (K.taken sink.new)) }
-    ensures cause { HasCause (K.faults sink.old) (K.faults sink.new) result }
-{
-    let mut at = 0;
-    while at < bytes.len() {
-        at += sink.write(&bytes[at..])?;
-    }
-    Ok(())
-}
 
 /// Writes what is held, once it is a page.
 fn pass_on<K: Sink>(sink: &mut K, out: &mut Vec<u8>) -> Result<(), WriteFailed>
