@@ -1,8 +1,7 @@
 -- The name of the local administrator: a realm prints as it is.
-use Rattle.std.proofs.Common.{◌≡◌, ◌≤◌, ℕ, true, List, [], ◌∷◌, ◌++◌, length, codes, refl, sym, arith}
-use Rattle.std.specs.List.{list_all}
+use Rattle.std.proofs.Common.{◌≡◌, ℕ, List, [], ◌∷◌, ◌++◌, codes, refl, sym, arith}
 use Rattle.princ_name.specs.Bytes.{can_stand, is_refused, is_sign, printed_byte}
-use Rattle.princ_name.specs.Names.{IsName, printed, printed_parts, printed_text}
+use Rattle.princ_name.specs.Names.{IsName, printed_parts, printed_text}
 use Rattle.princ_name.specs.RealmLaws.{prints_in, is_name_in}
 use Rattle.princ_name.specs.Realms.{IsRealm}
 use Rattle.princ_record.specs.PrintedNames.{IsPrinted}

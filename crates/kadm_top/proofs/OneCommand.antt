@@ -1,7 +1,7 @@
 -- How a run goes on over one command.
 use Rattle.std.proofs.Common.{◌≡◌, ℕ, List, ◌∷◌, Bool, ◌||◌, refl, ap, sym, ◌∙◌, subst, inl, inr, ⊎_elim, arith}
 use Rattle.std.proofs.Math.Bool.{or_assoc}
-use Rattle.std.specs.Prelude.{Option, Some, None, Ok, IfSome, option_map, suc}
+use Rattle.std.specs.Prelude.{Option, Some, None, Ok, IfSome, option_map, suc, take}
 use Rattle.std.proofs.lemmas.Option.{same_Some}
 use Rattle.kdb_base.specs.Moment.{Moment}
 use Rattle.kdb_base.specs.declared.outcomes.Refusal.{Refusal}
@@ -23,7 +23,7 @@ use Rattle.kadm_top.specs.Parts.{SaidPart}
 use Rattle.kadm_top.specs.Replies.{text_of}
 use Rattle.kadm_top.specs.Standing.{Stands, StandsEither, RecoversToOne}
 use Rattle.kadm_top.specs.Steps.{Decides, reply_to, place_after, places_after, moments_after, is_refusal, outcome, said, ending}
-use Rattle.kadm_top.specs.Stops.{Stops, MayStop, StopsWithin, IsStopped}
+use Rattle.kadm_top.specs.Stops.{AnsweredWhole, IsAtRest, IsStopped, MayStop, Rests, RestsWithin, Stops, StopsWithin}
 use Rattle.kadm_top.specs.Run.{among_places, AmongWithin}
 
 -- a line that is skipped
@@ -36,14 +36,14 @@ decides_nothing asked place moments is = subst (λ (a : Asked). Decides a place 
     on (Some told) = (refl, refl, refl)
 
 -- a line that is refused before the database is looked at
-pub decides_refused : (asked : Asked) (refusal : Refusal) (place : Place) (moments : Option (ℕ → Moment)) → asked ≡ Refused refusal
-    → Decides asked place moments (Some (reply.Refused refusal)) place moments
+pub decides_refused : (asked : Asked) (refusal : Refusal) (place : Place) (moments : Option (ℕ → Moment)) (answer : Reply) → asked ≡ Refused refusal
+    → answer ≡ reply.Refused refusal → Decides asked place moments (Some answer) place moments
 unfolding reply_to place_after
-decides_refused asked refusal place moments is = subst (λ (a : Asked). Decides a place moments (Some (reply.Refused refusal)) place moments) (sym is) (on moments)
+decides_refused asked refusal place moments answer is answer_is = subst (λ (a : Asked). Decides a place moments (Some answer) place moments) (sym is) (on moments)
   where
-    on : (m : Option (ℕ → Moment)) → Decides (Refused refusal) place m (Some (reply.Refused refusal)) place m
+    on : (m : Option (ℕ → Moment)) → Decides (Refused refusal) place m (Some answer) place m
     on None = refl
-    on (Some told) = (refl, refl, refl)
+    on (Some told) = (ap (λ (r : Reply). Some r) answer_is, refl, refl)
 
 ending_step : (taken : Option (List ℕ)) (refused : Bool) (asked : Asked) (more : List Asked) (told : ℕ → Moment) (before : Place)
     → ending taken refused (Some (asked ∷ more)) (Some told) before
@@ -80,6 +80,31 @@ stops_within taken taken' asked more (Some told) moments' before later reply dec
     let h2 = subst (λ (m : Option (ℕ → Moment)). Stops (after_told taken (text_of reply)) (Some more) m later out one other) decides.2 h1 in
     let h3 = subst (λ (p : Place). Stops (after_told taken (text_of reply)) (Some more) (Some (moments_after asked told)) p out one other) decides.1 h2 in
     inr (subst (λ (r : Option Reply). Stops (after_told taken (text_of r)) (Some more) (Some (moments_after asked told)) (place_after asked before (told 0)) out one other) decides.0 h3)
+
+-- one line more was answered in full
+answered_more : (taken out : Option (List ℕ)) (asked : Asked) (more : List Asked) (told : ℕ → Moment) (before later : Place)
+    → AnsweredWhole (after_told taken (text_of (reply_to asked before (told 0)))) more (moments_after asked told) (place_after asked before (told 0)) out later
+    → AnsweredWhole taken (asked ∷ more) told before out later
+unfolding said
+answered_more taken out asked more told before later rest = record {
+  count = suc rest.count;
+  within = omega (arith, rest.within);
+  out_is = rest.out_is ∙ after_told-append taken (text_of (reply_to asked before (told 0))) (said (take rest.count more) (moments_after asked told) (place_after asked before (told 0))).bytes;
+  place_is = rest.place_is;
+}
+
+-- a run that rests in the others rests in all
+pub rests_within : (taken taken' : Option (List ℕ)) (asked : Asked) (more : List Asked) (moments moments' : Option (ℕ → Moment)) (before later : Place) (reply : Option Reply)
+    → Decides asked before moments reply later moments' → taken' ≡ after_told taken (text_of reply)
+    → RestsWithin (Rests taken' (Some more) moments' later) (Rests taken (Some (asked ∷ more)) moments before)
+unfolding Rests
+rests_within taken taken' asked more None moments' before later reply decides said_it = λ out at h. tt
+rests_within taken taken' asked more (Some told) moments' before later reply decides said_it = λ out at h.
+    let h1 = subst (λ (t : Option (List ℕ)). Rests t (Some more) moments' later out at) said_it h in
+    let h2 = subst (λ (m : Option (ℕ → Moment)). Rests (after_told taken (text_of reply)) (Some more) m later out at) decides.2 h1 in
+    let h3 = subst (λ (p : Place). Rests (after_told taken (text_of reply)) (Some more) (Some (moments_after asked told)) p out at) decides.1 h2 in
+    answered_more taken out asked more told before at
+    (subst (λ (r : Option Reply). Rests (after_told taken (text_of r)) (Some more) (Some (moments_after asked told)) (place_after asked before (told 0)) out at) decides.0 h3)
 
 either_same : {place : Place} {now : View} → Stands (Ok place) now → StandsEither (Ok place) (Ok place) now
 either_same stands = record { each = λ c image. inl (stands.each c image) }
@@ -210,6 +235,10 @@ pub among_still : {opened : Opened} (now : View) (commands : Option (List Asked)
     → LeavesOnly now now (among_places commands moments (place_of opened))
 among_still {opened} now commands moments holds =
     started now (among_places commands moments (place_of opened)) (λ c image. among_here commands moments (place_of opened) c (ap place_in (holds.each c image)))
+
+-- a run that rests where it may from there
+pub rested_within : {here there : Option (List ℕ) → Place → Type 0} (out : Option (List ℕ)) (now : View) → RestsWithin here there → IsAtRest here out now → IsAtRest there out now
+rested_within out now within rest = record { place = rest.place; may = within out rest.place rest.may; stands = rest.stands }
 
 -- a run that was stopped where it may be from there
 pub stopped_within : {here there : Option (List ℕ) → Place → Place → Type 0} (out : Option (List ℕ)) (now : View) → StopsWithin here there → IsStopped here out now → IsStopped there out now

@@ -23,9 +23,9 @@ use Rattle.kadm_top.specs.Halts.{status_after}
 use Rattle.kadm_top.specs.Parts.{SaidPart}
 use Rattle.kadm_top.specs.Standing.{Stands}
 use Rattle.kadm_top.specs.Steps.{Ending, EndsAs, ending}
-use Rattle.kadm_top.specs.Stops.{Stops, IsStopped}
+use Rattle.kadm_top.specs.Stops.{IsAtRest, IsStopped, Rests, Stops}
 use Rattle.kadm_top.specs.Intake.{coming, HasTaken}
-use Rattle.kadm_top.specs.Run.{Opening, Opens, Refuses, RunEnd, RunEndsAs, RunStops, RunLeaves, IsShortInput, WereTaken, OnEnd, OnStop, admin_of, among_places, behind_opening, behind_refusal, end_of, input_commands, refusal_line, run_end}
+use Rattle.kadm_top.specs.Run.{Opening, Opens, Refuses, Makes, Ends, RunEnd, RunEndsAs, RunStops, RunRests, RunLeaves, IsShortInput, WereTaken, OnEnd, OnStop, admin_of, among_places, behind_opening, behind_refusal, end_of, input_commands, refusal_line, run_end}
 
 -- a reader at the front of an input
 abbrev pub fresh : ReaderState
@@ -157,6 +157,20 @@ pub opened_stops : (opening : Opening) (place : Place) (old : View) (taken out :
 opened_stops opening place old taken out left moments later now is next stopped =
     subst (λ (o : Opening). RunStops o old taken left moments out now) (sym is)
     (inl (subst (λ (m : Option (ℕ → Moment)). IsStopped (Stops taken (input_commands place.realm left) m place) out now) next stopped))
+
+pub opened_rests : (opening : Opening) (place : Place) (old : View) (taken out : Option (List ℕ)) (left : Option (List ℕ)) (moments later : Option (ℕ → Moment)) (now : View)
+    → opening ≡ Opens place → later ≡ behind_opening moments → IsAtRest (Rests taken (input_commands place.realm left) later place) out now → RunRests opening old taken left moments out now
+opened_rests opening place old taken out left moments later now is next rest =
+    subst (λ (o : Opening). RunRests o old taken left moments out now) (sym is)
+    (inl (subst (λ (m : Option (ℕ → Moment)). IsAtRest (Rests taken (input_commands place.realm left) m place) out now) next rest))
+
+-- nothing was done at all
+pub nothing_done : (opening : Opening) (old : View) (taken out : Option (List ℕ)) (left : Option (List ℕ)) (moments : Option (ℕ → Moment)) (now : View)
+    → out ≡ taken → Keeps old now → RunRests opening old taken left moments out now
+nothing_done (Refuses refusal read) old taken out left moments now is keeps = (is, keeps)
+nothing_done (Opens place) old taken out left moments now is keeps = inr (is, keeps)
+nothing_done (Makes realm) old taken out left moments now is keeps = (is, keeps)
+nothing_done Ends old taken out left moments now is keeps = (is, keeps)
 
 pub opened_leaves : {old mid now : View} (opening : Opening) (place : Place) (left : Option (List ℕ)) (moments later : Option (ℕ → Moment))
     → opening ≡ Opens place → later ≡ behind_opening moments → Keeps old mid

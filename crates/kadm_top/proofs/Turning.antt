@@ -1,9 +1,9 @@
 -- How a session goes on over one line.
-use Rattle.std.proofs.Common.{◌≡◌, ℕ, List, [], ◌∷◌, ◌||◌, Bool, refl, ap, sym, ◌∙◌, subst, inl, true, false}
+use Rattle.std.proofs.Common.{◌≡◌, ℕ, List, [], ◌∷◌, ◌||◌, Bool, refl, ap, sym, ◌∙◌, subst, inl, true, false, arith}
 use Rattle.std.proofs.lemmas.Option.{same_Some}
 use Rattle.std.proofs.Math.Bool.{or-false}
 use Rattle.kdb_ports.proofs.Told.{after_told-nil}
-use Rattle.std.specs.Prelude.{Option, Some, None, Result, Ok, IfOk}
+use Rattle.std.specs.Prelude.{Option, Some, None, Result, Ok, Err, IfOk}
 use Rattle.kadm_top.specs.Turns.{GoesOn}
 use Rattle.kdb_base.specs.Moment.{Moment}
 use Rattle.kdb_disk.specs.View.{View}
@@ -14,7 +14,7 @@ use Rattle.kadm_lines.specs.Reader.{ReaderState}
 use Rattle.kadm_top.specs.Standing.{Stands}
 use Rattle.kadm_top.specs.declared.intake.Asked.{Asked}
 use Rattle.kadm_top.specs.Steps.{Ending, EndsAs, Said, said, end_with, ending, place_after}
-use Rattle.kadm_top.specs.Stops.{Stops, MayStop, StopsWithin, IsStopped}
+use Rattle.kadm_top.specs.Stops.{AnsweredWhole, IsAtRest, IsStopped, MayStop, Rests, RestsWithin, Stops, StopsWithin}
 use Rattle.kadm_top.specs.Run.{among_places, AmongWithin}
 use Rattle.kadm_top.specs.declared.intake.Next.{Next}
 use Rattle.kadm_top.specs.declared.intake.Next.TheVariants as next
@@ -42,6 +42,17 @@ within_on asked old None taken taken' moments moments' before later is step = λ
     subst (λ (o : Option (List Asked)). Stops taken o moments before out one other) (sym is) tt
 within_on asked old (Some more) taken taken' moments moments' before later is step = λ out one other h.
     subst (λ (o : Option (List Asked)). Stops taken o moments before out one other) (sym is) (step more out one other h)
+
+-- and of those to rest
+pub rests_on : (asked : Asked) (old new : Option (List Asked)) (taken taken' : Option (List ℕ)) (moments moments' : Option (ℕ → Moment)) (before later : Place)
+    → old ≡ before_commands asked new
+    → ((more : List Asked) → RestsWithin (Rests taken' (Some more) moments' later) (Rests taken (Some (asked ∷ more)) moments before))
+    → RestsWithin (Rests taken' new moments' later) (Rests taken old moments before)
+unfolding Rests
+rests_on asked old None taken taken' moments moments' before later is step = λ out at h.
+    subst (λ (o : Option (List Asked)). Rests taken o moments before out at) (sym is) tt
+rests_on asked old (Some more) taken taken' moments moments' before later is step = λ out at h.
+    subst (λ (o : Option (List Asked)). Rests taken o moments before out at) (sym is) (step more out at h)
 
 -- and of those that a crash leaves
 pub among_on : (asked : Asked) (old new : Option (List Asked)) (moments moments' : Option (ℕ → Moment)) (before later : Place)
@@ -91,6 +102,21 @@ stops_here taken (Some (asked ∷ commands)) (Some told) before now stands = rec
   stands = record { each = λ c image. inl (stands.each c image) };
 }
 
+none_answered : (taken : Option (List ℕ)) (commands : List Asked) (told : ℕ → Moment) (before : Place) → AnsweredWhole taken commands told before taken before
+unfolding said
+none_answered taken commands told before = record { count = 0; within = omega arith; out_is = sym (after_told-nil taken); place_is = refl }
+
+-- a run may rest where it is
+pub rests_here : (taken : Option (List ℕ)) (commands : Option (List Asked)) (moments : Option (ℕ → Moment)) (before : Place) (now : View)
+    → Stands (Ok before) now → IsAtRest (Rests taken commands moments before) taken now
+unfolding Rests
+rests_here taken commands moments before now stands = record { place = before; may = may commands moments; stands = stands }
+  where
+    may : (c : Option (List Asked)) (m : Option (ℕ → Moment)) → Rests taken c m before taken before
+    may None m = tt
+    may (Some lines) None = tt
+    may (Some lines) (Some told) = none_answered taken lines told before
+
 -- the first of what came, where the realm that was read for is the database's, and stays
 pub comes_first : (answer : Next) (asked : Asked) (read realm realm' : List ℕ) (old new : ReaderState) (told left : Option (List ℕ))
     → answer ≡ next.Line asked → read ≡ realm → realm' ≡ realm → Comes answer (coming read old told) (coming read new left)
@@ -128,3 +154,11 @@ goes_some {E} {r} P Q a b is some h =
 pub goes_none : {E : Type 0} {r : Result (Option Bool) E} (P : Bool → Type 0) (Q : Type 0) (a : Option Bool) → r ≡ Ok a → a ≡ None → IfOk r (λ (t : Option Bool). GoesOn t P Q) → Q
 goes_none {E} {r} P Q a is none h =
     subst (λ (t : Option Bool). GoesOn t P Q) none (subst (λ (x : Result (Option Bool) E). IfOk x (λ (t : Option Bool). GoesOn t P Q)) is h)
+
+-- an error is the same one in results of two types
+pub err_on : {A B E : Type 0} (r : Result A E) (p q : Result B E) (x y : E) → r ≡ Err x → p ≡ Err x → q ≡ Err y → p ≡ q → r ≡ Err y
+err_on {A} {B} {E} r p q x y r_is p_is q_is same = r_is ∙ ap (λ (e : E). Err e) (sym (ap error p_is) ∙ ap error same ∙ ap error q_is)
+  where
+    error : Result B E → E
+    error (Ok value) = x
+    error (Err e) = e

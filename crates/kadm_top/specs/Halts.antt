@@ -15,10 +15,6 @@ use Rattle.kadm_top.specs.declared.halts.ReadHalt.TheVariants as read
 use Rattle.kadm_top.specs.declared.halts.SessionHalt.{SessionHalt}
 use Rattle.kadm_top.specs.declared.halts.SessionHalt.TheVariants as session
 
-abbrev pub say_as_answer : SayHalt → AnswerHalt
-say_as_answer say.MemoryOut = answer.MemoryOut
-say_as_answer say.WriteFault = answer.WriteFault
-
 abbrev pub say_as_session : SayHalt → SessionHalt
 say_as_session say.MemoryOut = session.MemoryOut
 say_as_session say.WriteFault = session.WriteFault

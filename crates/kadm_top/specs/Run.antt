@@ -28,7 +28,7 @@ use Rattle.kadm_top.specs.declared.words.Words.TheVariants.{Admin, Create, Destr
 use Rattle.kadm_top.specs.Input.{commands_in}
 use Rattle.kadm_top.specs.Standing.{Stands, LeavesAll, RecoversToOne}
 use Rattle.kadm_top.specs.Steps.{Ending, ending, places_after}
-use Rattle.kadm_top.specs.Stops.{Stops, IsStopped}
+use Rattle.kadm_top.specs.Stops.{Stops, IsStopped, Rests, IsAtRest}
 
 -- ---- what a run begins with, by its words and the files
 
@@ -137,6 +137,13 @@ RunStops (Refuses refusal read) old taken left moments out now = SaidPart (refus
 RunStops (Opens place) old taken left moments out now = IsStopped (Stops taken (input_commands place.realm left) (behind_opening moments) place) out now ⊎ ((out ≡ taken) × Keeps old now)
 RunStops (Makes realm) old taken left moments out now = IfTold moments (λ told. MakesStop realm old taken told out now)
 RunStops Ends old taken left moments out now = EndsStop old taken out now
+
+-- for want of memory: the first so many lines were done and are answered in full, or nothing was done at all
+abbrev pub RunRests : Opening → View → Option (List ℕ) → Option (List ℕ) → Option (ℕ → Moment) → Option (List ℕ) → View → Type 0
+RunRests (Refuses refusal read) old taken left moments out now = (out ≡ taken) × Keeps old now
+RunRests (Opens place) old taken left moments out now = IsAtRest (Rests taken (input_commands place.realm left) (behind_opening moments) place) out now ⊎ ((out ≡ taken) × Keeps old now)
+RunRests (Makes realm) old taken left moments out now = (out ≡ taken) × Keeps old now
+RunRests Ends old taken left moments out now = (out ≡ taken) × Keeps old now
 
 -- ---- what a crash may leave at any moment of it
 

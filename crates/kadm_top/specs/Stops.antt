@@ -5,7 +5,7 @@ use Rattle.kdb_ports.specs.Told.{after_told}
 use Rattle.kdb_disk.specs.View.{View}
 use Rattle.kdb_store.specs.Places.{Place}
 use Rattle.kadm_top.specs.Parts.{SaidPart}
-use Rattle.kadm_top.specs.Standing.{StandsEither}
+use Rattle.kadm_top.specs.Standing.{Stands, StandsEither}
 use Rattle.kadm_top.specs.declared.intake.Asked.{Asked}
 use Rattle.kadm_top.specs.Steps.{said, text_to, place_after, moments_after}
 
@@ -58,3 +58,32 @@ pub record HasStoppedAfter (taken : List ℕ) (commands : List Asked) (moments :
   pub replies : (said (take answered commands) moments place).bytes ≡ written ++ unwritten
   pub one_is : one ≡ (said (take answered commands) moments place).place
   pub other_is : other ≡ (said (take done commands) moments place).place
+
+-- ---- where it stops for want of memory
+
+-- what is in the sink, and the place that a crash leaves
+abbrev pub Rest : Type 1
+Rest = Option (List ℕ) → Place → Type 0
+
+-- so many of the commands were done, and the replies to them are written in full
+pub record AnsweredWhole (taken : Option (List ℕ)) (commands : List Asked) (moments : ℕ → Moment) (place : Place) (out : Option (List ℕ)) (later : Place) : Type 0 where
+  pub count : ℕ
+  pub within : count ≤ length commands
+  pub out_is : out ≡ after_told taken (said (take count commands) moments place).bytes
+  pub place_is : later ≡ (said (take count commands) moments place).place
+
+-- the same, where the commands and the moments are told
+unfoldable pub Rests : Option (List ℕ) → Option (List Asked) → Option (ℕ → Moment) → Place → Rest
+Rests taken None moments place out later = ⊤
+Rests taken (Some commands) None place out later = ⊤
+Rests taken (Some commands) (Some moments) place out later = AnsweredWhole taken commands moments place out later
+
+-- wherever a run may rest from here, it may rest from there
+abbrev pub RestsWithin : Rest → Rest → Type 0
+RestsWithin here there = (out : Option (List ℕ)) (later : Place) → here out later → there out later
+
+-- a run has stopped so, with this in its sink, and what a crash leaves of its disk is that place alone
+pub record IsAtRest (rest : Rest) (out : Option (List ℕ)) (now : View) : Type 0 where
+  pub place : Place
+  pub may : rest out place
+  pub stands : Stands (Ok place) now

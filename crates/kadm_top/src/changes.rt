@@ -1,4 +1,4 @@
-ghost use Rattle.std.specs.Prelude.{◌≡◌, ◌≤◌, Some, Ok, Err, IfOk, OnOk};
+ghost use Rattle.std.specs.Prelude.{◌≡◌, ◌≤◌, Some, Ok, Err, IfOk, OnOk, OnErr};
 ghost use Rattle.kdb_base.specs.Causes.{Rose};
 ghost use Rattle.kdb_base.specs.declared.outcomes.Refusal.{Refusal as WhyNot};
 ghost use Rattle.kdb_base.specs.declared.outcomes.Halt.{Halt as Early};
@@ -11,12 +11,14 @@ ghost use Rattle.kdb_model.specs.Changes.{IsCommand};
 ghost use Rattle.kdb_model.specs.declared.replies.Reply.{Reply as Answered};
 ghost use Rattle.kdb_store.specs.Places.{Holds, place_of};
 ghost use Rattle.kdb_store.specs.Moments.{RecoversEither};
+ghost use Rattle.kadm_wire.specs.Replies.{reply_text};
 ghost use Rattle.kadm_top.specs.Changes.{change_reply, changed_place, changed_to, kept_with};
 ghost use Rattle.kadm_top.specs.Steps.{outcome, place_after};
 ghost use Rattle.kadm_top.specs.declared.intake.Asked.TheVariants.{Does};
 
 use crate::clients::local_client;
-use kdb_base::{Halt, Refusal, Stop, Time};
+use crate::replies::{Printed, print};
+use kdb_base::{Halt, Point, Refusal, Stop, Time};
 use kdb_disk::Disk;
 use kdb_model::{Command, Planned, Reply, plan};
 use kdb_store::Opened;
@@ -55,37 +57,50 @@ fn plan_local(
     }
 }
 
-/// Does a change at a moment of the clock. It is refused at the last serial.
+/// Does a change at a moment of the clock, and gives its reply, which is printed first: memory is taken
+/// before the first device call. It is refused at the last serial.
 fn commit<D: Disk>(
     alloc: Global,
     database: &mut Opened,
     disk: &mut D,
     op: Op,
     moment: Time,
-) -> Result<Reply, Halt>
+) -> Result<Printed, Halt>
     requires op { IsOp (Some op) }
     requires room { IsRoom (effect (Some op) database.old.image.rows) }
     requires name { IsNewName op database.old.image.rows }
     requires holds { D.tells → Holds database.old (D.view disk.old) }
-    ensures reply { IfOk result (λ reply. reply ≡ change_reply op moment (place_of database.old)) }
+    ensures reply { IfOk result (λ printed. printed.reply ≡ change_reply op moment (place_of database.old)) }
+    ensures text { IfOk result (λ printed. printed.text ≡ reply_text printed.reply) }
     ensures place { OnOk result (place_of database.new ≡ changed_place op moment (place_of database.old)) }
     ensures holds { D.tells → OnOk result (Holds database.new (D.view disk.new)) }
     ensures moments { D.tells → LeavesOnly (D.view disk.old) (D.view disk.new) (RecoversEither (place_of database.old) (changed_place op moment (place_of database.old))) }
+    ensures err { OnErr result (database.new ≡ database.old) }
+    ensures memory { result ≡ Err Halt.MemoryOut → disk.new ≡ disk.old }
     ensures same { D.loans disk.new ≡ D.loans disk.old }
     ensures later { D.faults disk.old ≤ D.faults disk.new }
     ensures cause { result ≡ Err Halt.DiskFault → Rose (D.faults disk.old) (D.faults disk.new) }
 {
     if database.image.point.sno == u32::MAX {
-        return Ok(Reply::Refused(Refusal::TimeEnd));
+        return match print(alloc, Reply::Refused(Refusal::TimeEnd)) {
+            Ok(printed) => Ok(printed),
+            Err(_) => Err(Halt::MemoryOut),
+        };
     }
+    let sno = database.image.point.sno + 1;
     let time = database.image.point.time.later(moment);
+    let printed = match print(alloc, Reply::Done(Point { sno, time })) {
+        Ok(printed) => printed,
+        Err(_) => return Err(Halt::MemoryOut),
+    };
     match database.commit(alloc, disk, op, time) {
-        Ok(point) => Ok(Reply::Done(point)),
+        Ok(_) => Ok(printed),
         Err(halt) => Err(halt),
     }
 }
 
-/// Does a command of the local administrator at a moment of the clock.
+/// Does a command of the local administrator at a moment of the clock, and gives its reply. Where memory
+/// is wanted and not there, nothing was done.
 #[tactic(auto, unfolding(crate::specs::Steps::place_after))]
 pub fn perform<D: Disk>(
     alloc: Global,
@@ -93,21 +108,30 @@ pub fn perform<D: Disk>(
     disk: &mut D,
     command: &Command,
     moment: Time,
-) -> Result<Reply, Halt>
+) -> Result<Printed, Halt>
     requires command { IsCommand database.old.image.realm command.now }
     requires holds { D.tells → Holds database.old (D.view disk.old) }
-    ensures reply { IfOk result (λ reply. reply ≡ (outcome (place_of database.old) command.now moment).reply) }
+    ensures reply { IfOk result (λ printed. printed.reply ≡ (outcome (place_of database.old) command.now moment).reply) }
+    ensures text { IfOk result (λ printed. printed.text ≡ reply_text printed.reply) }
     ensures place { OnOk result (place_of database.new ≡ place_after (Does command.now) (place_of database.old) moment) }
     ensures holds { D.tells → OnOk result (Holds database.new (D.view disk.new)) }
     ensures moments { D.tells → LeavesOnly (D.view disk.old) (D.view disk.new) (RecoversEither (place_of database.old) (place_after (Does command.now) (place_of database.old) moment)) }
+    ensures err { OnErr result (database.new ≡ database.old) }
+    ensures memory { result ≡ Err Halt.MemoryOut → disk.new ≡ disk.old }
     ensures same { D.loans disk.new ≡ D.loans disk.old }
     ensures later { D.faults disk.old ≤ D.faults disk.new }
     ensures cause { result ≡ Err Halt.DiskFault → Rose (D.faults disk.old) (D.faults disk.new) }
 {
     match plan_local(alloc, database, command, moment) {
-        Ok(Planned::Answer(reply)) => Ok(reply),
+        Ok(Planned::Answer(reply)) => match print(alloc, reply) {
+            Ok(printed) => Ok(printed),
+            Err(_) => Err(Halt::MemoryOut),
+        },
         Ok(Planned::Change(op)) => commit(alloc, database, disk, op, moment),
-        Err(Stop::Refused(refusal)) => Ok(Reply::Refused(refusal)),
+        Err(Stop::Refused(refusal)) => match print(alloc, Reply::Refused(refusal)) {
+            Ok(printed) => Ok(printed),
+            Err(_) => Err(Halt::MemoryOut),
+        },
         Err(Stop::Halt(halt)) => Err(halt),
     }
 }

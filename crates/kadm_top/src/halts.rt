@@ -1,5 +1,5 @@
 ghost use Rattle.std.specs.Prelude.{◌≡◌};
-ghost use Rattle.kadm_top.specs.Halts.{say_as_answer, say_as_session, disk_as_answer, disk_as_session, answer_as_session, intake_as_read, read_as_session, status_of};
+ghost use Rattle.kadm_top.specs.Halts.{say_as_session, disk_as_answer, disk_as_session, answer_as_session, intake_as_read, read_as_session, status_of};
 
 use kadm_lines::IntakeFault;
 use kdb_base::{Halt, Status};
@@ -35,17 +35,6 @@ pub enum SessionHalt {
     WriteFault,
     DiskFault,
     InputTooLong,
-}
-
-impl From<SayHalt> for AnswerHalt {
-    ghost from_gives = { λ from halt. halt ≡ say_as_answer from };
-
-    fn from(halt: SayHalt) -> AnswerHalt {
-        match halt {
-            SayHalt::MemoryOut => AnswerHalt::MemoryOut,
-            SayHalt::WriteFault => AnswerHalt::WriteFault,
-        }
-    }
 }
 
 impl From<Halt> for AnswerHalt {

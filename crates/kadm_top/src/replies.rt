@@ -1,18 +1,37 @@
-ghost use Rattle.std.specs.Prelude.{◌≡◌, ◌≤◌, Err, OnOk, OnErr};
+ghost use Rattle.std.specs.Prelude.{◌≡◌, ◌≤◌, Err, IfOk, OnOk, OnErr};
 ghost use Rattle.kdb_base.specs.Causes.{Rose, HasCause};
 ghost use Rattle.kdb_ports.specs.Told.{after_told};
 ghost use Rattle.kadm_wire.specs.Replies.{reply_text};
 ghost use Rattle.kadm_top.specs.Parts.{SaidPart};
-ghost use Rattle.kadm_top.specs.Replies.{ended_text, text_of};
+ghost use Rattle.kadm_top.specs.Replies.{ended_text, text_in};
 
 use crate::halts::SayHalt;
 use kadm_wire::print_reply;
+use kdb_base::{Blob, MemoryOut};
 use kdb_model::Reply;
 use kdb_ports::{Sink, WriteFailed};
 use std::alloc::Global;
 
 /// The answer to `destroy`.
 const ENDED: &[u8] = b"ok\n";
+
+/// A reply with its bytes.
+#[derive(Debug, Drop)]
+pub struct Printed {
+    pub reply: Reply,
+    pub text: Blob,
+}
+
+/// Prints a reply. It is printed before its change is made: what follows a change wants no memory.
+pub fn print(alloc: Global, reply: Reply) -> Result<Printed, MemoryOut>
+    ensures reply { IfOk result (λ printed. printed.reply ≡ reply) }
+    ensures text { IfOk result (λ printed. printed.text ≡ reply_text reply) }
+{
+    match print_reply(alloc, &reply) {
+        Ok(text) => Ok(Printed { reply, text }),
+        Err(_) => Err(MemoryOut),
+    }
+}
 
 /// Writes all of the bytes.
 pub(crate) fn write_whole<K: Sink>(sink: &mut K, bytes: &[u8]) -> Result<(), WriteFailed>
@@ -31,6 +50,7 @@ pub(crate) fn write_whole<K: Sink>(sink: &mut K, bytes: &[u8]) -> Result<(), Wri
 pub fn say<K: Sink>(alloc: Global, sink: &mut K, reply: &Reply) -> Result<(), SayHalt>
     ensures ok { OnOk result (K.taken sink.new ≡ after_told (K.taken sink.old) (reply_text reply.now)) }
     ensures err { OnErr result (SaidPart (reply_text reply.now) (K.taken sink.old) (K.taken sink.new)) }
+    ensures memory { result ≡ Err SayHalt.MemoryOut → sink.new ≡ sink.old }
     ensures later { K.faults sink.old ≤ K.faults sink.new }
     ensures cause { result ≡ Err SayHalt.WriteFault → Rose (K.faults sink.old) (K.faults sink.new) }
 {
@@ -43,18 +63,14 @@ pub fn say<K: Sink>(alloc: Global, sink: &mut K, reply: &Reply) -> Result<(), Sa
     }
 }
 
-/// Writes the reply whole, where there is one.
-pub fn say_any<K: Sink>(alloc: Global, sink: &mut K, reply: &Option<Reply>) -> Result<(), SayHalt>
-    ensures ok { OnOk result (K.taken sink.new ≡ after_told (K.taken sink.old) (text_of reply.now)) }
-    ensures err { OnErr result (SaidPart (text_of reply.now) (K.taken sink.old) (K.taken sink.new)) }
-    ensures later { K.faults sink.old ≤ K.faults sink.new }
-    ensures cause { result ≡ Err SayHalt.WriteFault → Rose (K.faults sink.old) (K.faults sink.new) }
+/// Writes a printed reply whole, where there is one. It takes no memory.
+pub fn write_any<K: Sink>(sink: &mut K, printed: &Option<Printed>) -> Result<(), WriteFailed>
+    ensures ok { OnOk result (K.taken sink.new ≡ after_told (K.taken sink.old) (text_in printed.now)) }
+    ensures err { OnErr result (SaidPart (text_in printed.now) (K.taken sink.old) (K.taken sink.new)) }
+    ensures cause { HasCause (K.faults sink.old) (K.faults sink.new) result }
 {
-    match reply {
-        Some(reply) => match say(alloc, sink, reply) {
-            Ok(()) => Ok(()),
-            Err(halt) => Err(halt),
-        },
+    match printed {
+        Some(printed) => write_whole(sink, printed.text.as_slice()),
         None => Ok(()),
     }
 }

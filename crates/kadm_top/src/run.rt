@@ -1,7 +1,7 @@
-ghost use Rattle.std.specs.Prelude.{◌≡◌, ◌≢◌, ◌≤◌, ◌⊎◌, true, false, [], List, ℕ, Option, Some, None, Result, Ok, Err, map, IfOk, OnOk, OnErr};
+ghost use Rattle.std.specs.Prelude.{◌≡◌, ◌≢◌, ◌≤◌, ◌⊎◌, true, false, [], List, ℕ, Option, Some, None, Result, Ok, Err, map, IfOk, IfSome, OnOk, OnErr};
 ghost use Rattle.kdb_base.specs.Causes.{Rose};
 ghost use Rattle.kdb_base.specs.Moment.{Moment};
-ghost use Rattle.kdb_base.specs.declared.outcomes.Halt.TheVariants.{DiskFault};
+ghost use Rattle.kdb_base.specs.declared.outcomes.Halt.TheVariants.{DiskFault, MemoryOut};
 ghost use Rattle.kdb_base.specs.declared.outcomes.Stop.TheVariants.{Refused, Halt as Halts};
 ghost use Rattle.kdb_base.specs.declared.outcomes.Refusal.{Refusal as WhyNot};
 ghost use Rattle.kdb_base.specs.declared.outcomes.Refusal.TheVariants.{BadValue};
@@ -21,11 +21,11 @@ ghost use Rattle.kadm_top.specs.Words.{words_in};
 ghost use Rattle.kadm_top.specs.declared.words.Words.TheVariants.{Admin, Create};
 ghost use Rattle.kadm_top.specs.Standing.{Stands};
 ghost use Rattle.kadm_top.specs.Steps.{Ending, ending};
-ghost use Rattle.kadm_top.specs.Stops.{IsStopped, Stops};
-ghost use Rattle.kadm_top.specs.Run.{RunEnd, RunEndsAs, RunStops, RunLeaves, ReadsInput, IsShortInput, WereTaken, OnEnd, OnStop, admin_of, create_of, destroy_of, end_of, opening_of, among_places, input_commands, made, refusal_line, run_end};
+ghost use Rattle.kadm_top.specs.Stops.{IsStopped, Stops, IsAtRest, Rests};
+ghost use Rattle.kadm_top.specs.Run.{RunEnd, RunEndsAs, RunStops, RunRests, RunLeaves, ReadsInput, IsShortInput, WereTaken, OnEnd, OnStop, admin_of, behind_opening, create_of, destroy_of, end_of, opening_of, among_places, input_commands, made, refusal_line, run_end};
 
 use crate::halts::{SayHalt, SessionHalt, status_of};
-use crate::replies::{say, say_ended};
+use crate::replies::{print, say, say_ended, write_whole};
 use crate::session::serve;
 use crate::words::{Words, read_words};
 use kadm_lines::LineReader;
@@ -48,24 +48,11 @@ const BLOCK: u32 = 2048;
 fn refuse<K: Sink>(alloc: Global, sink: &mut K, refusal: Refusal) -> Result<(), SayHalt>
     ensures ok { OnOk result (K.taken sink.new ≡ after_told (K.taken sink.old) (refusal_line refusal)) }
     ensures err { OnErr result (SaidPart (refusal_line refusal) (K.taken sink.old) (K.taken sink.new)) }
+    ensures memory { result ≡ Err SayHalt.MemoryOut → sink.new ≡ sink.old }
     ensures later { K.faults sink.old ≤ K.faults sink.new }
     ensures cause { result ≡ Err SayHalt.WriteFault → Rose (K.faults sink.old) (K.faults sink.new) }
 {
     let reply = Reply::Refused(refusal);
-    match say(alloc, sink, &reply) {
-        Ok(()) => Ok(()),
-        Err(halt) => Err(halt),
-    }
-}
-
-/// Writes the point of a database that was made.
-fn say_point<K: Sink>(alloc: Global, sink: &mut K, point: Point) -> Result<(), SayHalt>
-    ensures ok { OnOk result (K.taken sink.new ≡ after_told (K.taken sink.old) (reply_text (Reply.Done point))) }
-    ensures err { OnErr result (SaidPart (reply_text (Reply.Done point)) (K.taken sink.old) (K.taken sink.new)) }
-    ensures later { K.faults sink.old ≤ K.faults sink.new }
-    ensures cause { result ≡ Err SayHalt.WriteFault → Rose (K.faults sink.old) (K.faults sink.new) }
-{
-    let reply = Reply::Done(point);
     match say(alloc, sink, &reply) {
         Ok(()) => Ok(()),
         Err(halt) => Err(halt),
@@ -86,6 +73,8 @@ fn session<S: Source, K: Sink, D: Disk, C: Clock>(
         → IfOk result (λ refused. RunEndsAs (K.taken sink.new) refused (C.moments clock.new) (D.view disk.old) (D.view disk.new) (end_of end)) }
     ensures stopped { D.tells → OnErr result
         (IsStopped (Stops (K.taken sink.old) (input_commands (place_of opened).realm (S.left source.old)) (C.moments clock.old) (place_of opened)) (K.taken sink.new) (D.view disk.new)) }
+    ensures memory { D.tells → result ≡ Err SessionHalt.MemoryOut
+        → IsAtRest (Rests (K.taken sink.old) (input_commands (place_of opened).realm (S.left source.old)) (C.moments clock.old) (place_of opened)) (K.taken sink.new) (D.view disk.new) }
     ensures moments { D.tells → LeavesOnly (D.view disk.old) (D.view disk.new) (among_places (input_commands (place_of opened).realm (S.left source.old)) (C.moments clock.old) (place_of opened)) }
     ensures spent { OnOk result (IsSpent (S.left source.new)) }
     ensures short { OnOk result (IsShortInput (S.left source.old)) }
@@ -121,6 +110,8 @@ fn admin<S: Source, K: Sink, D: Disk, C: Clock>(
         → IfOk result (λ refused. RunEndsAs (K.taken sink.new) refused (C.moments clock.new) (D.view disk.old) (D.view disk.new) end) }
     ensures stopped { D.tells →
         OnErr result (RunStops (admin_of (recovers (D.view disk.old).seen)) (D.view disk.old) (K.taken sink.old) (S.left source.old) (C.moments clock.old) (K.taken sink.new) (D.view disk.new)) }
+    ensures memory { D.tells → result ≡ Err SessionHalt.MemoryOut
+        → RunRests (admin_of (recovers (D.view disk.old).seen)) (D.view disk.old) (K.taken sink.old) (S.left source.old) (C.moments clock.old) (K.taken sink.new) (D.view disk.new) }
     ensures moments { D.tells → LeavesOnly (D.view disk.old) (D.view disk.new) (RunLeaves (admin_of (recovers (D.view disk.old).seen)) (D.view disk.old) (S.left source.old) (C.moments clock.old)) }
     ensures done { result ≡ Ok false → IsSpent (S.left source.new) × IsShortInput (S.left source.old) }
     ensures refused { result ≡ Ok true → (IsSpent (S.left source.new) × IsShortInput (S.left source.old)) ⊎ (source.new ≡ source.old) }
@@ -176,6 +167,7 @@ fn make_files<D: Disk>(alloc: Global, realm: &Blob, disk: &mut D, moment: Time) 
     ensures moments { D.tells → LeavesOnly (D.view disk.old) (D.view disk.new) (Creates (D.view disk.old) (made realm.now moment)) }
     ensures refused { D.tells → (refusal : WhyNot) → result ≡ Err (Refused refusal) → Keeps (D.view disk.old) (D.view disk.new) }
     ensures there { D.tells → in_force ((D.view disk.old).seen 0) ≢ Nothing → Keeps (D.view disk.old) (D.view disk.new) }
+    ensures memory { result ≡ Err (Halts MemoryOut) → disk.new ≡ disk.old }
     ensures later { D.faults disk.old ≤ D.faults disk.new }
     ensures cause { result ≡ Err (Halts DiskFault) → Rose (D.faults disk.old) (D.faults disk.new) }
 {
@@ -196,7 +188,47 @@ fn make_files<D: Disk>(alloc: Global, realm: &Blob, disk: &mut D, moment: Time) 
     }
 }
 
-/// Makes a database of this realm, and answers its point.
+/// Makes a database of this realm at a moment of the clock, and writes the text of its point.
+fn make_printed<K: Sink, D: Disk>(
+    alloc: Global,
+    realm: &Blob,
+    sink: &mut K,
+    disk: &mut D,
+    moment: Time,
+    text: &[u8],
+) -> Result<bool, SessionHalt>
+    requires realm { is_realm realm.now ≡ true }
+    requires text { text.now ≡ reply_text (Reply.Done (made realm.now moment).point) }
+    ensures ended { D.tells → (left : Option (List ℕ)) (moments : Option (ℕ → Moment)) (end : RunEnd) → IfSome moments (λ told. moment ≡ told 0)
+        → run_end (create_of realm.now (in_force ((D.view disk.old).seen 0))) (K.taken sink.old) left moments ≡ Some end
+        → IfOk result (λ refused. RunEndsAs (K.taken sink.new) refused (behind_opening moments) (D.view disk.old) (D.view disk.new) end) }
+    ensures stopped { D.tells → (left : Option (List ℕ)) (moments : Option (ℕ → Moment)) → IfSome moments (λ told. moment ≡ told 0)
+        → OnErr result (RunStops (create_of realm.now (in_force ((D.view disk.old).seen 0))) (D.view disk.old) (K.taken sink.old) left moments (K.taken sink.new) (D.view disk.new)) }
+    ensures moments { D.tells → (left : Option (List ℕ)) (moments : Option (ℕ → Moment)) → IfSome moments (λ told. moment ≡ told 0)
+        → LeavesOnly (D.view disk.old) (D.view disk.new) (RunLeaves (create_of realm.now (in_force ((D.view disk.old).seen 0))) (D.view disk.old) left moments) }
+    ensures memory { D.tells → result ≡ Err SessionHalt.MemoryOut → (sink.new ≡ sink.old) × Keeps (D.view disk.old) (D.view disk.new) }
+    ensures sink_later { K.faults sink.old ≤ K.faults sink.new }
+    ensures disk_later { D.faults disk.old ≤ D.faults disk.new }
+    ensures read { result ≡ Err SessionHalt.ReadFault → ⊥ }
+    ensures long { result ≡ Err SessionHalt.InputTooLong → ⊥ }
+    ensures write { result ≡ Err SessionHalt.WriteFault → Rose (K.faults sink.old) (K.faults sink.new) }
+    ensures disk { result ≡ Err SessionHalt.DiskFault → Rose (D.faults disk.old) (D.faults disk.new) }
+{
+    match make_files(alloc, realm, disk, moment) {
+        Ok(()) => match write_whole(sink, text) {
+            Ok(()) => Ok(false),
+            Err(_) => Err(SessionHalt::WriteFault),
+        },
+        Err(Stop::Refused(refusal)) => match refuse(alloc, sink, refusal) {
+            Ok(()) => Ok(true),
+            Err(halt) => Err(SessionHalt::from(halt)),
+        },
+        Err(Stop::Halt(halt)) => Err(SessionHalt::from(halt)),
+    }
+}
+
+/// Makes a database of this realm, and answers its point, which is printed first: memory is taken before
+/// the first device call.
 fn make<K: Sink, D: Disk, C: Clock>(
     alloc: Global,
     realm: &Blob,
@@ -210,6 +242,7 @@ fn make<K: Sink, D: Disk, C: Clock>(
         → IfOk result (λ refused. RunEndsAs (K.taken sink.new) refused (C.moments clock.new) (D.view disk.old) (D.view disk.new) end) }
     ensures stopped { D.tells → (left : Option (List ℕ))
         → OnErr result (RunStops (create_of realm.now (in_force ((D.view disk.old).seen 0))) (D.view disk.old) (K.taken sink.old) left (C.moments clock.old) (K.taken sink.new) (D.view disk.new)) }
+    ensures memory { D.tells → result ≡ Err SessionHalt.MemoryOut → (sink.new ≡ sink.old) × Keeps (D.view disk.old) (D.view disk.new) }
     ensures moments { D.tells → (left : Option (List ℕ)) → LeavesOnly (D.view disk.old) (D.view disk.new) (RunLeaves (create_of realm.now (in_force ((D.view disk.old).seen 0))) (D.view disk.old) left (C.moments clock.old)) }
     ensures sink_later { K.faults sink.old ≤ K.faults sink.new }
     ensures disk_later { D.faults disk.old ≤ D.faults disk.new }
@@ -219,16 +252,13 @@ fn make<K: Sink, D: Disk, C: Clock>(
     ensures disk { result ≡ Err SessionHalt.DiskFault → Rose (D.faults disk.old) (D.faults disk.new) }
 {
     let moment = clock.now();
-    match make_files(alloc, realm, disk, moment) {
-        Ok(()) => match say_point(alloc, sink, first_point(moment)) {
-            Ok(()) => Ok(false),
-            Err(halt) => Err(SessionHalt::from(halt)),
-        },
-        Err(Stop::Refused(refusal)) => match refuse(alloc, sink, refusal) {
-            Ok(()) => Ok(true),
-            Err(halt) => Err(SessionHalt::from(halt)),
-        },
-        Err(Stop::Halt(halt)) => Err(SessionHalt::from(halt)),
+    let point = Point {
+        sno: 1,
+        time: moment,
+    };
+    match print(alloc, Reply::Done(point)) {
+        Ok(printed) => make_printed(alloc, realm, sink, disk, moment, printed.text.as_slice()),
+        Err(_) => Err(SessionHalt::MemoryOut),
     }
 }
 
@@ -246,6 +276,7 @@ fn create<K: Sink, D: Disk, C: Clock>(
         → IfOk result (λ refused. RunEndsAs (K.taken sink.new) refused (C.moments clock.new) (D.view disk.old) (D.view disk.new) end) }
     ensures stopped { D.tells → (left : Option (List ℕ))
         → OnErr result (RunStops (opening_of (Some (Create realm.now)) (D.view disk.old).seen) (D.view disk.old) (K.taken sink.old) left (C.moments clock.old) (K.taken sink.new) (D.view disk.new)) }
+    ensures memory { D.tells → result ≡ Err SessionHalt.MemoryOut → (sink.new ≡ sink.old) × Keeps (D.view disk.old) (D.view disk.new) }
     ensures moments { D.tells → (left : Option (List ℕ)) → LeavesOnly (D.view disk.old) (D.view disk.new) (RunLeaves (opening_of (Some (Create realm.now)) (D.view disk.old).seen) (D.view disk.old) left (C.moments clock.old)) }
     ensures bad_realm { is_realm realm.now ≡ false → disk.new ≡ disk.old }
     ensures sink_later { K.faults sink.old ≤ K.faults sink.new }
@@ -275,6 +306,7 @@ fn end<K: Sink, D: Disk>(alloc: Global, sink: &mut K, disk: &mut D) -> Result<bo
         → IfOk result (λ refused. RunEndsAs (K.taken sink.new) refused moments (D.view disk.old) (D.view disk.new) end) }
     ensures stopped { D.tells → (left : Option (List ℕ)) (moments : Option (ℕ → Moment))
         → OnErr result (RunStops (destroy_of (in_force ((D.view disk.old).seen 0))) (D.view disk.old) (K.taken sink.old) left moments (K.taken sink.new) (D.view disk.new)) }
+    ensures memory { D.tells → result ≡ Err SessionHalt.MemoryOut → (sink.new ≡ sink.old) × Keeps (D.view disk.old) (D.view disk.new) }
     ensures moments { D.tells → (left : Option (List ℕ)) (moments : Option (ℕ → Moment)) → LeavesOnly (D.view disk.old) (D.view disk.new) (RunLeaves (destroy_of (in_force ((D.view disk.old).seen 0))) (D.view disk.old) left moments) }
     ensures sink_later { K.faults sink.old ≤ K.faults sink.new }
     ensures disk_later { D.faults disk.old ≤ D.faults disk.new }
@@ -310,6 +342,8 @@ fn run_words<S: Source, K: Sink, D: Disk, C: Clock>(
         → IfOk result (λ refused. RunEndsAs (K.taken sink.new) refused (C.moments clock.new) (D.view disk.old) (D.view disk.new) end) }
     ensures stopped { D.tells →
         OnErr result (RunStops (opening_of words (D.view disk.old).seen) (D.view disk.old) (K.taken sink.old) (S.left source.old) (C.moments clock.old) (K.taken sink.new) (D.view disk.new)) }
+    ensures memory { D.tells → result ≡ Err SessionHalt.MemoryOut
+        → RunRests (opening_of words (D.view disk.old).seen) (D.view disk.old) (K.taken sink.old) (S.left source.old) (C.moments clock.old) (K.taken sink.new) (D.view disk.new) }
     ensures moments { D.tells → LeavesOnly (D.view disk.old) (D.view disk.new) (RunLeaves (opening_of words (D.view disk.old).seen) (D.view disk.old) (S.left source.old) (C.moments clock.old)) }
     ensures done { result ≡ Ok false → words ≡ Some Admin → IsSpent (S.left source.new) × IsShortInput (S.left source.old) }
     ensures refused { result ≡ Ok true → (IsSpent (S.left source.new) × IsShortInput (S.left source.old)) ⊎ (source.new ≡ source.old) }
@@ -375,6 +409,10 @@ pub fn run_local<S: Source, K: Sink, D: Disk, C: Clock, E: Entropy>(
     // Where it stops early: the bytes are a front of the replies, and a crash leaves the place after
     // some of the lines, among them each of which a byte was answered, or nothing has changed.
     ensures stopped { D.tells → OnStop result (RunStops (opening_of (words_in (map (λ word. word.items) words.now)) (D.view disk.old).seen) (D.view disk.old) (K.taken sink.old) (S.left source.old) (C.moments clock.old) (K.taken sink.new) (D.view disk.new)) }
+
+    // Where it stops for want of memory, the replies to the first so many lines are written in full, and a
+    // crash leaves the place after these lines alone, or nothing was written and nothing has changed.
+    ensures memory { D.tells → result ≡ Status.MemoryOut → RunRests (opening_of (words_in (map (λ word. word.items) words.now)) (D.view disk.old).seen) (D.view disk.old) (K.taken sink.old) (S.left source.old) (C.moments clock.old) (K.taken sink.new) (D.view disk.new) }
 
     // A crash at any moment of it leaves files like those that one would have left before it, or a place
     // of the run, or no database while one is made or once its end has begun.

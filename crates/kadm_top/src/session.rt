@@ -5,8 +5,9 @@ ghost use Rattle.kdb_store.specs.Places.{Holds, place_of};
 ghost use Rattle.kadm_top.specs.declared.intake.Asked.{Asked as Asks};
 ghost use Rattle.kadm_top.specs.Input.{IsAsked};
 ghost use Rattle.kadm_top.specs.Run.{among_places, AmongWithin};
+ghost use Rattle.kadm_top.specs.Replies.{reply_in, text_in, text_of};
 ghost use Rattle.kadm_top.specs.Steps.{Decides, Ending, EndsAs, ending, is_refusal, refuses};
-ghost use Rattle.kadm_top.specs.Stops.{Stops, StopsWithin, IsStopped};
+ghost use Rattle.kadm_top.specs.Stops.{Stops, StopsWithin, IsStopped, Rests, RestsWithin, IsAtRest};
 ghost use Rattle.kadm_top.specs.Intake.{coming, NoCommand, HasTaken};
 ghost use Rattle.kadm_top.specs.Turns.{GoesOn};
 ghost use Rattle.kadm_lines.specs.Reader.{work_left};
@@ -14,7 +15,7 @@ ghost use Rattle.kadm_lines.specs.Reader.{work_left};
 use crate::changes::perform;
 use crate::halts::{AnswerHalt, SessionHalt};
 use crate::intake::{Asked, Next, next_command};
-use crate::replies::say_any;
+use crate::replies::{Printed, print, write_any};
 use kadm_lines::LineReader;
 use kdb_base::Halt;
 use kdb_disk::Disk;
@@ -31,43 +32,49 @@ fn refuses(reply: &Reply) -> bool
 }
 
 /// Whether there is a reply, and it is a refusal.
-fn is_refusal(reply: &Option<Reply>) -> bool
-    ensures { result ≡ is_refusal reply.now }
+fn is_refusal(printed: &Option<Printed>) -> bool
+    ensures { result ≡ is_refusal (reply_in printed.now) }
 {
-    match reply {
-        Some(reply) => refuses(reply),
+    match printed {
+        Some(printed) => refuses(&printed.reply),
         None => false,
     }
 }
 
-/// Does what a line asks for. The clock is read where the line gives a command. Nothing, where the line
-/// is skipped.
+/// Does what a line asks for, and gives the printed reply; none, where the line is skipped. The clock is
+/// read where the line gives a command. Where memory is wanted and not there, nothing was done.
 fn decide<D: Disk, C: Clock>(
     alloc: Global,
     database: &mut Opened,
     disk: &mut D,
     clock: &mut C,
     asked: &Asked,
-) -> Result<Option<Reply>, Halt>
+) -> Result<Option<Printed>, Halt>
     requires asked { IsAsked database.old.image.realm asked.now }
     requires holds { D.tells → Holds database.old (D.view disk.old) }
-    ensures decided { IfOk result (λ reply. Decides asked.now (place_of database.old) (C.moments clock.old) reply (place_of database.new) (C.moments clock.new)) }
+    ensures decided { IfOk result (λ printed. Decides asked.now (place_of database.old) (C.moments clock.old) (reply_in printed) (place_of database.new) (C.moments clock.new)) }
+    ensures text { IfOk result (λ printed. text_in printed ≡ text_of (reply_in printed)) }
     ensures holds { D.tells → OnOk result (Holds database.new (D.view disk.new)) }
     ensures moments { D.tells → (more : List Asks) → LeavesOnly (D.view disk.old) (D.view disk.new) (among_places (Some (asked.now ∷ more)) (C.moments clock.old) (place_of database.old)) }
     ensures stopped { D.tells → (taken : Option (List ℕ)) (more : List Asks) → OnErr result
         (IsStopped (Stops taken (Some (asked.now ∷ more)) (C.moments clock.old) (place_of database.old)) taken (D.view disk.new)) }
     ensures realm { OnOk result ((place_of database.new).realm ≡ (place_of database.old).realm) }
+    ensures err { OnErr result (database.new ≡ database.old) }
+    ensures memory { result ≡ Err Halt.MemoryOut → disk.new ≡ disk.old }
     ensures same { D.loans disk.new ≡ D.loans disk.old }
     ensures later { D.faults disk.old ≤ D.faults disk.new }
     ensures cause { result ≡ Err Halt.DiskFault → Rose (D.faults disk.old) (D.faults disk.new) }
 {
     match asked {
         Asked::Nothing => Ok(None),
-        Asked::Refused(refusal) => Ok(Some(Reply::Refused(*refusal))),
+        Asked::Refused(refusal) => match print(alloc, Reply::Refused(*refusal)) {
+            Ok(printed) => Ok(Some(printed)),
+            Err(_) => Err(Halt::MemoryOut),
+        },
         Asked::Does(command) => {
             let moment = clock.now();
             match perform(alloc, database, disk, command, moment) {
-                Ok(reply) => Ok(Some(reply)),
+                Ok(printed) => Ok(Some(printed)),
                 Err(halt) => Err(halt),
             }
         }
@@ -75,7 +82,8 @@ fn decide<D: Disk, C: Clock>(
 }
 
 /// Does what a line asks for, and then writes the reply, if there is one. It answers whether that is a
-/// refusal.
+/// refusal. The writing takes no memory: where memory is wanted and not there, nothing was done, and
+/// nothing was written.
 fn answer<K: Sink, D: Disk, C: Clock>(
     alloc: Global,
     database: &mut Opened,
@@ -92,8 +100,12 @@ fn answer<K: Sink, D: Disk, C: Clock>(
     ensures within { (more : List Asks) → OnOk result
         (StopsWithin (Stops (K.taken sink.new) (Some more) (C.moments clock.new) (place_of database.new))
         (Stops (K.taken sink.old) (Some (asked.now ∷ more)) (C.moments clock.old) (place_of database.old))) }
+    ensures rests { (more : List Asks) → OnOk result
+        (RestsWithin (Rests (K.taken sink.new) (Some more) (C.moments clock.new) (place_of database.new))
+        (Rests (K.taken sink.old) (Some (asked.now ∷ more)) (C.moments clock.old) (place_of database.old))) }
     ensures stopped { D.tells → (more : List Asks) → OnErr result
         (IsStopped (Stops (K.taken sink.old) (Some (asked.now ∷ more)) (C.moments clock.old) (place_of database.old)) (K.taken sink.new) (D.view disk.new)) }
+    ensures memory { result ≡ Err AnswerHalt.MemoryOut → (sink.new ≡ sink.old) × (disk.new ≡ disk.old) × (database.new ≡ database.old) }
     ensures moments { D.tells → (more : List Asks) → LeavesOnly (D.view disk.old) (D.view disk.new) (among_places (Some (asked.now ∷ more)) (C.moments clock.old) (place_of database.old)) }
     ensures others { (more : List Asks) → OnOk result
         (AmongWithin (among_places (Some more) (C.moments clock.new) (place_of database.new)) (among_places (Some (asked.now ∷ more)) (C.moments clock.old) (place_of database.old))) }
@@ -105,13 +117,13 @@ fn answer<K: Sink, D: Disk, C: Clock>(
     ensures write { result ≡ Err AnswerHalt.WriteFault → Rose (K.faults sink.old) (K.faults sink.new) }
     ensures disk { result ≡ Err AnswerHalt.DiskFault → Rose (D.faults disk.old) (D.faults disk.new) }
 {
-    let reply = match decide(alloc, database, disk, clock, asked) {
-        Ok(reply) => reply,
+    let printed = match decide(alloc, database, disk, clock, asked) {
+        Ok(printed) => printed,
         Err(halt) => return Err(AnswerHalt::from(halt)),
     };
-    match say_any(alloc, sink, &reply) {
-        Ok(()) => Ok(is_refusal(&reply)),
-        Err(halt) => Err(AnswerHalt::from(halt)),
+    match write_any(sink, &printed) {
+        Ok(()) => Ok(is_refusal(&printed)),
+        Err(_) => Err(AnswerHalt::WriteFault),
     }
 }
 
@@ -135,6 +147,10 @@ fn turn<S: Source, K: Sink, D: Disk, C: Clock>(
         (λ _. StopsWithin (Stops (K.taken sink.new) (coming (place_of database.new).realm reader.new (S.left source.new)) (C.moments clock.new) (place_of database.new))
         (Stops (K.taken sink.old) (coming (place_of database.old).realm reader.old (S.left source.old)) (C.moments clock.old) (place_of database.old)))
         ⊤) }
+    ensures rests { IfOk result (λ turn. GoesOn turn
+        (λ _. RestsWithin (Rests (K.taken sink.new) (coming (place_of database.new).realm reader.new (S.left source.new)) (C.moments clock.new) (place_of database.new))
+        (Rests (K.taken sink.old) (coming (place_of database.old).realm reader.old (S.left source.old)) (C.moments clock.old) (place_of database.old)))
+        ⊤) }
     ensures others { IfOk result (λ turn. GoesOn turn
         (λ _. AmongWithin (among_places (coming (place_of database.new).realm reader.new (S.left source.new)) (C.moments clock.new) (place_of database.new))
         (among_places (coming (place_of database.old).realm reader.old (S.left source.old)) (C.moments clock.old) (place_of database.old)))
@@ -142,6 +158,7 @@ fn turn<S: Source, K: Sink, D: Disk, C: Clock>(
     ensures stopped { D.tells → OnErr result
         (IsStopped (Stops (K.taken sink.old) (coming (place_of database.old).realm reader.old (S.left source.old)) (C.moments clock.old) (place_of database.old)) (K.taken sink.new) (D.view disk.new)) }
     ensures moments { D.tells → LeavesOnly (D.view disk.old) (D.view disk.new) (among_places (coming (place_of database.old).realm reader.old (S.left source.old)) (C.moments clock.old) (place_of database.old)) }
+    ensures memory { result ≡ Err SessionHalt.MemoryOut → (sink.new ≡ sink.old) × (disk.new ≡ disk.old) × (database.new ≡ database.old) }
     ensures holds { D.tells → OnOk result (Holds database.new (D.view disk.new)) }
     ensures same { D.loans disk.new ≡ D.loans disk.old }
     ensures end { result ≡ Ok None → (K.taken sink.new ≡ K.taken sink.old) × (database.new ≡ database.old) × IsTrue reader.new.over }
@@ -189,6 +206,11 @@ pub fn serve<S: Source, K: Sink, D: Disk, C: Clock>(
     // Where it stops early, each command of which a byte was answered is in every image.
     ensures stopped { D.tells → OnErr result
         (IsStopped (Stops (K.taken sink.old) (coming (place_of database.old).realm reader.old (S.left source.old)) (C.moments clock.old) (place_of database.old)) (K.taken sink.new) (D.view disk.new)) }
+
+    // Where it stops for want of memory, so many commands were done, and the replies to them are written in
+    // full: no change stands without its reply.
+    ensures memory { D.tells → result ≡ Err SessionHalt.MemoryOut
+        → IsAtRest (Rests (K.taken sink.old) (coming (place_of database.old).realm reader.old (S.left source.old)) (C.moments clock.old) (place_of database.old)) (K.taken sink.new) (D.view disk.new) }
 
     // A crash at any moment leaves a place of the run.
     ensures moments { D.tells → LeavesOnly (D.view disk.old) (D.view disk.new) (among_places (coming (place_of database.old).realm reader.old (S.left source.old)) (C.moments clock.old) (place_of database.old)) }

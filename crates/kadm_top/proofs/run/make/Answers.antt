@@ -1,55 +1,34 @@
-use Rattle.std.proofs.Common.{◌∙◌, ap, inr, subst, true, Err}
+use Rattle.std.proofs.Common.{ℕ, Bool, Option, inl, refl, sym, subst}
+use Rattle.std.specs.Prelude.{IfOk}
+use Rattle.kdb_base.specs.Moment.{Moment}
 use Rattle.kdb_control.specs.Force.{in_force}
-use Rattle.kdb_base.specs.declared.moments.Point.{Point}
-use Rattle.kdb_ports.specs.Told.{after_told}
-use Rattle.kadm_top.specs.Parts.{SaidPart}
-use Rattle.kadm_wire.specs.Replies.{reply_text}
-use Rattle.kdb_model.specs.declared.replies.Reply.TheVariants.{Done}
-use Rattle.kdb_base.specs.declared.outcomes.Refusal.{Refusal}
-use Rattle.kadm_top.specs.Run.{create_of, refusal_line}
-use Rattle.kadm_top.proofs.Running.{refused_ended}
-use Rattle.kadm_top.proofs.Making.{made_ended, made_refused, made_stops, make_leaves, make_stops}
+use Rattle.kdb_disk.proofs.Runs.{kept, started}
+use Rattle.kdb_store.specs.Moments.{Creates}
+use Rattle.kadm_top.specs.Run.{RunEndsAs, made}
+use Rattle.kadm_top.proofs.Running.{like_itself}
+use Rattle.kadm_top.proofs.Making.{make_leaves, make_stops}
 use Rattle.kadm_top.proofs.run.make.Goals as goal
 
-pub returns-in-Ok-say_point-clause-ended : goal.returns-in-Ok-say_point-clause-ended
-returns-in-Ok-say_point-clause-ended g c = λ told left end e.
-    made_ended (create_of c.args.realm.now (in_force ((g.D.Disk.view c.args.disk.now).seen 0))) c.args.realm.now (g.K.Sink.taken c.args.sink.now) (g.K.Sink.taken c.say_point.new.sink) left _ _ c.now-moment.result _ _ end
-    (ap (create_of c.args.realm.now) (c.in-Ok.ensures.answer told)) c.now-moment.ensures.first c.now-moment.ensures.others e
-    (c.in-Ok-say_point.ensures.ok ∙ ap (λ (p : Point). after_told (g.K.Sink.taken c.args.sink.now) (reply_text (Done p))) c.first_point.ensures)
-    (c.in-Ok.ensures.stands told)
+pub returns-in-Ok-clause-ended : goal.returns-in-Ok-clause-ended
+returns-in-Ok-clause-ended g c = λ told left end e.
+    subst (λ (m : Option (ℕ → Moment)). IfOk c.make_printed.result (λ (refused : Bool). RunEndsAs (g.K.Sink.taken c.make_printed.new.sink) refused m (g.D.Disk.view c.args.disk.now) (g.D.Disk.view c.make_printed.new.disk) end))
+    (sym c.now-moment.ensures.others) (c.make_printed.ensures.ended told left _ end c.now-moment.ensures.first e)
 
-pub returns-in-Ok-say_point-clause-moments : goal.returns-in-Ok-say_point-clause-moments
-returns-in-Ok-say_point-clause-moments g c = λ told left.
-    make_leaves (in_force ((g.D.Disk.view c.args.disk.now).seen 0)) c.args.realm.now left _ c.now-moment.result c.now-moment.ensures.first (c.make_files.ensures.moments told) (c.make_files.ensures.there told)
+pub returns-in-Ok-clause-stopped : goal.returns-in-Ok-clause-stopped
+returns-in-Ok-clause-stopped g c = λ told left. c.make_printed.ensures.stopped told left _ c.now-moment.ensures.first
+
+pub returns-in-Ok-clause-moments : goal.returns-in-Ok-clause-moments
+returns-in-Ok-clause-moments g c = λ told left. c.make_printed.ensures.moments told left _ c.now-moment.ensures.first
 
 pub returns-in-Err-clause-stopped : goal.returns-in-Err-clause-stopped
 returns-in-Err-clause-stopped g c = λ told left.
-    made_stops (create_of c.args.realm.now (in_force ((g.D.Disk.view c.args.disk.now).seen 0))) c.args.realm.now _ (g.K.Sink.taken c.args.sink.now) (g.K.Sink.taken c.say_point.new.sink) left _ c.now-moment.result _
-    (ap (create_of c.args.realm.now) (c.in-Ok.ensures.answer told)) c.now-moment.ensures.first
-    (inr (subst (λ (p : Point). SaidPart (reply_text (Done p)) (g.K.Sink.taken c.args.sink.now) (g.K.Sink.taken c.say_point.new.sink)) c.first_point.ensures c.in-Err.ensures.err, c.in-Ok.ensures.stands told))
+    make_stops (in_force ((g.D.Disk.view c.args.disk.now).seen 0)) c.args.realm.now _ left _ c.now-moment.result c.now-moment.ensures.first
+    (started _ (Creates (g.D.Disk.view c.args.disk.now) (made c.args.realm.now c.now-moment.result)) (λ files image. inl (like_itself files image))) (λ _. kept _)
 
 pub returns-in-Err-clause-moments : goal.returns-in-Err-clause-moments
 returns-in-Err-clause-moments g c = λ told left.
-    make_leaves (in_force ((g.D.Disk.view c.args.disk.now).seen 0)) c.args.realm.now left _ c.now-moment.result c.now-moment.ensures.first (c.make_files.ensures.moments told) (c.make_files.ensures.there told)
+    make_leaves (in_force ((g.D.Disk.view c.args.disk.now).seen 0)) c.args.realm.now left _ c.now-moment.result c.now-moment.ensures.first
+    (started _ (Creates (g.D.Disk.view c.args.disk.now) (made c.args.realm.now c.now-moment.result)) (λ files image. inl (like_itself files image))) (λ _. kept _)
 
-pub returns-in-Ok-refuse-clause-ended : goal.returns-in-Ok-refuse-clause-ended
-returns-in-Ok-refuse-clause-ended g c = λ told left end e.
-    refused_ended (create_of c.args.realm.now (in_force ((g.D.Disk.view c.args.disk.now).seen 0))) c.in-Err-Refused.refusal true _ _ left _ _ _ _ end
-    (made_refused c.make_files.result c.in-Err-Refused.field-0 c.in-Err-Refused.refusal c.args.realm.now _ c.in-Err-Refused.is c.in-Err-Refused.field-0-is (c.make_files.ensures.answer told))
-    e (c.in-Ok-refuse.ensures.ok ∙ ap (λ (r : Refusal). after_told (g.K.Sink.taken c.args.sink.now) (refusal_line r)) c.in-Err-Refused.refusal-is) (c.make_files.ensures.refused told c.in-Err-Refused.refusal (c.in-Err-Refused.is ∙ ap Err c.in-Err-Refused.field-0-is)) c.now-moment.ensures.others
-
-pub returns-in-Ok-refuse-clause-moments : goal.returns-in-Ok-refuse-clause-moments
-returns-in-Ok-refuse-clause-moments g c = λ told left.
-    make_leaves (in_force ((g.D.Disk.view c.args.disk.now).seen 0)) c.args.realm.now left _ c.now-moment.result c.now-moment.ensures.first (c.make_files.ensures.moments told) (c.make_files.ensures.there told)
-
-pub returns-in-Err-refuse-clause-moments : goal.returns-in-Err-refuse-clause-moments
-returns-in-Err-refuse-clause-moments g c = λ told left.
-    make_leaves (in_force ((g.D.Disk.view c.args.disk.now).seen 0)) c.args.realm.now left _ c.now-moment.result c.now-moment.ensures.first (c.make_files.ensures.moments told) (c.make_files.ensures.there told)
-
-pub returns-in-Err-Halt-clause-stopped : goal.returns-in-Err-Halt-clause-stopped
-returns-in-Err-Halt-clause-stopped g c = λ told left.
-    make_stops (in_force ((g.D.Disk.view c.args.disk.now).seen 0)) c.args.realm.now _ left _ c.now-moment.result c.now-moment.ensures.first (c.make_files.ensures.moments told) (c.make_files.ensures.there told)
-
-pub returns-in-Err-Halt-clause-moments : goal.returns-in-Err-Halt-clause-moments
-returns-in-Err-Halt-clause-moments g c = λ told left.
-    make_leaves (in_force ((g.D.Disk.view c.args.disk.now).seen 0)) c.args.realm.now left _ c.now-moment.result c.now-moment.ensures.first (c.make_files.ensures.moments told) (c.make_files.ensures.there told)
+pub returns-in-Err-clause-memory : goal.returns-in-Err-clause-memory
+returns-in-Err-clause-memory g c = λ told is. (refl, kept _)

@@ -1,11 +1,11 @@
-use Rattle.std.proofs.Common.{◌∙◌, ap, refl, sym, subst, false, Option, Some}
+use Rattle.std.proofs.Common.{◌≡◌, ◌∙◌, ap, refl, rules, sym, subst, false, Option, Some}
 use Rattle.std.specs.Prelude.{OnErr}
 use Rattle.kdb_disk.specs.Moments.{LeavesOnly}
 use Rattle.kdb_disk.proofs.Runs.{kept}
 use Rattle.kdb_base.specs.declared.outcomes.Refusal.TheVariants.{BadLine}
 use Rattle.kadm_top.specs.declared.words.Words.{Words}
-use Rattle.kadm_top.specs.Run.{Opening, ReadsInput, RunLeaves, RunStops, opening_of, run_end}
-use Rattle.kadm_top.proofs.Running.{refused_ended, refused_stops, refused_leaves}
+use Rattle.kadm_top.specs.Run.{Opening, ReadsInput, RunLeaves, RunRests, RunStops, opening_of, run_end}
+use Rattle.kadm_top.proofs.Running.{nothing_done, refused_ended, refused_stops, refused_leaves}
 use Rattle.kadm_top.proofs.Making.{create_unread, destroy_unread}
 use Rattle.kadm_top.proofs.run.run_words.Goals as goal
 
@@ -93,3 +93,24 @@ returns-in-Err-clause-stopped g c = λ told.
 pub returns-in-Err-clause-moments : goal.returns-in-Err-clause-moments
 unfolding opening_of
 returns-in-Err-clause-moments g c = λ told. refused_leaves _ BadLine _ _ (ap (λ (w : Option Words). opening_of w (g.D.Disk.view c.args.disk.now).seen) c.in-None.is) (kept _)
+
+pub returns-in-Some-Admin-clause-memory : goal.returns-in-Some-Admin-clause-memory
+unfolding opening_of
+returns-in-Some-Admin-clause-memory g c = λ told is.
+    subst (λ (o : Opening). RunRests o (g.D.Disk.view c.args.disk.now) (g.K.Sink.taken c.args.sink.now) (g.S.Source.left c.args.source.now) (g.C.Clock.moments c.args.clock.now) (g.K.Sink.taken c.admin.new.sink) (g.D.Disk.view c.admin.new.disk))
+    (sym (ap (λ (w : Option Words). opening_of w (g.D.Disk.view c.args.disk.now).seen) (c.in-Some-Admin.is ∙ ap Some c.in-Some-Admin.field-0-is))) (c.admin.ensures.memory told is)
+
+pub returns-in-Some-Create-clause-memory : goal.returns-in-Some-Create-clause-memory
+returns-in-Some-Create-clause-memory g c = λ told is.
+    let done = c.create.ensures.memory told is in
+    nothing_done (opening_of c.args.words (g.D.Disk.view c.args.disk.now).seen) _ _ _ _ _ _ (ap g.K.Sink.taken done.0) done.1
+
+pub returns-in-Some-Destroy-clause-memory : goal.returns-in-Some-Destroy-clause-memory
+returns-in-Some-Destroy-clause-memory g c = λ told is.
+    let done = c.end.ensures.memory told is in
+    nothing_done (opening_of c.args.words (g.D.Disk.view c.args.disk.now).seen) _ _ _ _ _ _ (ap g.K.Sink.taken done.0) done.1
+
+pub returns-in-Err-clause-memory : goal.returns-in-Err-clause-memory
+returns-in-Err-clause-memory g c = λ told is.
+    let same : c.refuse.new.sink ≡ c.args.sink.now = search rules in
+    nothing_done (opening_of c.args.words (g.D.Disk.view c.args.disk.now).seen) _ _ _ _ _ _ (ap g.K.Sink.taken same) (kept _)

@@ -4,9 +4,9 @@ use Rattle.kdb_store.specs.Places.{place_of}
 use Rattle.kadm_top.specs.Run.{among_places, input_commands}
 use Rattle.kadm_top.specs.declared.intake.Asked.{Asked}
 use Rattle.kadm_top.specs.Steps.{ending}
-use Rattle.kadm_top.specs.Stops.{Stops, IsStopped}
+use Rattle.kadm_top.specs.Stops.{IsAtRest, IsStopped, Rests, Stops}
 use Rattle.kadm_top.proofs.OneCommand.{among_still, holds_stands}
-use Rattle.kadm_top.proofs.Turning.{stops_here}
+use Rattle.kadm_top.proofs.Turning.{rests_here, stops_here}
 use Rattle.kadm_top.proofs.Running.{run_ended, fresh_coming, fresh_taken, short_input, were_taken}
 use Rattle.kadm_top.proofs.run.session.Goals as goal
 
@@ -50,3 +50,11 @@ pub returns-clause-too_long : goal.returns-clause-too_long
 returns-clause-too_long g c = λ is.
     were_taken 4294967296 (g.S.Source.left c.args.source.now) _ _
     (c.serve.ensures.takes (g.S.Source.left c.args.source.now) (fresh_taken _ (g.S.Source.left c.args.source.now) c.in-Ok.ensures)) (c.serve.ensures.too_long (c.in-Err-serve.is ∙ is))
+
+pub returns-in-Err-clause-memory : goal.returns-in-Err-clause-memory
+returns-in-Err-clause-memory g c = λ told is. rests_here _ _ _ _ _ (holds_stands (c.requires.holds told))
+
+pub returns-clause-memory : goal.returns-clause-memory
+returns-clause-memory g c = λ told is.
+    subst (λ (commands : Option (List Asked)). IsAtRest (Rests (g.K.Sink.taken c.args.sink.now) commands (g.C.Clock.moments c.args.clock.now) (place_of c.args.opened)) (g.K.Sink.taken c.serve.new.sink) (g.D.Disk.view c.serve.new.disk))
+    (fresh_coming (place_of c.args.opened).realm _ (g.S.Source.left c.args.source.now) c.in-Ok.ensures) (c.serve.ensures.memory told (c.in-Err-serve.is ∙ is))

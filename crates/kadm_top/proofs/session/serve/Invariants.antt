@@ -5,10 +5,10 @@ use Rattle.kadm_lines.specs.Reader.{work_left}
 use Rattle.kadm_top.specs.Intake.{coming, HasTaken}
 use Rattle.kadm_top.specs.Run.{among_places, AmongWithin}
 use Rattle.kadm_top.specs.Steps.{ending}
-use Rattle.kadm_top.specs.Stops.{Stops, StopsWithin}
+use Rattle.kadm_top.specs.Stops.{Rests, RestsWithin, Stops, StopsWithin}
 use Rattle.kadm_top.proofs.session.serve.Given as goal
 
--- The run ends as it was to end at first, it may stop nowhere else, a crash left no other place so far, and the disk holds
+-- The run ends as it was to end at first, it may stop and rest nowhere else, a crash left no other place so far, and the disk holds
 -- the place that the store is at.
 abbrev pub invariant-loop-now_refused : goal.invariant-loop-now_refused
 invariant-loop-now_refused g l = record {
@@ -16,6 +16,8 @@ invariant-loop-now_refused g l = record {
       ≡ ending (g.K.Sink.taken l.sink) l.refused (coming (place_of l.database).realm l.reader (g.S.Source.left l.source)) (g.C.Clock.moments l.clock) (place_of l.database);
   within : StopsWithin (Stops (g.K.Sink.taken l.sink) (coming (place_of l.database).realm l.reader (g.S.Source.left l.source)) (g.C.Clock.moments l.clock) (place_of l.database))
       (Stops (g.K.Sink.taken l.fn.sink) (coming (place_of l.fn.database).realm l.fn.reader (g.S.Source.left l.fn.source)) (g.C.Clock.moments l.fn.clock) (place_of l.fn.database));
+  rests : RestsWithin (Rests (g.K.Sink.taken l.sink) (coming (place_of l.database).realm l.reader (g.S.Source.left l.source)) (g.C.Clock.moments l.clock) (place_of l.database))
+      (Rests (g.K.Sink.taken l.fn.sink) (coming (place_of l.fn.database).realm l.fn.reader (g.S.Source.left l.fn.source)) (g.C.Clock.moments l.fn.clock) (place_of l.fn.database));
   others : AmongWithin (among_places (coming (place_of l.database).realm l.reader (g.S.Source.left l.source)) (g.C.Clock.moments l.clock) (place_of l.database))
       (among_places (coming (place_of l.fn.database).realm l.fn.reader (g.S.Source.left l.fn.source)) (g.C.Clock.moments l.fn.clock) (place_of l.fn.database));
   run : g.D.Disk.tells → LeavesOnly (g.D.Disk.view l.fn.disk) (g.D.Disk.view l.disk) (among_places (coming (place_of l.fn.database).realm l.fn.reader (g.S.Source.left l.fn.source)) (g.C.Clock.moments l.fn.clock) (place_of l.fn.database));

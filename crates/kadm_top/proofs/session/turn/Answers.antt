@@ -1,6 +1,6 @@
 use Rattle.std.proofs.Common.{refl}
 use Rattle.kadm_top.proofs.OneCommand.{among_still, holds_stands}
-use Rattle.kadm_top.proofs.Turning.{ending_on, within_on, among_on, among_run_on, stopped_on, stops_here, comes_first}
+use Rattle.kadm_top.proofs.Turning.{ending_on, within_on, rests_on, among_on, among_run_on, stopped_on, stops_here, comes_first}
 use Rattle.kadm_top.proofs.session.turn.Goals as goal
 
 pub returns-in-Err-clause-stopped : goal.returns-in-Err-clause-stopped
@@ -42,3 +42,8 @@ returns-clause-stopped g c = λ told.
     stopped_on c.in-Ok-Line.asked _ _ _ _ _ _ _
     (comes_first _ _ _ _ _ _ _ _ _ c.in-Ok-Line.field-0-is c.as_slice-realm.ensures.value refl c.in-Ok-Line.ensures.next)
     (λ more. c.in-Err-answer.ensures.stopped told more)
+
+pub returns-in-Ok-clause-rests : goal.returns-in-Ok-clause-rests
+returns-in-Ok-clause-rests g c =
+    rests_on c.in-Ok-Line.asked _ _ _ _ _ _ _ _
+    (comes_first _ _ _ _ _ _ _ _ _ c.in-Ok-Line.field-0-is c.as_slice-realm.ensures.value c.in-Ok.ensures.realm c.in-Ok-Line.ensures.next) (λ more. c.in-Ok.ensures.rests more)
