@@ -5,3 +5,8 @@ pub mod Leaving
 pub mod Spelled
 pub mod Preparing
 pub mod Sound
+pub mod Firsts
+pub mod Entries
+pub mod Readings
+pub mod Backward
+pub mod Scans

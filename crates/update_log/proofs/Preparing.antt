@@ -1,100 +1,104 @@
--- How the next entry is prepared and committed, and a log begun.
+-- How the next entry is prepared and log_committed, and a log begun.
 use Rattle.std.proofs.Common.{◌≡◌, ◌≢◌, ℕ, ◌+◌, ◌*◌, ◌<◌, ◌⊎◌, inl, inr, ⊎_elim, List, [], ◌∷◌, ◌++◌, length, refl, sym, ◌∙◌, ap, subst, arith, Option, Some, None}
 use Rattle.std.specs.Prelude.{option_to_list}
 use Rattle.std.proofs.lemmas.Option.{same_Some}
 use Rattle.std.proofs.lemmas.Bool.{cases_eq}
 use Rattle.kdb_base.specs.declared.moments.Point.{Point}
 use Rattle.kdb_disk.specs.Files.{Files, put, with_file}
-use Rattle.kdb_disk.specs.View.{View, Looks, Torn, IsAfter}
+use Rattle.kdb_disk.specs.View.{View, Torn, IsAfter}
 use Rattle.kdb_disk.specs.Moments.{LeavesOnly, Differs, Replaced, Stands as DiskStands}
 use Rattle.kdb_disk.proofs.Runs.{weaken, stands_here, stands_other}
 use Rattle.kdb_disk.proofs.Puts.{same_files, with_file-same, with_file-other}
 use Rattle.kdb_disk.proofs.Differing.{differs_run}
-use Rattle.princ_rows.specs.declared.entries.Entry.{Entry}
+use Rattle.princ_rows.specs.declared.entries.Logged.{Logged}
 use Rattle.update_log.specs.Slots.{slot_of, Shuts, Fills, Spells}
-use Rattle.update_log.specs.Logs.{Journal, Holds, HoldsIn, ComesNext, with_prepared, committed, newest, begun}
+use Rattle.update_log.specs.Logs.{Journal, Holds, HoldsIn, ComesNext, with_prepared, log_committed, newest, begun, marker_of}
 use Rattle.update_log.specs.Moments.{LeavesLog, HasLog, IsDurable, MayShut, IsFilled, IsNext, IsReady, HasPrepared, Prepares, LeavesEither, IsMarker, ReadsOthers}
 use Rattle.update_log.proofs.SlotWrites.{fills_shut, slot_within, opened_by}
 use Rattle.update_log.proofs.Journals.{HoldsMore, shut_holds, ready_filled, commit_torn, opened_holds, begun_holds}
-use Rattle.update_log.proofs.Leaving.{torn_each, keeps_leaves, run_on, run_weaker, looks_keeps}
-
--- a look at the log
-pub log_looked : {old new : View} {log : Journal} → HasLog log old → Looks old new → LeavesOnly old new (LeavesLog log old)
-log_looked has look = keeps_leaves has.each (looks_keeps look)
+use Rattle.update_log.proofs.Leaving.{torn_each, run_weaker}
 
 -- closing the slot of the next entry takes none of those that are held
-pub shut_log_slot : (log : Journal) {next : Entry} {bytes now : List ℕ} → Holds log now → ComesNext log.held next → (bytes ≡ now) ⊎ Shuts log.block (slot_of log.base log.size next.point.sno) now bytes → Holds log bytes
+pub shut_log_slot : (log : Journal) {next : Logged} {bytes now : List ℕ} → Holds log now → ComesNext log.held next → (bytes ≡ now) ⊎ Shuts log.block (slot_of log.base log.size next.entry.point.sno) now bytes → Holds log bytes
 shut_log_slot log holds comes (inl same) = subst (Holds log) (sym same) holds
 shut_log_slot log holds comes (inr shuts) = shut_holds holds comes shuts
 
-synced_holds : {old mid : View} (log : Journal) → Holds log (old.seen log.file) → Looks old mid → Holds log (mid.seen log.file)
-synced_holds log holds look = subst (Holds log) (sym (ap (λ (files : Files). files log.file) look.seen)) holds
-
-pub next_moments : {old mid new : View} {log : Journal} {next : Entry} {file at : ℕ} {body : List ℕ} → IsNext log next file at body → HasLog log old → Holds log (old.seen log.file) → Looks old mid
-    → ((block slot : ℕ) → length body + 1 ≡ block → at ≡ slot * block → LeavesOnly mid new (MayShut file block slot mid)) → LeavesOnly old new (LeavesLog log old)
-next_moments {old} {mid} {new} {log} {next} {file} {at} {body} plan has holds look run =
-    let slot = slot_of log.base log.size next.point.sno in
-    let there = run log.block slot plan.long plan.place in
-    let here : LeavesOnly mid new (MayShut log.file log.block slot mid) = subst (λ (f : ℕ). LeavesOnly mid new (MayShut f log.block slot mid)) (sym plan.file_is) there in
-    run_on (log_looked has look) (run_weaker here (λ bytes may. shut_log_slot log (synced_holds log holds look) plan.comes may))
-
-pub next_prepared : {old mid new : View} {log : Journal} {next : Entry} {file at : ℕ} {body : List ℕ} → IsNext log next file at body → Holds log (old.seen log.file) → Looks old mid
-    → IsFilled log.file log.block (slot_of log.base log.size next.point.sno) body mid new → Prepares log next old new
-next_prepared {old} {mid} {new} {log} {next} {body = body} plan holds look filled = record {
-  stands = shut_holds (synced_holds log holds look) plan.comes (fills_shut filled.fills);
-  ready = ready_filled log next body (mid.seen log.file) (new.seen log.file) plan.comes filled.fills plan.spelled;
-  durable = filled.durable;
-  others = λ g ne. filled.others g ne ∙ ap (λ (files : Files). files g) look.seen;
+-- the plan by which the next entry is written
+pub next_plan : (log noted : Journal) (next : Logged) (file at : ℕ) (body text : List ℕ) → noted ≡ with_prepared (Some next) log → file ≡ noted.file → at ≡ slot_of noted.base noted.size next.entry.point.sno * noted.block → text ≡ body
+    → length body + 1 ≡ log.block → ComesNext log.held next → Spells log.block (0 ∷ body) next → IsNext log next file at text
+next_plan log noted next file at body text is file_is place same long comes spelled = record {
+  file_is = sym (file_is ∙ ap (λ (j : Journal). j.file) is);
+  place = place ∙ ap (λ (j : Journal). slot_of j.base j.size next.entry.point.sno * j.block) is;
+  long = ap (λ (b : List ℕ). length b + 1) same ∙ long;
+  comes = comes;
+  spelled = subst (λ (b : List ℕ). Spells log.block (0 ∷ b) next) (sym same) spelled;
 }
 
-prepared_each : {old new : View} (log : Journal) (next : Entry) → Prepares log next old new → (c : Files) → new.images c → IsReady log next (c log.file)
+pub next_moments : {old new : View} {log : Journal} {next : Logged} {file at : ℕ} {body : List ℕ} → IsNext log next file at body → Holds log (old.seen log.file)
+    → ((block slot : ℕ) → length body + 1 ≡ block → at ≡ slot * block → LeavesOnly old new (MayShut file block slot old)) → LeavesOnly old new (LeavesLog log old)
+next_moments {old} {new} {log} {next} {file} {at} {body} plan holds run =
+    let slot = slot_of log.base log.size next.entry.point.sno in
+    let there = run log.block slot plan.long plan.place in
+    let here : LeavesOnly old new (MayShut log.file log.block slot old) = subst (λ (f : ℕ). LeavesOnly old new (MayShut f log.block slot old)) (sym plan.file_is) there in
+    run_weaker here (λ bytes may. shut_log_slot log holds plan.comes may)
+
+pub next_prepared : {old new : View} {log : Journal} {next : Logged} {file at : ℕ} {body : List ℕ} → IsNext log next file at body → Holds log (old.seen log.file)
+    → IsFilled log.file log.block (slot_of log.base log.size next.entry.point.sno) body old new → Prepares log next old new
+next_prepared {old} {new} {log} {next} {body = body} plan holds filled = record {
+  stands = shut_holds holds plan.comes (fills_shut filled.fills);
+  ready = ready_filled log next body (old.seen log.file) (new.seen log.file) plan.comes filled.fills plan.spelled;
+  durable = filled.durable;
+  others = λ g ne. filled.others g ne;
+}
+
+prepared_each : {old new : View} (log : Journal) (next : Logged) → Prepares log next old new → (c : Files) → new.images c → IsReady log next (c log.file)
 prepared_each log next is c now = subst (IsReady log next) (sym (is.durable.durable c now)) is.ready
 
-same_next : (log : Journal) (a b : Entry) (bytes : List ℕ) → a ≡ b → IsReady log a bytes → IsReady log b bytes
-same_next log a b bytes is ready = subst (λ (e : Entry). IsReady log e bytes) is ready
+same_next : (log : Journal) (a b : Logged) (bytes : List ℕ) → a ≡ b → IsReady log a bytes → IsReady log b bytes
+same_next log a b bytes is ready = subst (λ (e : Logged). IsReady log e bytes) is ready
 
 -- ready is ready, whatever is noted of what is prepared
-ready_noted : (log : Journal) (noted : Option Entry) (next : Entry) (bytes : List ℕ) → IsReady log next bytes → IsReady (with_prepared noted log) next bytes
+ready_noted : (log : Journal) (noted : Option Logged) (next : Logged) (bytes : List ℕ) → IsReady log next bytes → IsReady (with_prepared noted log) next bytes
 ready_noted log noted next bytes ready = record { comes = ready.comes; whole = ready.whole; gate = ready.gate; entry = ready.entry }
 
-pub has_prepared : {old new : View} (log : Journal) (next : Entry) → Prepares log next old new → HasPrepared (with_prepared (Some next) log) new
+pub has_prepared : {old new : View} (log : Journal) (next : Logged) → Prepares log next old new → HasPrepared (with_prepared (Some next) log) new
 has_prepared {old} {new} log next is = record {
   stands = record { each = λ c now. subst (Holds log) (sym (is.durable.durable c now)) is.stands };
   seen = λ e same. same_next (with_prepared (Some next) log) next e (new.seen log.file) (same_Some next e same) (ready_noted log (Some next) next (new.seen log.file) is.ready);
   each = λ e c same now. same_next (with_prepared (Some next) log) next e (c log.file) (same_Some next e same) (ready_noted log (Some next) next (c log.file) (prepared_each log next is c now));
 }
 
--- ---- what is prepared is committed
+-- ---- what is prepared is log_committed
 
-pub some_of : (o : Option Entry) → o ≢ None → (next : Entry) × (o ≡ Some next)
+pub some_of : (o : Option Logged) → o ≢ None → (next : Logged) × (o ≡ Some next)
 some_of None is = absurd (is refl)
 some_of (Some next) is = (next, refl)
 
-more_committed : (log : Journal) (next : Entry) (bytes : List ℕ) → log.prepared ≡ Some next → HoldsMore log next bytes → Holds (committed log) bytes
+more_committed : (log : Journal) (next : Logged) (bytes : List ℕ) → log.prepared ≡ Some next → HoldsMore log next bytes → Holds (log_committed log) bytes
 more_committed log next bytes is holds =
-    subst (λ (o : Option Entry). HoldsIn log.base log.size log.block (newest log.size (log.held ++ option_to_list o)) bytes) (sym is) holds
+    subst (λ (o : Option Logged). HoldsIn log.base log.size log.block (newest log.size (log.held ++ option_to_list o)) bytes) (sym is) holds
 
-pub commit_within : {v : View} {log : Journal} {next : Entry} (at : ℕ) → 0 < log.block → HasPrepared log v → log.prepared ≡ Some next → at ≡ slot_of log.base log.size next.point.sno * log.block → at < length (v.seen log.file)
+pub commit_within : {v : View} {log : Journal} {next : Logged} (at : ℕ) → 0 < log.block → HasPrepared log v → log.prepared ≡ Some next → at ≡ slot_of log.base log.size next.entry.point.sno * log.block → at < length (v.seen log.file)
 commit_within {v} {log} {next} at pos has is place =
     let ready = has.seen next is in
-    omega (arith, place, slot_within log.block (slot_of log.base log.size next.point.sno) (v.seen log.file) pos ready.whole, pos)
+    omega (arith, place, slot_within log.block (slot_of log.base log.size next.entry.point.sno) (v.seen log.file) pos ready.whole, pos)
 
-pub commit_moments : {old new : View} {log : Journal} {next : Entry} (at : ℕ) → 0 < log.size → 0 < log.block → HasPrepared log old → log.prepared ≡ Some next → at ≡ slot_of log.base log.size next.point.sno * log.block
-    → LeavesOnly old new (IsAfter (Torn log.file at 1) old) → LeavesOnly old new (LeavesEither log (committed log) old)
+pub commit_moments : {old new : View} {log : Journal} {next : Logged} (at : ℕ) → 0 < log.size → 0 < log.block → HasPrepared log old → log.prepared ≡ Some next → at ≡ slot_of log.base log.size next.entry.point.sno * log.block
+    → LeavesOnly old new (IsAfter (Torn log.file at 1) old) → LeavesOnly old new (LeavesEither log (log_committed log) old)
 commit_moments {old} {new} {log} {next} at size pos has is place run = torn_each at 1 run (λ c bytes now few.
-    subst (λ (k : ℕ). Holds log (put k bytes (c log.file)) ⊎ Holds (committed log) (put k bytes (c log.file))) (sym place)
+    subst (λ (k : ℕ). Holds log (put k bytes (c log.file)) ⊎ Holds (log_committed log) (put k bytes (c log.file))) (sym place)
     (⊎_elim (λ kept. inl kept) (λ more. inr (more_committed log next _ is more)) (commit_torn log next bytes (c log.file) size pos (has.stands.each c now) (has.each next c is now) few)))
 
-pub commit_holds : {old new : View} {log : Journal} {next : Entry} (at : ℕ) → 0 < log.size → 0 < log.block → HasPrepared log old → Holds log (old.seen log.file) → log.prepared ≡ Some next → at ≡ slot_of log.base log.size next.point.sno * log.block
-    → DiskStands log.file at (165 ∷ []) old new → HasLog (committed log) new
+pub commit_holds : {old new : View} {log : Journal} {next : Logged} (at : ℕ) → 0 < log.size → 0 < log.block → HasPrepared log old → Holds log (old.seen log.file) → log.prepared ≡ Some next → at ≡ slot_of log.base log.size next.entry.point.sno * log.block
+    → DiskStands log.file at (165 ∷ []) old new → HasLog (log_committed log) new
 commit_holds {old} {new} {log} {next} at size pos has holds is place stands =
     let ready = has.seen next is in
     let bytes = old.seen log.file in
-    let slot = slot_of log.base log.size next.point.sno in
+    let slot = slot_of log.base log.size next.entry.point.sno in
     let here : new.seen log.file ≡ put (slot * log.block) (165 ∷ []) bytes = stands_here stands ∙ ap (λ (k : ℕ). put k (165 ∷ []) bytes) place in
     let opens = opened_by log.block slot bytes pos ready.whole in
     let there = more_committed log next _ is (opened_holds log next bytes (put (slot * log.block) (165 ∷ []) bytes) size pos holds ready opens) in
-    record { each = λ c now. subst (Holds (committed log)) (sym (stands.durable c now ∙ here)) there }
+    record { each = λ c now. subst (Holds (log_committed log)) (sym (stands.durable c now ∙ here)) there }
 
 -- ---- a log is begun
 
@@ -117,7 +121,7 @@ fill_differs so_far run = differs_run so_far (weaken run (λ c may. shut_differs
 pub replaced_durable : {file : ℕ} {content : List ℕ} {old new : View} → Replaced file content old new → IsDurable file new
 replaced_durable {file} {content} {old} {new} replaced = record { durable = λ c now. replaced.durable c now ∙ sym (ap (λ (files : Files). files file) replaced.seen ∙ with_file-same file content old.seen) }
 
-pub first_holds : {old mid filled new : View} {file : ℕ} {body : List ℕ} {base : Point} {size block : ℕ} {marker : Entry} → IsMarker base size block marker body → Replaced file [] old mid → IsFilled file block 0 body mid filled → DiskStands file 0 (165 ∷ []) filled new
+pub first_holds : {old mid filled new : View} {file : ℕ} {body : List ℕ} {base : Point} {size block : ℕ} {marker : Logged} → IsMarker base size block marker body → Replaced file [] old mid → IsFilled file block 0 body mid filled → DiskStands file 0 (165 ∷ []) filled new
     → HasLog (begun file base size block) new
 first_holds {old} {mid} {filled} {new} {file} {body} {base} {size} {block} {marker} is emptied fill stands =
     let pos : 0 < block = omega (arith, is.long) in
@@ -126,10 +130,11 @@ first_holds {old} {mid} {filled} {new} {file} {body} {base} {size} {block} {mark
     let opens = opened_by block 0 (filled.seen file) pos fills.whole in
     let here : new.seen file ≡ put (0 * block) (165 ∷ []) (filled.seen file) = stands_here stands ∙ ap (λ (k : ℕ). put k (165 ∷ []) (filled.seen file)) (omega arith) in
     let spelled = subst (λ (b : List ℕ). Spells block (0 ∷ b) marker) (sym fills.body_is) is.spelled in
-    let at : marker.point ≡ base = ap (λ (e : Entry). e.point) is.is in
-    let no_op : marker.op ≡ None = ap (λ (e : Entry). e.op) is.is in
-    let there = begun_holds base size block marker (filled.seen file) (put (0 * block) (165 ∷ []) (filled.seen file)) is.some_size pos at no_op fills.others fills.whole spelled opens in
-    record { each = λ c now. subst (λ (l : List ℕ). HoldsIn base size block (record { point = base; op = None } ∷ []) l) (sym (stands.durable c now ∙ here)) (subst (λ (e : Entry). HoldsIn base size block (e ∷ []) (put (0 * block) (165 ∷ []) (filled.seen file))) is.is there) }
+    let at : marker.entry.point ≡ base = ap (λ (e : Logged). e.entry.point) is.is in
+    let no_op : marker.entry.op ≡ None = ap (λ (e : Logged). e.entry.op) is.is in
+    let no_cell : marker.cell ≡ 0 = ap (λ (e : Logged). e.cell) is.is in
+    let there = begun_holds base size block marker (filled.seen file) (put (0 * block) (165 ∷ []) (filled.seen file)) is.some_size pos at no_op no_cell fills.others fills.whole spelled opens in
+    record { each = λ c now. subst (λ (l : List ℕ). HoldsIn base size block (marker_of base ∷ []) l) (sym (stands.durable c now ∙ here)) (subst (λ (e : Logged). HoldsIn base size block (e ∷ []) (put (0 * block) (165 ∷ []) (filled.seen file))) is.is there) }
 
 pub first_others : {old mid filled new : View} {file block : ℕ} {body : List ℕ} → Replaced file [] old mid → IsFilled file block 0 body mid filled → DiskStands file 0 (165 ∷ []) filled new → ReadsOthers file old new
 first_others {old} {file = file} emptied fill stands g ne =

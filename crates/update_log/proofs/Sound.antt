@@ -1,63 +1,91 @@
 -- What is kept in memory of a log stays in its ranges.
-use Rattle.std.proofs.Common.{◌≡◌, ℕ, ◌+◌, ◌-◌, ◌<◌, ◌≤◌, List, [], ◌∷◌, ◌++◌, length, get_or, drop, refl, sym, ◌∙◌, ap, subst, ⊎_elim, arith, length-append, length-drop, Option, Some, None}
+use Rattle.std.proofs.Common.{◌≡◌, ℕ, ◌+◌, ◌-◌, ◌<◌, ◌≤◌, List, [], ◌∷◌, ◌++◌, length, take, drop, refl, sym, ◌∙◌, ap, subst, arith, length-append, length-take, length-drop, take-append-drop, Option, Some, None}
 use Rattle.std.specs.Prelude.{option_to_list}
-use Rattle.std.proofs.Math.Seq.{get_or-append_seam}
-use Rattle.std.proofs.lemmas.Bool.{cases_lt}
-use Rattle.std.proofs.lemmas.List.{append-nil, get_or_append_left, get_or-drop}
-use Rattle.princ_rows.specs.declared.entries.Entry.{Entry}
-use Rattle.update_log.specs.Logs.{Journal, IsJournal, HasRoom, newest}
+use Rattle.std.specs.List.{All}
+use Rattle.std.proofs.lemmas.List.{append-nil}
+use Rattle.kdb_base.specs.declared.moments.Point.{Point}
+use Rattle.princ_rows.specs.declared.entries.Logged.{Logged}
+use Rattle.update_log.specs.Slots.{IsSpelled}
+use Rattle.update_log.specs.Logs.{IsMarked, IsRun, ComesNext, Journal, IsJournal, HasRoom, newest, begun, marker_of}
+use Rattle.update_log.proofs.Journals.{all_behind, all_more, run_behind, run_more, next_serial, next_marked, one_only, one_run, base_marked}
 
--- the serials of a list run on from this one
-abbrev Runs : List Entry → ℕ → Type 0
-Runs entries first = (i : ℕ) (d : Entry) → i < length entries → (get_or entries i d).point.sno ≡ first + i
+-- Entries that run on from a serial, with what holds of each.
+pub record AreEntries (base : Point) (block : ℕ) (entries : List Logged) (first : ℕ) : Type 0 where
+  pub run : IsRun entries first
+  pub marked : All (IsMarked base) entries
+  pub spelled : All (IsSpelled block) entries
 
-runs_more : (held : List Entry) (first : ℕ) (next : Entry) → Runs held first → 0 < length held → ((d : Entry) → next.point.sno ≡ (get_or held (length held - 1) d).point.sno + 1) → Runs (held ++ next ∷ []) first
-runs_more held first next runs some serial i d lt = ⊎_elim
-    (λ below. ap (λ (e : Entry). e.point.sno) (get_or_append_left held (next ∷ []) d i below) ∙ runs i d below)
-    (λ above.
-    let at : i ≡ length held = omega (arith, above, lt, length-append held (next ∷ [])) in
-    let there : next.point.sno ≡ first + length held = omega (arith, serial next, runs (length held - 1) next (omega (arith, some)), some) in
-    ap (λ (j : ℕ). (get_or (held ++ next ∷ []) j d).point.sno) at ∙ ap (λ (e : Entry). e.point.sno) (get_or-append_seam held next [] d) ∙ there ∙ ap (λ (j : ℕ). first + j) (sym at))
-    (cases_lt i (length held))
+entries_of : (log : Journal) (is : IsJournal log) → AreEntries log.base log.block log.held is.first
+entries_of log is = record { run = is.run; marked = is.marked; spelled = is.spelled }
 
-runs_after : (held : List Entry) (first : ℕ) (prepared : Option Entry) → Runs held first → 0 < length held → ((next : Entry) (d : Entry) → prepared ≡ Some next → next.point.sno ≡ (get_or held (length held - 1) d).point.sno + 1)
-    → Runs (held ++ option_to_list prepared) first
-runs_after held first None runs some serial = subst (λ (l : List Entry). Runs l first) (sym (append-nil held)) runs
-runs_after held first (Some next) runs some serial = runs_more held first next runs some (λ d. serial next d refl)
+entries_more : (log : Journal) (len room : ℕ) (is : IsJournal log) (prepared : Option Logged) → log.prepared ≡ prepared → HasRoom log len room
+    → AreEntries log.base log.block (log.held ++ option_to_list prepared) is.first
+entries_more log len room is None same fits = subst (λ (l : List Logged). AreEntries log.base log.block l is.first) (sym (append-nil log.held)) (entries_of log is)
+entries_more log len room is (Some next) same fits =
+    let comes = fits.comes next same in
+    let serial = next_serial log.held is.first next is.run is.some comes in
+    record {
+      run = run_more log.held is.first next is.run is.some comes;
+      marked = all_more (IsMarked log.base) log.held next is.marked (next_marked log.base next (λ e. absurd (omega (arith, serial, is.from_base, is.some, e))) comes);
+      spelled = all_more (IsSpelled log.block) log.held next is.spelled (fits.spelled next same);
+    }
 
-runs_behind : (entries : List Entry) (first k : ℕ) → Runs entries first → Runs (drop k entries) (first + k)
-runs_behind entries first k runs i d lt =
-    ap (λ (e : Entry). e.point.sno) (get_or-drop k entries i d) ∙ runs (k + i) d (omega (arith, length-drop k entries, lt)) ∙ omega arith
+pub entries_behind : (base : Point) (block : ℕ) (older held : List Logged) (first : ℕ) → AreEntries base block (older ++ held) first → AreEntries base block held (first + length older)
+entries_behind base block older held first are = record {
+  run = run_behind older held first are.run;
+  marked = all_behind (IsMarked base) older held are.marked;
+  spelled = all_behind (IsSpelled block) older held are.spelled;
+}
 
-at_most_one : (o : Option Entry) → length (option_to_list o) ≤ 1
+at_most_one : (o : Option Logged) → length (option_to_list o) ≤ 1
 at_most_one None = omega arith
 at_most_one (Some e) = omega arith
 
 pub few_after : (log : Journal) → IsJournal log → length (log.held ++ option_to_list log.prepared) ≤ log.size + 1
 few_after log is = omega (arith, length-append log.held (option_to_list log.prepared), at_most_one log.prepared, is.few)
 
-pub committed_journal : (log : Journal) (len room : ℕ) (held : List Entry) (left : Option Entry) → IsJournal log → HasRoom log len room → held ≡ newest log.size (log.held ++ option_to_list log.prepared)
+pub committed_journal : (log : Journal) (len room : ℕ) (held : List Logged) (left : Option Logged) → IsJournal log → HasRoom log len room → held ≡ newest log.size (log.held ++ option_to_list log.prepared)
     → IsJournal (record { file = log.file; base = log.base; size = log.size; block = log.block; held = held; prepared = left })
 committed_journal log len room held left is room_is same =
     let entries = log.held ++ option_to_list log.prepared in
     let k = length entries - log.size in
-    let long : length held ≡ length entries - k = ap (λ (l : List Entry). length l) same ∙ length-drop k entries in
+    let long : length held ≡ length entries - k = ap (λ (l : List Logged). length l) same ∙ length-drop k entries in
     let more : length entries ≡ length log.held + length (option_to_list log.prepared) = length-append log.held (option_to_list log.prepared) in
-    let runs = runs_behind entries is.first k (runs_after log.held is.first log.prepared is.serials is.some room_is.serial) in
+    let all = entries_more log len room is log.prepared refl room_is in
+    let split = subst (λ (l : List Logged). AreEntries log.base log.block l is.first) (sym (take-append-drop k entries)) all in
+    let first = is.first + length (take k entries) in
+    let here = subst (λ (l : List Logged). AreEntries log.base log.block l first) (sym same) (entries_behind log.base log.block (take k entries) (drop k entries) is.first split) in
     record {
       file = is.file;
       size = is.size;
       block = is.block;
       some = omega (arith, long, more, is.some, is.size.0);
       few = omega (arith, long);
-      first = is.first + k;
+      first = first;
       from_base = omega (arith, is.from_base);
-      serials = subst (λ (l : List Entry). (i : ℕ) (d : Entry) → i < length l → (get_or l i d).point.sno ≡ (is.first + k) + i) (sym same) runs;
+      run = here.run;
+      marked = here.marked;
+      spelled = here.spelled;
     }
 
 pub nothing_prepared : (log : Journal) (len room : ℕ) → len ≡ length log.held → log.prepared ≡ None → HasRoom log len room
 nothing_prepared log len room counted none = record {
   counted = counted;
   fits = λ next is. let e : None ≡ Some next = sym none ∙ is in absurd cc;
-  serial = λ next d is. let e : None ≡ Some next = sym none ∙ is in absurd cc;
+  comes = λ next is. let e : None ≡ Some next = sym none ∙ is in absurd cc;
+  spelled = λ next is. let e : None ≡ Some next = sym none ∙ is in absurd cc;
+}
+
+pub begun_journal : (file : ℕ) (base : Point) (size block : ℕ) → (3 ≤ file) × (file ≤ 4) → (2 ≤ size) × (size ≤ 10000) → (2048 ≤ block) × (block ≤ 16384) → IsSpelled block (marker_of base) → IsJournal (begun file base size block)
+begun_journal file base size block one few long spelled = record {
+  file = one;
+  size = few;
+  block = long;
+  some = omega arith;
+  few = omega (arith, few.0);
+  first = base.sno;
+  from_base = omega arith;
+  run = one_run (marker_of base);
+  marked = one_only (IsMarked base) (marker_of base) (base_marked base);
+  spelled = one_only (IsSpelled block) (marker_of base) spelled;
 }

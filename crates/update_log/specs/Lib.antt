@@ -1,3 +1,4 @@
 pub mod Slots
 pub mod Logs
 pub mod Moments
+pub mod Runs

@@ -1,11 +1,11 @@
 -- What a crash may leave of a log file while it is made or changed.
-use Rattle.std.specs.Prelude.{ℕ, ◌+◌, ◌*◌, ◌<◌, ◌≡◌, ◌≢◌, ◌⊎◌, List, ◌∷◌, length, slice_index, None, Some}
+use Rattle.std.specs.Prelude.{ℕ, ◌+◌, ◌*◌, ◌<◌, ◌≡◌, ◌≢◌, ◌⊎◌, List, ◌∷◌, length, slice_index, Some}
 use Rattle.kdb_disk.specs.Files.{Files}
 use Rattle.kdb_disk.specs.View.{View}
 use Rattle.kdb_base.specs.declared.moments.Point.{Point}
-use Rattle.princ_rows.specs.declared.entries.Entry.{Entry}
+use Rattle.princ_rows.specs.declared.entries.Logged.{Logged}
 use Rattle.update_log.specs.Slots.{slot_of, slot_bytes, Spells, Shuts, Fills}
-use Rattle.update_log.specs.Logs.{Journal, Holds, ComesNext}
+use Rattle.update_log.specs.Logs.{Journal, Holds, ComesNext, marker_of}
 
 -- Whatever a crash leaves holds what the log holds.
 pub record HasLog (log : Journal) (now : View) : Type 0 where
@@ -27,17 +27,17 @@ abbrev pub LeavesEither : Journal → Journal → View → Files → Type 0
 LeavesEither one other old c = Leaves one.file (λ bytes. Holds one bytes ⊎ Holds other bytes) old c
 
 -- The slot of the next entry wants no more than an open gate.
-pub record IsReady (log : Journal) (next : Entry) (bytes : List ℕ) : Type 0 where
+pub record IsReady (log : Journal) (next : Logged) (bytes : List ℕ) : Type 0 where
   pub comes : ComesNext log.held next
-  pub whole : length (slot_bytes log.block (slot_of log.base log.size next.point.sno) bytes) ≡ log.block
-  pub gate : slice_index (slot_bytes log.block (slot_of log.base log.size next.point.sno) bytes) 0 ≢ 165
-  pub entry : Spells log.block (slot_bytes log.block (slot_of log.base log.size next.point.sno) bytes) next
+  pub whole : length (slot_bytes log.block (slot_of log.base log.size next.entry.point.sno) bytes) ≡ log.block
+  pub gate : slice_index (slot_bytes log.block (slot_of log.base log.size next.entry.point.sno) bytes) 0 ≢ 165
+  pub entry : Spells log.block (slot_bytes log.block (slot_of log.base log.size next.entry.point.sno) bytes) next
 
 -- The log stands, and the entry that is prepared is ready in what a read gives and in whatever a crash leaves.
 pub record HasPrepared (log : Journal) (now : View) : Type 0 where
   pub stands : HasLog log now
-  pub seen : (next : Entry) → log.prepared ≡ Some next → IsReady log next (now.seen log.file)
-  pub each : (next : Entry) (c : Files) → log.prepared ≡ Some next → now.images c → IsReady log next (c log.file)
+  pub seen : (next : Logged) → log.prepared ≡ Some next → IsReady log next (now.seen log.file)
+  pub each : (next : Logged) (c : Files) → log.prepared ≡ Some next → now.images c → IsReady log next (c log.file)
 
 -- all other files read as before
 abbrev pub ReadsOthers : ℕ → View → View → Type 0
@@ -66,23 +66,23 @@ pub record IsFilled (file block slot : ℕ) (body : List ℕ) (old new : View) :
   pub others : ReadsOthers file old new
 
 -- The body is that of the next entry, and the place is that of its slot.
-pub record IsNext (log : Journal) (next : Entry) (file at : ℕ) (body : List ℕ) : Type 0 where
+pub record IsNext (log : Journal) (next : Logged) (file at : ℕ) (body : List ℕ) : Type 0 where
   pub file_is : log.file ≡ file
-  pub place : at ≡ slot_of log.base log.size next.point.sno * log.block
+  pub place : at ≡ slot_of log.base log.size next.entry.point.sno * log.block
   pub long : length body + 1 ≡ log.block
   pub comes : ComesNext log.held next
   pub spelled : Spells log.block (0 ∷ body) next
 
 -- The next entry is ready, on the disk, behind those that are held, and all other files read as before.
-pub record Prepares (log : Journal) (next : Entry) (old new : View) : Type 0 where
+pub record Prepares (log : Journal) (next : Logged) (old new : View) : Type 0 where
   pub stands : Holds log (new.seen log.file)
   pub ready : IsReady log next (new.seen log.file)
   pub durable : IsDurable log.file new
   pub others : ReadsOthers log.file old new
 
 -- The body is that of the base marker.
-pub record IsMarker (base : Point) (size block : ℕ) (marker : Entry) (body : List ℕ) : Type 0 where
+pub record IsMarker (base : Point) (size block : ℕ) (marker : Logged) (body : List ℕ) : Type 0 where
   pub some_size : 0 < size
   pub long : length body + 1 ≡ block
-  pub is : marker ≡ record { point = base; op = None }
+  pub is : marker ≡ marker_of base
   pub spelled : Spells block (0 ∷ body) marker

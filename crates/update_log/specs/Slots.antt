@@ -1,9 +1,8 @@
 -- The slots of a log file: a gate of one byte, an entry, and zeros to the end of the block.
-use Rattle.std.specs.Prelude.{ℕ, ◌+◌, ◌-◌, ◌*◌, ◌%◌, ◌≡◌, ◌≢◌, List, [], take, drop, length, slice_index, Some}
+use Rattle.std.specs.Prelude.{ℕ, ◌+◌, ◌-◌, ◌*◌, ◌%◌, ◌≤◌, ◌≡◌, ◌≢◌, List, [], take, drop, length, slice_index, Some}
 use Rattle.kdb_base.specs.declared.moments.Point.{Point}
 use Rattle.kdb_format.specs.Readings.{padded}
-use Rattle.princ_rows.specs.Entries.{logged_at}
-use Rattle.princ_rows.specs.declared.entries.Entry.{Entry}
+use Rattle.princ_rows.specs.Entries.{logged_at, logged, IsLogged}
 use Rattle.princ_rows.specs.declared.entries.Logged.{Logged}
 
 -- the slot in which the entry of a serial stands: the log has one slot more than it holds entries
@@ -23,16 +22,17 @@ pub record IsOpen (block : ℕ) (bytes : List ℕ) : Type 0 where
 abbrev pub IsClosed : ℕ → List ℕ → Type 0
 IsClosed block bytes = IsOpen block bytes → ⊥
 
--- the entry of a change of no unit
-abbrev pub unplaced : Entry → Logged
-unplaced entry = record { entry = entry; cell = 0 }
-
 -- behind the gate stands the entry, with zeros behind it
-abbrev pub Spells : ℕ → List ℕ → Entry → Type 0
-Spells block bytes entry = padded (block - 1) logged_at (drop 1 bytes) ≡ Some (unplaced entry, [])
+abbrev pub Spells : ℕ → List ℕ → Logged → Type 0
+Spells block bytes entry = padded (block - 1) logged_at (drop 1 bytes) ≡ Some (entry, [])
+
+-- The entry has a spelling, and a slot has room for it behind the gate.
+pub record IsSpelled (block : ℕ) (entry : Logged) : Type 0 where
+  pub fits : IsLogged entry
+  pub short : length (logged entry) ≤ block - 1
 
 -- The slot is open and spells the entry.
-pub record Stands (block slot : ℕ) (file : List ℕ) (entry : Entry) : Type 0 where
+pub record Stands (block slot : ℕ) (file : List ℕ) (entry : Logged) : Type 0 where
   pub gate : IsOpen block (slot_bytes block slot file)
   pub spelled : Spells block (slot_bytes block slot file) entry
 

@@ -1,7 +1,8 @@
 ghost use Rattle.std.specs.Prelude.{◌≡◌, ◌≤◌, ◌-◌, ◌∷◌, length, IfOk};
 ghost use Rattle.kdb_format.specs.Moments.{IsPoint};
 ghost use Rattle.princ_rows.specs.Entries.{IsOp, logged};
-ghost use Rattle.update_log.specs.Slots.{Spells, unplaced};
+ghost use Rattle.princ_rows.specs.declared.entries.Logged.{Logged};
+ghost use Rattle.update_log.specs.Slots.{Spells, IsSpelled};
 
 use kdb_base::{MemoryOut, Point};
 use kdb_format::writing::push_zeros;
@@ -17,18 +18,31 @@ fn holds_point(point: Point)
     let _usecs = point.time.usecs();
 }
 
-/// What stands behind the gate of the entry's slot: the entry, and zeros to the end of the block.
-pub(crate) fn write_body(alloc: Global, entry: &Entry, block: u32) -> Result<Vec<u8>, MemoryOut>
+// Tells a proof that the entry has a spelling for which a slot has room, and does nothing.
+pub(crate) fn holds_entry(entry: &Entry, cell: u32, block: u32)
     requires fits { IsOp entry.now.op }
-    requires room { 1 ≤ block }
-    requires short { length (logged (unplaced entry.now)) ≤ block - 1 }
-    ensures long { IfOk result (λ body. length body.items ≡ block - 1) }
-    ensures spelled { IfOk result (λ body. Spells block (0 ∷ body.items) entry.now) }
+    requires short { length (logged (record { entry = entry.now; cell = cell })) ≤ block - 1 }
+    ensures { IsSpelled block (record { entry = entry.now; cell = cell }) }
 {
     holds_point(entry.point);
+}
+
+/// What stands behind the gate of the entry's slot: the entry with the number of its unit, and zeros to
+/// the end of the block.
+pub(crate) fn write_body(
+    alloc: Global,
+    entry: &Entry,
+    cell: u32,
+    block: u32,
+) -> Result<Vec<u8>, MemoryOut>
+    requires room { 1 ≤ block }
+    requires spelled { IsSpelled block (record { entry = entry.now; cell = cell }) }
+    ensures long { IfOk result (λ body. length body.items ≡ block - 1) }
+    ensures spelled { IfOk result (λ body. Spells block (0 ∷ body.items) (record { entry = entry.now; cell = cell })) }
+{
     let room = block as usize - 1;
     let mut body = Vec::with_capacity(alloc, room)?;
-    push_logged(&mut body, entry, 0)?;
+    push_logged(&mut body, entry, cell)?;
     let rest = room - body.len();
     push_zeros(&mut body, rest)?;
     Ok(body)

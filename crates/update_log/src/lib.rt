@@ -3,6 +3,7 @@
 #![tactic(auto)]
 
 mod bodies;
+pub mod laws;
 pub mod log;
 mod slots;
 mod writes;

@@ -1,22 +1,22 @@
-ghost use Rattle.std.specs.Prelude.{◌≡◌, ◌≢◌, ◌≤◌, ◌<◌, ◌-◌, ◌+◌, ◌*◌, ◌^◌, ◌∷◌, ◌++◌, ◌⊎◌, All, Contains, length, slice_index_or, IfSome, IfOk, OnOk, OnErr, IsErrOf, IsTrue, option_to_list, None, Some, Err, [], ℕ};
-ghost use Rattle.kdb_base.specs.Causes.{Rose, HasCause};
+ghost use Rattle.std.specs.Prelude.{◌≡◌, ◌≢◌, ◌≤◌, ◌<◌, ◌-◌, ◌+◌, ◌*◌, ◌^◌, ◌∷◌, ◌++◌, All, Contains, length, map, slice_index_or, IfSome, IfOk, OnOk, OnErr, IsErr, IsErrOf, IsTrue, option_to_list, None, Some, Err, [], ℕ};
 ghost use Rattle.kdb_base.specs.declared.outcomes.Halt.TheVariants.{MemoryOut as IsMemoryOut, DiskFault as IsDiskFault};
 ghost use Rattle.kdb_disk.specs.View.{View, IsAfter};
-ghost use Rattle.kdb_disk.specs.Moments.{LeavesOnly, Differs};
-ghost use Rattle.princ_rows.specs.declared.entries.Entry.{Entry};
+ghost use Rattle.kdb_disk.specs.Moments.{Differs};
+ghost use Rattle.kdb_disk.specs.Frames.{IsCall, IsCrashSafe};
+ghost use Rattle.princ_rows.specs.declared.entries.Logged.{Logged};
 ghost use Rattle.std.specs.VecDeque.{deque_len, deque_capacity};
 ghost use Rattle.princ_rows.specs.Entries.{IsOp, logged};
-ghost use Rattle.update_log.specs.Slots.{slot_of, Spells, unplaced};
-ghost use Rattle.update_log.specs.Logs.{ComesNext, with_prepared, committed, newest, begun};
-ghost use Rattle.update_log.specs.Moments.{HasLog, HasPrepared, LeavesLog, LeavesEither, ReadsOthers};
+ghost use Rattle.update_log.specs.Slots.{slot_of, Spells, IsSpelled};
+ghost use Rattle.update_log.specs.Logs.{IsJournal, ComesNext, entry_of, marker_of, with_prepared, log_committed, newest, begun};
+ghost use Rattle.update_log.specs.Moments.{HasLog, HasPrepared, IsDurable, LeavesLog, LeavesEither, ReadsOthers};
 
-use crate::bodies::write_body;
+use crate::bodies::{holds_entry, write_body};
 use crate::slots::place_of;
 use crate::writes::{write_first, write_next};
 use kdb_base::{Halt, MemoryOut, Point};
 use kdb_disk::{Disk, DiskFailed, open_gate};
 use princ_rows::laws::entries_have_their_lengths;
-use princ_rows::{Entry, Op, copy_entry};
+use princ_rows::{Entry, Logged, Op, copy_entry};
 use std::alloc::Global;
 use std::collections::VecDeque;
 use std::marker::Model;
@@ -29,9 +29,9 @@ pub struct Log {
     base: Point,
     size: u32,
     block: u32,
-    held: VecDeque<Entry>,
+    held: VecDeque<Logged>,
     // the queue has room for it
-    prepared: Option<Entry>,
+    prepared: Option<Logged>,
 }
 
 impl Model for Log {
@@ -46,30 +46,44 @@ impl Model for Log {
 }
 
 // The base marker.
-fn marker_of(base: &Point) -> Entry
-    ensures { result ≡ record { point = base.now; op = None } }
+fn marker_of(base: &Point) -> Logged
+    ensures { result ≡ marker_of base.now }
 {
-    Entry {
-        point: *base,
-        op: None,
+    Logged {
+        entry: Entry {
+            point: *base,
+            op: None,
+        },
+        cell: 0,
     }
 }
 
-// What is written for the base marker.
+// Tells a proof that a slot has room for the base marker, and does nothing.
 #[tactic(auto, unfolding(princ_rows::specs::Entries::key_of, princ_rows::specs::Entries::row_of))]
-fn marker_body(alloc: Global, base: &Point, block: u32) -> Result<Vec<u8>, MemoryOut>
-    requires block { (2048 ≤ block) × (block ≤ 10240) }
-    ensures long { IfOk result (λ body. length body.items + 1 ≡ block) }
-    ensures range { IfOk result (λ body. (1 ≤ length body.items) × (length body.items < 2 ^ 32)) }
-    ensures spelled { IfOk result (λ body. Spells block (0 ∷ body.items) (record { point = base.now; op = None })) }
+fn holds_marker(marker: &Logged, base: &Point, block: u32)
+    requires block { 2048 ≤ block }
+    requires marker { marker.now ≡ marker_of base.now }
+    ensures { IsSpelled block (marker_of base.now) }
 {
     entries_have_their_lengths();
-    write_body(alloc, &marker_of(base), block)
+    holds_entry(&marker.entry, marker.cell, block);
+}
+
+// What is written for the base marker.
+fn marker_body(alloc: Global, base: &Point, block: u32) -> Result<Vec<u8>, MemoryOut>
+    requires block { (2048 ≤ block) × (block ≤ 16384) }
+    ensures long { IfOk result (λ body. length body.items + 1 ≡ block) }
+    ensures range { IfOk result (λ body. (1 ≤ length body.items) × (length body.items < 2 ^ 32)) }
+    ensures spelled { IfOk result (λ body. Spells block (0 ∷ body.items) (marker_of base.now)) }
+{
+    let marker = marker_of(base);
+    holds_marker(&marker, base, block);
+    write_body(alloc, &marker.entry, marker.cell, block)
 }
 
 // The base marker alone, with room for the entry that comes next, where one is to come.
-fn queue_of(alloc: Global, base: &Point, with_next: bool) -> Result<VecDeque<Entry>, MemoryOut>
-    ensures items { IfOk result (λ held. held.items ≡ record { point = base.now; op = None } ∷ []) }
+fn queue_of(alloc: Global, base: &Point, with_next: bool) -> Result<VecDeque<Logged>, MemoryOut>
+    ensures items { IfOk result (λ held. held.items ≡ marker_of base.now ∷ []) }
     ensures len { IfOk result (λ held. deque_len held ≡ 1) }
     ensures room { IfOk result (λ held. IsTrue with_next → 2 ≤ deque_capacity held) }
 {
@@ -80,14 +94,15 @@ fn queue_of(alloc: Global, base: &Point, with_next: bool) -> Result<VecDeque<Ent
 }
 
 // The log of the base marker alone.
-fn log_of(file: u8, base: Point, size: u32, block: u32, held: VecDeque<Entry>) -> Log
+fn log_of(file: u8, base: Point, size: u32, block: u32, held: VecDeque<Logged>) -> Log
     requires file { (3 ≤ file) × (file ≤ 4) }
     requires size { (2 ≤ size) × (size ≤ 10000) }
-    requires block { (2048 ≤ block) × (block ≤ 10240) }
-    requires items { held.items ≡ record { point = base; op = None } ∷ [] }
+    requires block { (2048 ≤ block) × (block ≤ 16384) }
+    requires items { held.items ≡ marker_of base ∷ [] }
     requires len { deque_len held ≡ 1 }
     ensures { result ≡ begun file base size block }
 {
+    holds_marker(&marker_of(&base), &base, block);
     Log {
         file,
         base,
@@ -99,7 +114,7 @@ fn log_of(file: u8, base: Point, size: u32, block: u32, held: VecDeque<Entry>) -
 }
 
 // Makes room for one entry more, and gives the entry back.
-fn make_room(held: &mut VecDeque<Entry>, entry: Entry) -> Result<Entry, MemoryOut>
+fn make_room(held: &mut VecDeque<Logged>, entry: Logged) -> Result<Logged, MemoryOut>
     ensures entry { IfOk result (λ e. e ≡ entry) }
     ensures items { held.new.items ≡ held.old.items }
     ensures len { deque_len held.new ≡ deque_len held.old }
@@ -109,15 +124,15 @@ fn make_room(held: &mut VecDeque<Entry>, entry: Entry) -> Result<Entry, MemoryOu
     Ok(entry)
 }
 
-fn set(place: &mut Option<Entry>, entry: Entry)
+fn set(place: &mut Option<Logged>, entry: Logged)
     ensures { place.new ≡ Some entry }
 {
     *place = Some(entry);
 }
 
 // Takes what is prepared as the newest entry.
-fn add_prepared(held: &mut VecDeque<Entry>, prepared: &mut Option<Entry>)
-    requires { (next : Entry) → prepared.old ≡ Some next → deque_len held.old < deque_capacity held.old }
+fn add_prepared(held: &mut VecDeque<Logged>, prepared: &mut Option<Logged>)
+    requires { (next : Logged) → prepared.old ≡ Some next → deque_len held.old < deque_capacity held.old }
     ensures items { held.new.items ≡ held.old.items ++ option_to_list prepared.old }
     ensures len { deque_len held.old ≡ length held.old.items → deque_len held.new ≡ length held.new.items }
     ensures prepared { prepared.new ≡ None }
@@ -128,7 +143,7 @@ fn add_prepared(held: &mut VecDeque<Entry>, prepared: &mut Option<Entry>)
 }
 
 // Lets go of the oldest entry, where there is one too many.
-fn keep_newest(held: &mut VecDeque<Entry>, size: usize)
+fn keep_newest(held: &mut VecDeque<Logged>, size: usize)
     requires len { deque_len held.old ≡ length held.old.items }
     requires few { length held.old.items ≤ size + 1 }
     ensures items { held.new.items ≡ newest size held.old.items }
@@ -143,7 +158,8 @@ impl Log {
     /// Makes the log anew: its file is cut to nothing, on the disk, and the base marker is written by
     /// the gate. Memory is taken before the first device call.
     ///
-    /// At each moment a crash leaves all other files as before. Where `next` is given, the entry of
+    /// At each moment a crash leaves all other files as before. After `Ok` it leaves of the log's file
+    /// what a read gives. Where `next` is given, the entry of
     /// this change is to be prepared next, and its place among those that are held is reserved.
     ///
     /// `file` is 3 or 4, `size` the number of entries that the log holds, and `block` the length of
@@ -159,15 +175,14 @@ impl Log {
     ) -> Result<Log, Halt>
         requires file { (3 ≤ file) × (file ≤ 4) }
         requires size { (2 ≤ size) × (size ≤ 10000) }
-        requires block { (2048 ≤ block) × (block ≤ 10240) }
-        ensures moments { D.tells → LeavesOnly (D.view disk.old) (D.view disk.new) (IsAfter (Differs file) (D.view disk.old)) }
+        requires block { (2048 ≤ block) × (block ≤ 16384) }
+        ensures crash { IsCrashSafe D.Disk disk.old disk.new (IsAfter (Differs file) (D.view disk.old)) }
         ensures ok { IfOk result (λ log. log ≡ begun file base size block) }
         ensures log { D.tells → OnOk result (HasLog (begun file base size block) (D.view disk.new)) }
+        ensures durable { D.tells → OnOk result (IsDurable file (D.view disk.new)) }
         ensures others { D.tells → OnOk result (ReadsOthers file (D.view disk.old) (D.view disk.new)) }
         ensures memory { IsErrOf result IsMemoryOut → disk.new ≡ disk.old }
-        ensures same { D.loans disk.new ≡ D.loans disk.old }
-        ensures later { D.faults disk.old ≤ D.faults disk.new }
-        ensures cause { IsErrOf result IsDiskFault → Rose (D.faults disk.old) (D.faults disk.new) }
+        ensures call { IsCall D.Disk disk.old disk.new (IsErrOf result IsDiskFault) }
     {
         let body = match marker_body(alloc, &base, block) {
             Ok(body) => body,
@@ -185,25 +200,60 @@ impl Log {
 
     /// The points of the first and of the last entry that the log holds.
     pub fn held(&self) -> (Point, Point)
-        ensures first { (d : Entry) → result.0 ≡ (slice_index_or self.now.held 0 d).point }
-        ensures last { (d : Entry) → result.1 ≡ (slice_index_or self.now.held (length self.now.held - 1) d).point }
-        ensures serials { (i : ℕ) (d : Entry) → i < length self.now.held → (slice_index_or self.now.held i d).point.sno ≡ result.0.sno + i }
+        ensures first { (d : Logged) → result.0 ≡ (slice_index_or self.now.held 0 d).entry.point }
+        ensures last { (d : Logged) → result.1 ≡ (slice_index_or self.now.held (length self.now.held - 1) d).entry.point }
+        ensures serials { (i : ℕ) (d : Logged) → i < length self.now.held → (slice_index_or self.now.held i d).entry.point.sno ≡ result.0.sno + i }
     {
-        let first = self.held[0].point;
-        let last = self.held[self.held.len() - 1].point;
+        let first = self.held[0].entry.point;
+        let last = self.held[self.held.len() - 1].entry.point;
         (first, last)
+    }
+
+    /// Tells a proof that the log's numbers are in their ranges, and that the entries that it holds run
+    /// on one by one, never back in time, and have their spellings. It does nothing.
+    pub fn holds_journal(&self)
+        ensures { IsJournal self.now }
+    {
+        let _ = &self.held;
     }
 
     /// The entry of this serial, where the log holds it.
     pub fn entry(&self, sno: u32) -> Option<&Entry>
-        ensures some { IfSome result (λ e. Contains self.now.held e.now × (e.now.point.sno ≡ sno)) }
-        ensures none { result ≡ None → All (λ e. e.point.sno ≢ sno) self.now.held }
+        ensures some { IfSome result (λ e. Contains (map entry_of self.now.held) e.now × (e.now.point.sno ≡ sno)) }
+        ensures none { result ≡ None → All (λ l. l.entry.point.sno ≢ sno) self.now.held }
     {
-        let first = self.held[0].point.sno;
+        match self.find(sno) {
+            Some(found) => Some(&found.entry),
+            None => None,
+        }
+    }
+
+    // The entry of this serial with the number of its unit.
+    fn find(&self, sno: u32) -> Option<&Logged>
+        ensures some { IfSome result (λ l. Contains self.now.held l.now × (l.now.entry.point.sno ≡ sno)) }
+        ensures none { result ≡ None → All (λ l. l.entry.point.sno ≢ sno) self.now.held }
+    {
+        let first = self.held[0].entry.point.sno;
         if sno < first {
             return None;
         }
         self.held.get((sno - first) as usize)
+    }
+
+    /// The number of the unit that the last entry changes, 0 where it changes none.
+    pub fn last_cell(&self) -> u32
+        ensures { (d : Logged) → result ≡ (slice_index_or self.now.held (length self.now.held - 1) d).cell }
+    {
+        self.held[self.held.len() - 1].cell
+    }
+
+    /// The file of the log, 3 or 4.
+    pub fn in_file(&self) -> u8
+        ensures value { result ≡ self.now.file }
+        ensures low { 3 ≤ result }
+        ensures high { result ≤ 4 }
+    {
+        self.file
     }
 
     // Forgets what is prepared.
@@ -214,8 +264,9 @@ impl Log {
     }
 
     // Notes that the entry is prepared, with room for it among those that are held.
-    fn note(&mut self, entry: Entry) -> Result<(), MemoryOut>
-        requires { ComesNext self.old.held entry }
+    fn note(&mut self, entry: Logged) -> Result<(), MemoryOut>
+        requires comes { ComesNext self.old.held entry }
+        requires spelled { IsSpelled self.old.block entry }
         ensures ok { OnOk result (self.new ≡ with_prepared (Some entry) self.old) }
         ensures err { OnErr result (self.new ≡ with_prepared None self.old) }
     {
@@ -230,71 +281,66 @@ impl Log {
     }
 
     // What is written for the entry, which is noted as prepared.
-    fn body_of(&mut self, alloc: Global, entry: &Entry) -> Result<Vec<u8>, MemoryOut>
-        requires comes { ComesNext self.old.held entry.now }
+    fn body_of(&mut self, alloc: Global, entry: &Entry, cell: u32) -> Result<Vec<u8>, MemoryOut>
+        requires comes { ComesNext self.old.held (record { entry = entry.now; cell = cell }) }
         requires fits { IsOp entry.now.op }
-        requires short { length (logged (unplaced entry.now)) ≤ self.old.block - 1 }
-        ensures ok { OnOk result (self.new ≡ with_prepared (Some entry.now) self.old) }
+        requires short { length (logged (record { entry = entry.now; cell = cell })) ≤ self.old.block - 1 }
+        ensures ok { OnOk result (self.new ≡ with_prepared (Some (record { entry = entry.now; cell = cell })) self.old) }
         ensures err { OnErr result (self.new ≡ with_prepared None self.old) }
         ensures long { IfOk result (λ body. length body.items + 1 ≡ self.old.block) }
-        ensures spelled { IfOk result (λ body. Spells self.old.block (0 ∷ body.items) entry.now) }
+        ensures spelled { IfOk result (λ body. Spells self.old.block (0 ∷ body.items) (record { entry = entry.now; cell = cell })) }
         ensures range { IfOk result (λ body. (1 ≤ length body.items) × (length body.items < 2 ^ 32)) }
     {
+        holds_entry(entry, cell, self.block);
         self.forget();
-        let body = write_body(alloc, entry, self.block)?;
+        let body = write_body(alloc, entry, cell, self.block)?;
         let entry = copy_entry(alloc, entry)?;
-        self.note(entry)?;
+        self.note(Logged { entry, cell })?;
         Ok(body)
     }
 
     // The place of the slot of an entry that comes next.
-    fn place(&self, entry: &Entry) -> u64
-        requires { ComesNext self.now.held entry.now }
+    fn place(&self, entry: &Entry, cell: u32) -> u64
+        requires { ComesNext self.now.held (record { entry = entry.now; cell = cell }) }
         ensures value { result ≡ slot_of self.now.base self.now.size entry.now.point.sno * self.now.block }
         ensures small { result < 2 ^ 32 }
     {
         place_of(&self.base, self.size, self.block, entry.point.sno)
     }
 
-    // The file of the log.
-    fn file(&self) -> u8
-        ensures value { result ≡ self.now.file }
-        ensures low { 3 ≤ result }
-        ensures high { result ≤ 4 }
-    {
-        self.file
-    }
-
     /// Writes the next entry behind a closed gate, on the disk: [`Log::commit`] opens it. Memory is
     /// taken before the first device call. What was prepared before is prepared no more.
     ///
-    /// At each moment a crash leaves the entries that are held, and all other files as before.
+    /// At each moment a crash leaves the entries that are held, and all other files as before. The
+    /// log's file is not synced first: it is durable after [`Log::make`] and after [`Log::commit`].
+    ///
+    /// `cell` is the number of the unit that the entry changes, 0 where it changes none.
     pub fn prepare<D: Disk>(
         &mut self,
         alloc: Global,
         disk: &mut D,
         entry: &Entry,
+        cell: u32,
     ) -> Result<(), Halt>
-        requires comes { ComesNext self.old.held entry.now }
+        requires comes { ComesNext self.old.held (record { entry = entry.now; cell = cell }) }
         requires fits { IsOp entry.now.op }
-        requires short { length (logged (unplaced entry.now)) ≤ self.old.block - 1 }
+        requires short { length (logged (record { entry = entry.now; cell = cell })) ≤ self.old.block - 1 }
         requires log { D.tells → HasLog self.old (D.view disk.old) }
-        ensures moments { D.tells → LeavesOnly (D.view disk.old) (D.view disk.new) (LeavesLog self.old (D.view disk.old)) }
+        requires durable { D.tells → IsDurable self.old.file (D.view disk.old) }
+        ensures crash { IsCrashSafe D.Disk disk.old disk.new (LeavesLog self.old (D.view disk.old)) }
         ensures prepared { D.tells → OnOk result (HasPrepared self.new (D.view disk.new)) }
         ensures others { D.tells → OnOk result (ReadsOthers self.old.file (D.view disk.old) (D.view disk.new)) }
-        ensures ok { OnOk result (self.new ≡ with_prepared (Some entry.now) self.old) }
+        ensures ok { OnOk result (self.new ≡ with_prepared (Some (record { entry = entry.now; cell = cell })) self.old) }
         ensures err { OnErr result (self.new ≡ with_prepared None self.old) }
         ensures memory { result ≡ Err IsMemoryOut → disk.new ≡ disk.old }
-        ensures same { D.loans disk.new ≡ D.loans disk.old }
-        ensures later { D.faults disk.old ≤ D.faults disk.new }
-        ensures cause { result ≡ Err IsDiskFault → Rose (D.faults disk.old) (D.faults disk.new) }
+        ensures call { IsCall D.Disk disk.old disk.new (result ≡ Err IsDiskFault) }
     {
-        let body = match self.body_of(alloc, entry) {
+        let body = match self.body_of(alloc, entry, cell) {
             Ok(body) => body,
             Err(_) => return Err(Halt::MemoryOut),
         };
-        let at = self.place(entry);
-        match write_next(disk, self.file(), at, &body) {
+        let at = self.place(entry, cell);
+        match write_next(disk, self.in_file(), at, &body) {
             Ok(()) => Ok(()),
             Err(_) => {
                 self.forget();
@@ -305,7 +351,7 @@ impl Log {
 
     // Takes what is prepared as the newest entry, and lets go of the oldest where there are too many.
     fn take_prepared(&mut self)
-        ensures { self.new ≡ committed self.old }
+        ensures { self.new ≡ log_committed self.old }
     {
         add_prepared(&mut self.held, &mut self.prepared);
         keep_newest(&mut self.held, self.size as usize);
@@ -313,13 +359,13 @@ impl Log {
 
     // The place of the slot of the entry that is prepared.
     fn prepared_place(&self) -> u64
-        ensures value { (next : Entry) → self.now.prepared ≡ Some next → result ≡ slot_of self.now.base self.now.size next.point.sno * self.now.block }
+        ensures value { (next : Logged) → self.now.prepared ≡ Some next → result ≡ slot_of self.now.base self.now.size next.entry.point.sno * self.now.block }
         ensures small { result < 2 ^ 32 }
         ensures size { 0 < self.now.size }
         ensures block { 0 < self.now.block }
     {
         match &self.prepared {
-            Some(next) => place_of(&self.base, self.size, self.block, next.point.sno),
+            Some(next) => place_of(&self.base, self.size, self.block, next.entry.point.sno),
             None => 0,
         }
     }
@@ -327,19 +373,20 @@ impl Log {
     /// Opens the gate of the entry that is prepared. It takes no memory.
     ///
     /// At each moment a crash leaves the old entries or the new ones, and all other files as before.
+    /// After `Ok` it leaves of the log's file what a read gives.
     pub fn commit<D: Disk>(&mut self, disk: &mut D) -> Result<(), DiskFailed>
         requires ready { self.old.prepared ≢ None }
         requires log { D.tells → HasPrepared self.old (D.view disk.old) }
-        ensures moments { D.tells → LeavesOnly (D.view disk.old) (D.view disk.new) (LeavesEither self.old (committed self.old) (D.view disk.old)) }
+        ensures crash { IsCrashSafe D.Disk disk.old disk.new (LeavesEither self.old (log_committed self.old) (D.view disk.old)) }
         ensures log { D.tells → OnOk result (HasLog self.new (D.view disk.new)) }
+        ensures durable { D.tells → OnOk result (IsDurable self.new.file (D.view disk.new)) }
         ensures others { D.tells → OnOk result (ReadsOthers self.old.file (D.view disk.old) (D.view disk.new)) }
-        ensures ok { OnOk result (self.new ≡ committed self.old) }
+        ensures ok { OnOk result (self.new ≡ log_committed self.old) }
         ensures err { OnErr result (self.new ≡ self.old) }
-        ensures same { D.loans disk.new ≡ D.loans disk.old }
-        ensures cause { HasCause (D.faults disk.old) (D.faults disk.new) result }
+        ensures call { IsCall D.Disk disk.old disk.new (IsErr result) }
     {
         let at = self.prepared_place();
-        match open_gate(disk, self.file(), at) {
+        match open_gate(disk, self.in_file(), at) {
             Ok(()) => {
                 self.take_prepared();
                 Ok(())

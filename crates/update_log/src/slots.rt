@@ -3,15 +3,24 @@ ghost use Rattle.update_log.specs.Slots.{slot_of};
 
 use kdb_base::Point;
 
-// The place of the slot in which the entry of this serial stands.
+// The slot in which the entry of this serial stands.
 #[tactic(auto, unfolding(crate::specs::Slots::slot_of))]
+pub(crate) fn slot_of(base: &Point, size: u32, sno: u32) -> u32
+    requires serial { base.now.sno ≤ sno }
+    requires size { size ≤ 10000 }
+    ensures value { result ≡ slot_of base.now size sno }
+    ensures small { result ≤ size }
+{
+    (sno - base.sno) % (size + 1)
+}
+
+// The place of the slot in which the entry of this serial stands.
 pub(crate) fn place_of(base: &Point, size: u32, block: u32, sno: u32) -> u64
     requires serial { base.now.sno ≤ sno }
     requires size { size ≤ 10000 }
-    requires block { block ≤ 10240 }
+    requires block { block ≤ 16384 }
     ensures value { result ≡ slot_of base.now size sno * block }
     ensures small { result < 2 ^ 32 }
 {
-    let slot = (sno - base.sno) % (size + 1);
-    u64::from(slot) * u64::from(block)
+    u64::from(slot_of(base, size, sno)) * u64::from(block)
 }

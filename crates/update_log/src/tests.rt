@@ -1,8 +1,7 @@
-ghost use Rattle.std.specs.Prelude.{◌≡◌, ◌≢◌, ◌≤◌, ◌+◌, IfOk, OnOk, None, length};
+ghost use Rattle.std.specs.Prelude.{◌≡◌, ◌≢◌, ◌≤◌, ◌+◌, IfOk, OnOk, None, length, ℕ};
 ghost use Rattle.princ_rows.specs.Entries.{IsOp, logged};
 ghost use Rattle.princ_record.specs.PrintedNames.{IsPrinted};
-ghost use Rattle.update_log.specs.Moments.{HasLog};
-ghost use Rattle.update_log.specs.Slots.{unplaced};
+ghost use Rattle.update_log.specs.Moments.{HasLog, IsDurable};
 
 use super::*;
 use kdb_base::{Blob, Fails, Halt, Point, Time};
@@ -46,6 +45,7 @@ fn printed(alloc: Global) -> Result<Blob, Fail>
 // A log of two entries in file 3.
 fn make_on(alloc: Global, disk: &mut MemoryDisk) -> Result<Log, Fail>
     ensures log { IfOk result (λ log. HasLog log (⟦<MemoryDisk as Disk>⟧.view disk.new)) }
+    ensures durable { IfOk result (λ log. IsDurable log.file (⟦<MemoryDisk as Disk>⟧.view disk.new)) }
     ensures block { IfOk result (λ log. log.block ≡ 2048) }
 {
     match Log::make(alloc, disk, 3, base(), 2, 2048, None) {
@@ -60,7 +60,7 @@ fn next_entry(alloc: Global, last: &Point) -> Result<Entry, Fail>
     ensures point { IfOk result (λ e. e.point ≡ record { sno = last.now.sno + 1; time = last.now.time }) }
     ensures change { IfOk result (λ e. e.op ≢ None) }
     ensures fits { IfOk result (λ e. IsOp e.op) }
-    ensures short { IfOk result (λ e. length (logged (unplaced e)) ≤ 2047) }
+    ensures short { IfOk result (λ e. (cell : ℕ) → length (logged (record { entry = e; cell = cell })) ≤ 2047) }
 {
     entries_have_their_lengths();
     if last.sno == u32::MAX {
@@ -76,16 +76,19 @@ fn next_entry(alloc: Global, last: &Point) -> Result<Entry, Fail>
     })
 }
 
-// Prepares and commits the next entry.
+// Prepares and commits the next entry, of the unit that has its serial.
+#[tactic(auto, using(crate::proofs::Spelled::follows))]
 fn append(alloc: Global, disk: &mut MemoryDisk, log: &mut Log) -> Result<(), Fail>
     requires log { HasLog log.old (⟦<MemoryDisk as Disk>⟧.view disk.old) }
+    requires durable { IsDurable log.old.file (⟦<MemoryDisk as Disk>⟧.view disk.old) }
     requires block { log.old.block ≡ 2048 }
     ensures log { OnOk result (HasLog log.new (⟦<MemoryDisk as Disk>⟧.view disk.new)) }
+    ensures durable { OnOk result (IsDurable log.new.file (⟦<MemoryDisk as Disk>⟧.view disk.new)) }
     ensures block { OnOk result (log.new.block ≡ 2048) }
 {
     let (_, last) = log.held();
     let entry = next_entry(alloc, &last)?;
-    match log.prepare(alloc, disk, &entry) {
+    match log.prepare(alloc, disk, &entry, entry.point.sno) {
         Ok(()) => {}
         Err(halt) => return Err(Fail::from(halt)),
     }
@@ -135,17 +138,20 @@ fn a_log_holds_its_last_entries(rt: HostRuntime) -> Result<(), Fail> {
     let log = fill(alloc, &mut disk)?;
     assert_eq!(rt; disk.bytes(3).len(), 6144);
     assert_eq!(rt; held_in(&log), (4, 5, [false, true, true, false]));
+    assert_eq!(rt; (log.last_cell(), log.in_file()), (5, 3));
     Ok(())
 }
 
 // Prepares the next entry, where the disk fails.
+#[tactic(auto, using(crate::proofs::Spelled::follows))]
 fn prepare_in_vain(alloc: Global, disk: &mut MemoryDisk, log: &mut Log) -> Result<(), Fail>
     requires log { HasLog log.old (⟦<MemoryDisk as Disk>⟧.view disk.old) }
+    requires durable { IsDurable log.old.file (⟦<MemoryDisk as Disk>⟧.view disk.old) }
     requires block { log.old.block ≡ 2048 }
 {
     let (_, last) = log.held();
     let entry = next_entry(alloc, &last)?;
-    match log.prepare(alloc, disk, &entry) {
+    match log.prepare(alloc, disk, &entry, 1) {
         Err(Halt::DiskFault) => Ok(()),
         _ => Err(Fail::from(Unexpected)),
     }
@@ -172,15 +178,15 @@ fn keeps_marker(alloc: Global, disk: &MemoryDisk, call: u64) -> Result<bool, Fai
     Ok(true)
 }
 
-// A log is made in nine calls. Then the file is synced and its length is asked for, the slot is begun
-// in two calls, and the body is written: that call fails.
+// A log is made in nine calls. Then the file's length is asked for, the slot is begun in two calls, and
+// the body is written: that call fails.
 #[test]
 fn an_entry_is_prepared_in_vain(rt: HostRuntime) -> Result<(), Fail> {
     let alloc = rt.alloc();
-    let fails = Fails::from_vec(vec![in alloc; 13u64]?);
+    let fails = Fails::from_vec(vec![in alloc; 12u64]?);
     let mut disk = MemoryDisk::new(alloc, fails)?;
     stop_preparing(alloc, &mut disk)?;
-    for call in 9..14 {
+    for call in 9..13 {
         assert!(rt; keeps_marker(alloc, &disk, call)?, "inside call {call}");
     }
     Ok(())

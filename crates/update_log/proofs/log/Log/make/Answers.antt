@@ -1,25 +1,26 @@
-use Rattle.std.proofs.Common.{None, refl, sym, subst, arith}
+use Rattle.std.proofs.Common.{refl, sym, subst, arith}
 use Rattle.kdb_disk.proofs.Differing.{started_differs}
 use Rattle.kdb_disk.proofs.Runs.{started}
 use Rattle.kdb_disk.specs.Moments.{Differs}
 use Rattle.kdb_disk.specs.View.{IsAfter}
-use Rattle.princ_rows.specs.declared.entries.Entry.{Entry}
+use Rattle.princ_rows.specs.declared.entries.Logged.{Logged}
+use Rattle.update_log.specs.Logs.{marker_of}
 use Rattle.update_log.specs.Moments.{IsMarker}
 use Rattle.update_log.proofs.log.Log.make.Goals as goal
 
-pub returns-in-Err-clause-moments : goal.returns-in-Err-clause-moments
-returns-in-Err-clause-moments g c tells =
-    let old = g.D.Disk.view c.args.disk.now in
-    started old (IsAfter (Differs c.args.file) old) (started_differs c.args.file old)
+pub returns-in-Err-clause-crash : goal.returns-in-Err-clause-crash
+returns-in-Err-clause-crash g c = record {
+  told = λ tells. let old = g.D.Disk.view c.args.disk.now in started old (IsAfter (Differs c.args.file) old) (started_differs c.args.file old);
+}
 
-pub returns-in-Err-queue_of-clause-moments : goal.returns-in-Err-queue_of-clause-moments
-returns-in-Err-queue_of-clause-moments g c tells =
-    let old = g.D.Disk.view c.args.disk.now in
-    started old (IsAfter (Differs c.args.file) old) (started_differs c.args.file old)
+pub returns-in-Err-queue_of-clause-crash : goal.returns-in-Err-queue_of-clause-crash
+returns-in-Err-queue_of-clause-crash g c = record {
+  told = λ tells. let old = g.D.Disk.view c.args.disk.now in started old (IsAfter (Differs c.args.file) old) (started_differs c.args.file old);
+}
 
 pub returns-in-Ok-write_first-clause-log : goal.returns-in-Ok-write_first-clause-log
 returns-in-Ok-write_first-clause-log g c tells =
-    let marker : Entry = record { point = c.args.base; op = None } in
+    let marker : Logged = marker_of c.args.base in
     let written : IsMarker c.args.base c.args.size c.args.block marker c.in-Ok.body.items = record {
       some_size = omega (arith, c.requires.size.0);
       long = c.in-Ok.ensures.long;
