@@ -8,3 +8,6 @@ pub mod units;
 pub use cells::{Cells, unit_size};
 pub use index::UnitIndex;
 pub use units::{StoredRow, clear_unit, fill_unit, read_unit};
+
+#[cfg(test)]
+mod tests;

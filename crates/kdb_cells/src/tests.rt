@@ -1,0 +1,81 @@
+ghost use Rattle.std.specs.Prelude.{◌≡◌, length, IfOk};
+
+use super::*;
+use crate::units::{FREE, POLICY, PRINC};
+use kdb_base::MemoryOut;
+use std::alloc::Global;
+use std::test::*;
+
+// A policy p1: a greatest life of 0 and a least life of 60 seconds, 8 bytes of 3 classes, and a
+// history of 2.
+const ROW: &[u8] = b"\0\x02p1\0\0\0\0\0\0\0\x3c\0\x08\0\x03\0\x02";
+
+// The row behind its state and its length.
+const UNIT: &[u8] = b"\x02\0\x12\0\x02p1\0\0\0\0\0\0\0\x3c\0\x08\0\x03\0\x02";
+
+fn page(alloc: Global, len: usize) -> Result<Vec<u8>, MemoryOut>
+    ensures { IfOk result (λ bytes. length bytes.items ≡ len) }
+{
+    let mut bytes = Vec::new(alloc);
+    bytes.resize(len, 0)?;
+    Ok(bytes)
+}
+
+// The state that is read from a unit of format 2.
+fn state_of(alloc: Global, unit: &[u8]) -> Option<u8> {
+    if unit.len() != unit_size(2) {
+        return None;
+    }
+    match read_unit(alloc, 2, unit) {
+        Ok(None) => Some(FREE),
+        Ok(Some(StoredRow::Princ(_))) => Some(PRINC),
+        Ok(Some(StoredRow::Policy(_))) => Some(POLICY),
+        Err(_) => None,
+    }
+}
+
+fn fill(unit: &mut Vec<u8>, kind: u8) {
+    if 3 + ROW.len() <= unit.len() {
+        fill_unit(unit, kind, ROW);
+    }
+}
+
+#[test]
+fn a_unit_is_read_as_it_is_written(rt: HostRuntime) -> Result<(), Fail> {
+    let mut unit = page(rt.alloc(), unit_size(2))?;
+    assert_eq!(rt; state_of(rt.alloc(), &unit), Some(FREE));
+    fill(&mut unit, POLICY);
+    assert!(rt; unit.starts_with(UNIT));
+    assert_eq!(rt; state_of(rt.alloc(), &unit), Some(POLICY));
+    fill(&mut unit, PRINC);
+    assert_eq!(rt; state_of(rt.alloc(), &unit), None);
+    Ok(())
+}
+
+// Frees the unit that a name is given.
+fn leave(index: &mut UnitIndex, name: &[u8]) -> Option<u32> {
+    match index.place(name) {
+        Ok(unit) => {
+            index.free(unit);
+            Some(unit)
+        }
+        Err(_) => None,
+    }
+}
+
+#[test]
+fn a_free_unit_is_given_again(rt: HostRuntime) {
+    let mut index = UnitIndex::new(rt.alloc());
+    assert_eq!(rt; leave(&mut index, b"a"), Some(1));
+    assert_eq!(rt; leave(&mut index, b"b"), Some(1));
+    assert_eq!(rt; index.place(b"c").ok(), Some(1));
+    assert_eq!(rt; index.place(b"d").ok(), Some(1));
+}
+
+#[test]
+fn new_cells_give_the_unit_behind_the_first(rt: HostRuntime) -> Result<(), Fail> {
+    let mut cells = Cells::new(rt.alloc(), 1, 2)?;
+    assert_eq!(rt; cells.place(b"a").ok(), Some(1));
+    assert_eq!(rt; (cells.file(), cells.format(), cells.len()), (1, 2, 0));
+    Ok(())
+}
