@@ -20,7 +20,7 @@ use Rattle.princ_name.specs.Realms.{is_realm}
 use Rattle.kdb_store.specs.Places.{recovers}
 use Rattle.kdb_store.specs.Moments.{Creates, Destroys}
 use Rattle.kdb_store.specs.Stores.{AnswersMade, AnswersEnded, IsChosen, RefusesEnd}
-use Rattle.kadm_top.specs.Parts.{SaidPart}
+use Rattle.kdb_ports.specs.Parts.{SaidPart}
 use Rattle.std.specs.List.Sorted.{IsStrictlySortedBy}
 use Rattle.std.proofs.lemmas.List.Elements.{All-from_recursion}
 use Rattle.princ_record.specs.RowLimits.{IsRow}

@@ -19,7 +19,7 @@ use Rattle.kdb_model.specs.declared.replies.Reply.{Reply}
 use Rattle.kdb_model.specs.declared.replies.Reply.TheVariants as reply
 use Rattle.kadm_top.specs.declared.intake.Asked.{Asked}
 use Rattle.kadm_top.specs.declared.intake.Asked.TheVariants.{Nothing, Refused, Does}
-use Rattle.kadm_top.specs.Parts.{SaidPart}
+use Rattle.kdb_ports.specs.Parts.{SaidPart}
 use Rattle.kadm_top.specs.Replies.{text_of}
 use Rattle.kadm_top.specs.Standing.{Stands, StandsEither, RecoversToOne}
 use Rattle.kadm_top.specs.Steps.{Decides, reply_to, place_after, places_after, moments_after, is_refusal, outcome, said, ending}

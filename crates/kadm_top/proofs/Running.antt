@@ -20,7 +20,7 @@ use Rattle.kadm_lines.specs.Reader.{ReaderState, to_come}
 use Rattle.kadm_top.specs.declared.halts.SessionHalt.{SessionHalt}
 use Rattle.kadm_top.specs.declared.halts.SessionHalt.TheVariants as session
 use Rattle.kadm_top.specs.Halts.{status_after}
-use Rattle.kadm_top.specs.Parts.{SaidPart}
+use Rattle.kdb_ports.specs.Parts.{SaidPart}
 use Rattle.kadm_top.specs.Standing.{Stands}
 use Rattle.kadm_top.specs.Steps.{Ending, EndsAs, ending}
 use Rattle.kadm_top.specs.Stops.{IsAtRest, IsStopped, Rests, Stops}

@@ -1,7 +1,6 @@
 pub mod Words
 pub mod Standing
 pub mod Replies
-pub mod Parts
 pub mod Steps
 pub mod Changes
 pub mod Stops

@@ -18,7 +18,7 @@ use Rattle.kdb_store.specs.Places.{Place, recovers}
 use Rattle.kdb_store.specs.Moments.{IsLike, Creates, Destroys}
 use Rattle.kdb_store.specs.Steps.{created}
 use Rattle.kadm_lines.specs.Lines.{seen_lines}
-use Rattle.kadm_top.specs.Parts.{SaidPart}
+use Rattle.kdb_ports.specs.Parts.{SaidPart}
 use Rattle.kadm_wire.specs.Replies.{reply_text}
 use Rattle.kdb_model.specs.declared.replies.Reply.TheVariants.{Done, Refused}
 use Rattle.kadm_top.specs.Replies.{ended_text}

@@ -2,13 +2,12 @@ ghost use Rattle.std.specs.Prelude.{◌≡◌, ◌≤◌, ◌⊎◌, ◌||◌, c
 ghost use Rattle.std.specs.Str.{bytes_eq};
 ghost use Rattle.kdb_base.specs.Causes.{Rose};
 ghost use Rattle.kdb_ports.specs.Told.{after_told};
-ghost use Rattle.kadm_top.specs.Parts.{SaidPart};
+ghost use Rattle.kdb_ports.specs.Parts.{SaidPart};
 ghost use Rattle.kadm_top.specs.Words.{is_alone};
 
-use crate::replies::write_whole;
 use crate::words::is_word;
 use kdb_base::Status;
-use kdb_ports::Sink;
+use kdb_ports::{Sink, write_whole};
 
 /// The answer to `--help`.
 pub const USAGE: &[u8] = b"\

@@ -2,14 +2,14 @@ ghost use Rattle.std.specs.Prelude.{◌≡◌, ◌≤◌, Err, IfOk, OnOk, OnErr
 ghost use Rattle.kdb_base.specs.Causes.{Rose, HasCause};
 ghost use Rattle.kdb_ports.specs.Told.{after_told};
 ghost use Rattle.kadm_wire.specs.Replies.{reply_text};
-ghost use Rattle.kadm_top.specs.Parts.{SaidPart};
+ghost use Rattle.kdb_ports.specs.Parts.{SaidPart};
 ghost use Rattle.kadm_top.specs.Replies.{ended_text, text_in};
 
 use crate::halts::SayHalt;
 use kadm_wire::print_reply;
 use kdb_base::{Blob, MemoryOut};
 use kdb_model::Reply;
-use kdb_ports::{Sink, WriteFailed};
+use kdb_ports::{Sink, WriteFailed, write_whole};
 use std::alloc::Global;
 
 /// The answer to `destroy`.
@@ -31,19 +31,6 @@ pub fn print(alloc: Global, reply: Reply) -> Result<Printed, MemoryOut>
         Ok(text) => Ok(Printed { reply, text }),
         Err(_) => Err(MemoryOut),
     }
-}
-
-/// Writes all of the bytes.
-pub(crate) fn write_whole<K: Sink>(sink: &mut K, bytes: &[u8]) -> Result<(), WriteFailed>
-    ensures ok { OnOk result (K.taken sink.new ≡ after_told (K.taken sink.old) bytes.now) }
-    ensures err { OnErr result (SaidPart bytes.now (K.taken sink.old) (K.taken sink.new)) }
-    ensures cause { HasCause (K.faults sink.old) (K.faults sink.new) result }
-{
-    let mut at = 0;
-    while at < bytes.len() {
-        at += sink.write(&bytes[at..])?;
-    }
-    Ok(())
 }
 
 /// Writes a reply whole.

@@ -4,7 +4,7 @@ use Rattle.std.specs.Prelude.{Option, Some}
 use Rattle.std.proofs.lemmas.List.{take-append-drop}
 use Rattle.kdb_base.specs.Moment.{Moment}
 use Rattle.kdb_store.specs.Places.{Place}
-use Rattle.kadm_top.specs.Parts.{SaidPart}
+use Rattle.kdb_ports.specs.Parts.{SaidPart}
 use Rattle.kadm_top.specs.declared.intake.Asked.{Asked}
 use Rattle.kadm_top.specs.Steps.{said, text_to, place_after, moments_after}
 use Rattle.kadm_top.specs.Stops.{HasStoppedAfter, MayStop}

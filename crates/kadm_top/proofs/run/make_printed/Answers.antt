@@ -1,7 +1,7 @@
 use Rattle.std.proofs.Common.{◌≡◌, ◌∙◌, ℕ, List, ap, inr, refl, rules, subst, true, Err}
 use Rattle.kdb_control.specs.Force.{in_force}
 use Rattle.kdb_ports.specs.Told.{after_told}
-use Rattle.kadm_top.specs.Parts.{SaidPart}
+use Rattle.kdb_ports.specs.Parts.{SaidPart}
 use Rattle.kdb_base.specs.declared.outcomes.Refusal.{Refusal}
 use Rattle.kadm_top.specs.Run.{create_of, refusal_line}
 use Rattle.kdb_disk.proofs.Runs.{kept}

@@ -1,6 +1,6 @@
 use Rattle.std.proofs.Common.{◌∙◌, ap, subst, List, ℕ}
 use Rattle.kdb_ports.specs.Told.{after_told}
-use Rattle.kadm_top.specs.Parts.{SaidPart}
+use Rattle.kdb_ports.specs.Parts.{SaidPart}
 use Rattle.kadm_top.specs.Replies.{reply_in}
 use Rattle.kadm_top.proofs.OneCommand.{ending_next, stops_within, stops_inside, rests_within, among_within, holds_stands}
 use Rattle.kadm_top.proofs.session.answer.Goals as goal

@@ -1,8 +1,0 @@
--- A text that was written in part.
-use Rattle.std.specs.Prelude.{ℕ, ◌≡◌, List, Option, take}
-use Rattle.kdb_ports.specs.Told.{after_told}
-
--- a front of a text was written
-pub record SaidPart (text : List ℕ) (old new : Option (List ℕ)) : Type 0 where
-  pub count : ℕ
-  pub part : new ≡ after_told old (take count text)
