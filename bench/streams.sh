@@ -1,7 +1,8 @@
 #!/bin/sh
 # Runs kdb_tool with its standard streams closed, in all seven ways, on create, admin and destroy, and looks
 # at the status, the files and the database afterwards. It also looks at the files' permissions, at a folder
-# without a database, at two creations at once, and, where strace is there, at the descriptors in use.
+# without a database, at two creations at once, and, where strace is there, at the descriptors in use and
+# at the syncs of a creation.
 # Usage: bench/streams.sh. Prints a line for each of these; status 1 where one is wrong.
 set -eu
 root=$(CDPATH='' cd -- "$(dirname -- "$0")/.." && pwd)
@@ -97,6 +98,17 @@ if shutil.which("strace"):
         if not way:
             calls = [re.search(r"\b([a-z0-9]+)\(", line)[1] for line in open(traced) if re.search(r"\b(pwrite64|fdatasync|fsync)\(", line)]
             tell("a sync after the last write of a change", calls[-1] if calls else "no call", "fdatasync")
+    clear()
+    subprocess.run([*before, program, "create", "EXAMPLE.ORG"], cwd=work, capture_output=True)
+    found = (re.search(r"\b(pwrite64|fdatasync|fsync)\(\d+<([^>]+)>", line) for line in open(traced))
+    calls = [it.groups() for it in found if it]
+    here = os.path.realpath(work)
+    written = sorted({path for call, path in calls if call == "pwrite64" and path.startswith(here)})
+    last = {path: max(at for at, it in enumerate(calls) if it == ("pwrite64", path)) for path in written}
+    first = {path: calls.index(("pwrite64", path)) for path in written}
+    tell("a creation writes files", len(written) >= 2, True)
+    tell("files of a creation not synced behind their last write", [path for path in written if ("fdatasync", path) not in calls[last[path]:]], [])
+    tell("files of a creation behind the folder's last sync", [path for path in written if ("fsync", here) not in calls[first[path]:]], [])
     os.remove(traced)
 print("all as wanted" if not wrong else f"{wrong} wrong")
 sys.exit(wrong != 0)

@@ -2,9 +2,11 @@
 #![tactic(auto)]
 
 use kadm_top::{run_local, say_text, text_alone};
+use kdb_base::Status;
 use kdb_disk::Folder;
 use kdb_ports::{ReaderSource, SystemClock, WriterSink, ZeroEntropy};
 use std::alloc::Global;
+use std::io::ErrorKind;
 use std::process::ExitCode;
 use std::{env, io};
 
@@ -22,6 +24,9 @@ fn main(rt: HostRuntime) -> ExitCode {
     // Words that are not UTF-8 are wrong words, as none at all are.
     let words = match read_words(&rt, alloc) {
         Ok(words) => words,
+        Err(fault) if fault.kind() == ErrorKind::OutOfMemory => {
+            return ExitCode::from(Status::MemoryOut.code());
+        }
         Err(_) => Vec::new(alloc),
     };
     let mut sink = WriterSink::new(rt.stdout());

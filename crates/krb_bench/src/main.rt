@@ -3,7 +3,9 @@
 #![tactic(auto)]
 
 mod ciphers;
+mod dumps;
 mod kept;
+mod masters;
 mod profile;
 mod records;
 mod timing;
@@ -27,6 +29,8 @@ fn main(rt: HostRuntime) -> Result<()> {
     }
     ciphers::report(&rt)?;
     profile::report(&rt, rt.alloc())?;
+    masters::report(&rt, rt.alloc())?;
     records::report(&rt, rt.alloc())?;
+    dumps::report(&rt, rt.alloc())?;
     Ok(())
 }

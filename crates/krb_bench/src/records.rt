@@ -38,7 +38,8 @@ fn sample_keys(alloc: Global) -> Result<Keys, MemoryOut>
     Ok(Keys::from_vec(keys))
 }
 
-fn sample(alloc: Global) -> Result<Princ, MemoryOut>
+/// A principal with two keys.
+pub fn sample(alloc: Global) -> Result<Princ, MemoryOut>
     ensures { IfOk result IsPrinc }
 {
     let name = Blob::from_bytes(alloc, b"raeburn@ATHENA.MIT.EDU")?;

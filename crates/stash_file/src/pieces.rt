@@ -19,7 +19,7 @@ use std::alloc::Global;
 const FIRST_NEGATIVE: u32 = 1 << 31;
 
 /// An entry of a keytab: a key of a principal.
-#[derive(Debug, Drop, PartialEq, Eq)]
+#[derive(Drop, PartialEq, Eq)]
 pub struct Entry {
     pub realm: Blob,
     /// The components of the principal's name.

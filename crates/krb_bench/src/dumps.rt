@@ -1,0 +1,78 @@
+// The rows a second that are read from a dump and written as one, of principals with two keys.
+
+use crate::records;
+use crate::timing::{print_rate, seconds_since};
+use anyhow::Result;
+use dump_text::{Dump, DumpReader, write_dump};
+use kdb_ports::WriterSink;
+use princ_record::encode;
+use std::alloc::Global;
+use std::io::Write;
+use std::time::CpuClock;
+
+/// Rows of the dump.
+const ROWS: u32 = 50_000;
+/// Bytes of a piece in which the dump is read.
+const PIECE: usize = 65_536;
+/// The length of the sample's name in its row, and of the names that take its place.
+const NAME: usize = 22;
+
+/// Adds two digits for each byte.
+fn push_hex(text: &mut Vec<u8>, bytes: &[u8]) -> Result<()> {
+    for byte in bytes {
+        write!(text, "{byte:02x}")?;
+    }
+    Ok(())
+}
+
+/// A dump whose principals are the sample's row under names of their own, in order.
+fn dump_of(alloc: Global, row: &[u8]) -> Result<Vec<u8>> {
+    let behind = row.get(2 + NAME..).unwrap_or_default();
+    let mut text = Vec::new(alloc);
+    write!(
+        text,
+        "kdb dump 2\nrealm ATHENA.MIT.EDU\npoint 1 1700000000.000000\n"
+    )?;
+    for number in 0..ROWS {
+        write!(text, "princ 0016")?;
+        let name = format!(in alloc; "n{number:06}@ATHENA.MIT.EDU")?;
+        push_hex(&mut text, name.as_bytes())?;
+        push_hex(&mut text, behind)?;
+        write!(text, "\n")?;
+    }
+    write!(text, "end {ROWS}\n")?;
+    Ok(text)
+}
+
+fn read(alloc: Global, text: &[u8]) -> Result<Dump> {
+    let mut reader = DumpReader::new(alloc)?;
+    for piece in text.chunks(PIECE) {
+        reader.feed(piece)?;
+    }
+    Ok(reader.finish()?)
+}
+
+/// Prints all figures of dumps.
+pub fn report<R: CpuClock + Print>(rt: &R, alloc: Global) -> Result<()> {
+    println!(rt; "a dump of principals with two keys")?;
+    let princ = records::sample(alloc)?;
+    let row = encode(alloc, &princ)?;
+    let text = dump_of(alloc, row.as_slice())?;
+    let start = rt.process_cpu_time()?;
+    let dump = read(alloc, &text)?;
+    print_rate(rt, "  read", ROWS, seconds_since(rt, start)?)?;
+    let mut sink = WriterSink::new(Vec::new(alloc));
+    let start = rt.process_cpu_time()?;
+    write_dump(
+        alloc,
+        dump.realm.as_slice(),
+        dump.point,
+        &dump.rows,
+        &mut sink,
+    )?;
+    print_rate(rt, "  write", ROWS, seconds_since(rt, start)?)?;
+    if sink.into_writer() != text {
+        println!(rt; "  what was written is not what was read")?;
+    }
+    Ok(())
+}

@@ -1,0 +1,147 @@
+// The speed of keys under master keys: one key wrapped, a record wrapped anew, a chain of three opened.
+
+ghost use Rattle.std.specs.Prelude.{◌≡◌, ◌+◌, ◌<◌, ◌≤◌, IfOk, length};
+ghost use Rattle.master_keys.specs.Chain.{IsChain};
+ghost use Rattle.master_keys.specs.Versions.{last_version};
+
+use crate::records;
+use crate::timing::{print_time, seconds_since};
+use anyhow::Result;
+use kdb_base::{Etype, Masters, MemoryOut, PlainKey, Salt};
+use master_keys::{MasterKey, add, new_chain, open_with, rewrap};
+use princ_record::{KeyItem, Keys, Princ};
+use std::alloc::Global;
+use std::time::CpuClock;
+
+/// Keys wrapped that one figure is taken over.
+const WRAPS: u32 = 100_000;
+/// Records wrapped anew that one figure is taken over.
+const RECORDS: u32 = 20_000;
+/// Chains opened that one figure is taken over.
+const CHAINS: u32 = 20_000;
+
+/// A key of one byte, again and again.
+fn key_of(etype: Etype, byte: u8) -> PlainKey {
+    PlainKey::from_bytes(etype, &[byte; 32][..etype.key_len()])
+}
+
+/// Bytes for confounders.
+fn confounders<const N: usize>() -> [u8; N] {
+    [8; N]
+}
+
+fn wrapped_item(alloc: Global, master: &MasterKey, etype: Etype) -> Result<KeyItem, MemoryOut> {
+    let wrapped = master.wrap(alloc, &key_of(etype, 2), &[3; 16])?;
+    Ok(KeyItem {
+        kvno: 1,
+        etype,
+        salt: Salt::Normal,
+        wrapped,
+    })
+}
+
+/// A record with two keys under this master key.
+fn record_under(alloc: Global, master: &MasterKey) -> Result<Princ, MemoryOut>
+    ensures { IfOk result (λ p. length p.keys ≤ 32) }
+{
+    let mut princ = records::sample(alloc)?;
+    let mut keys = Vec::new(alloc);
+    keys.push(wrapped_item(alloc, master, Etype::Aes256)?)?;
+    keys.push(wrapped_item(alloc, master, Etype::Aes128)?)?;
+    princ.keys = Keys::from_vec(keys);
+    Ok(princ)
+}
+
+/// K/M's record with one version, and that version's key.
+#[tactic(auto, unfolding(master_keys::specs::Versions::last_version))]
+fn first_chain(alloc: Global, key: &PlainKey) -> Result<(Princ, Masters), MemoryOut>
+    ensures one { IfOk result (λ both. length both.1 ≡ 1) }
+    ensures last { IfOk result (λ both. last_version both.1 ≡ 1) }
+    ensures chain { IfOk result (λ both. IsChain both.0 both.1) }
+{
+    let both = new_chain(alloc, b"R", key, 1_700_000_000, &[5; 16])?;
+    Ok(both)
+}
+
+/// One more master key.
+fn grown(
+    alloc: Global,
+    entry: &Princ,
+    masters: &Masters,
+    key: &PlainKey,
+) -> Result<(Princ, Masters), MemoryOut>
+    requires chain { IsChain entry.now masters.now }
+    requires few { length masters.now < 32 }
+    requires greatest { last_version masters.now < 65535 }
+    ensures more { IfOk result (λ both. length both.1 ≡ length masters.now + 1) }
+    ensures last { IfOk result (λ both. last_version both.1 ≡ last_version masters.now + 1) }
+    ensures chain { IfOk result (λ both. IsChain both.0 both.1) }
+{
+    let both = add(alloc, entry, masters, key, &confounders())?;
+    Ok(both)
+}
+
+/// K/M's record with three versions, of which the first key is the given one.
+fn chain_of_three(alloc: Global, first: &PlainKey) -> Result<Princ, MemoryOut> {
+    let (entry, masters) = first_chain(alloc, first)?;
+    let key = key_of(Etype::Aes256Sha2, 4);
+    let (entry, masters) = grown(alloc, &entry, &masters, &key)?;
+    let key = key_of(Etype::Aes128, 5);
+    let (entry, _) = grown(alloc, &entry, &masters, &key)?;
+    Ok(entry)
+}
+
+fn wrap_again(alloc: Global, master: &MasterKey, key: &PlainKey, turns: u32) {
+    for _ in 0..turns {
+        let _ = master.wrap(alloc, key, &[3; 16]);
+    }
+}
+
+fn rewrap_again(alloc: Global, princ: &Princ, old: &PlainKey, fresh: &PlainKey, turns: u32)
+    requires { length princ.now.keys ≤ 32 }
+{
+    let random = confounders();
+    for _ in 0..turns {
+        let _ = rewrap(alloc, princ, old, 2, fresh, &random);
+    }
+}
+
+fn open_again(alloc: Global, entry: &Princ, key: &PlainKey, turns: u32) {
+    for _ in 0..turns {
+        let _ = open_with(alloc, entry, 1, key);
+    }
+}
+
+/// Prints all figures of master keys.
+pub fn report<R: CpuClock + Print>(rt: &R, alloc: Global) -> Result<()> {
+    println!(rt; "keys under a master key of type 18")?;
+    let old = key_of(Etype::Aes256, 1);
+    let master = MasterKey::new(&old);
+    let start = rt.process_cpu_time()?;
+    wrap_again(alloc, &master, &key_of(Etype::Aes256, 2), WRAPS);
+    print_time(
+        rt,
+        "  wrap a key of 32 bytes",
+        WRAPS,
+        seconds_since(rt, start)?,
+    )?;
+    let princ = record_under(alloc, &master)?;
+    let start = rt.process_cpu_time()?;
+    rewrap_again(alloc, &princ, &old, &key_of(Etype::Aes256, 3), RECORDS);
+    print_time(
+        rt,
+        "  wrap a record of two keys anew",
+        RECORDS,
+        seconds_since(rt, start)?,
+    )?;
+    let entry = chain_of_three(alloc, &old)?;
+    let start = rt.process_cpu_time()?;
+    open_again(alloc, &entry, &old, CHAINS);
+    print_time(
+        rt,
+        "  open a chain of three from the oldest",
+        CHAINS,
+        seconds_since(rt, start)?,
+    )?;
+    Ok(())
+}
