@@ -4,6 +4,9 @@ use Rattle.std.specs.Prelude.{◌||◌, filter, is_some, nat_eq, nat_lt, not, if
 use Rattle.std.specs.List.{AllByRecursion, list_any}
 use Rattle.std.proofs.lemmas.Map.Views.{any-filter_same}
 use Rattle.kdb_base.specs.declared.versions.Master.{Master}
+use Rattle.std.specs.Ordering.{nat_cmp}
+use Rattle.std.proofs.lemmas.List.Kept.{IsStrictlySortedBy-filter}
+use Rattle.kdb_base.specs.Versions.{AreRising}
 use Rattle.master_keys.specs.Purging.{live_masters}
 use Rattle.master_keys.specs.Versions.{is_live, last_version}
 use Rattle.kdb_plain.specs.Versions.{cause_from, cause_of, dead_versions, is_active_at, is_pending, protected_by, serves, serving_masters}
@@ -26,6 +29,10 @@ newest_serves s secs =
     let version = last_version s.masters in
     some_cause (nat_lt 0 (protected_by s.realm s.princs version)) (is_active_at s.activations secs version) (nat_eq version version) (is_pending s.activations secs version)
     _ _ _ _ (eq-eqb version version refl)
+
+pub dead_rise : (s : State) (secs : ℕ) → AreRising (map (λ (m : Master). m.version) s.masters) → AreRising (dead_versions s secs)
+unfolding dead_versions
+dead_rise s secs rising = IsStrictlySortedBy-filter nat_cmp (λ version. not (serves s secs version)) (map (λ (m : Master). m.version) s.masters) rising
 
 or_second : (a b : Bool) → b ≡ true → (a || b) ≡ true
 or_second true b e = refl

@@ -12,8 +12,8 @@ use Rattle.princ_record.specs.Policies.{IsPolicy}
 use Rattle.princ_rows.specs.Effects.{put_by, drop_by}
 use Rattle.princ_rows.specs.Entries.{same_bytes, bytes_same}
 use Rattle.princ_rows.proofs.Orders.{put_order, put_each, drop_order, drop_each, drop_short}
-use Rattle.kdb_plain.specs.Changes.{IsOrdinary, name_of, policy_name, put_princ, drop_princ, put_policy, drop_policy}
-use Rattle.kdb_plain.specs.States.{HasItsPolicy, IsListed, has_policy, history_name, is_name, policy_named, princ_named, users_of, uses}
+use Rattle.kdb_plain.specs.Changes.{IsOrdinary, MayBePut, name_of, policy_name, put_princ, drop_princ, put_policy, drop_policy}
+use Rattle.kdb_plain.specs.States.{HasHistory, HasItsPolicy, IsListed, NeverRise, has_policy, history_name, is_name, policy_named, princ_named, users_of, uses}
 use Rattle.kdb_plain.specs.declared.princs.PlainPrinc.{PlainPrinc}
 use Rattle.kdb_plain.proofs.Named.{put_own, put_other, drop_other}
 use Rattle.kdb_base.specs.Moment.{Moment}
@@ -39,33 +39,48 @@ still_begun stays list early late le begun = some_from (active list late) (stays
 
 pub still_valid : StaysActive → (s : State) (early late : Moment) → early.secs ≤ late.secs → IsValid early s → IsValid late s
 still_valid stays s early late le f = record {
+  realm = f.realm;
   princ_order = f.princ_order;
   policy_order = f.policy_order;
   few = f.few;
   policies = f.policies;
   policies_there = f.policies_there;
+  falling = f.falling;
   masters = f.masters;
+  masters_rise = f.masters_rise;
   listed = f.listed;
   activations = f.activations;
+  activations_rise = f.activations_rise;
   begun = still_begun stays s.activations early.secs late.secs le f.begun;
   history = f.history;
 }
 
 pub point_valid : (s : State) (time : Moment) (point : Point) → IsValid time s → IsValid time (record s { point = point })
 point_valid s time point f = record {
+  realm = f.realm;
   princ_order = f.princ_order;
   policy_order = f.policy_order;
   few = f.few;
   policies = f.policies;
   policies_there = f.policies_there;
+  falling = f.falling;
   masters = record { entry = f.masters.entry; there = f.masters.there; keys = f.masters.keys; newest = f.masters.newest };
+  masters_rise = f.masters_rise;
   listed = f.listed;
   activations = f.activations;
+  activations_rise = f.activations_rise;
   begun = f.begun;
   history = record { entry = f.history.entry; there = f.history.there; one = f.history.one };
 }
 
 -- ---- principals
+
+truth : (b : Bool) → (b ≡ true) ⊎ (b ≡ false)
+truth true = inl refl
+truth false = inr refl
+
+differ : (a b : List ℕ) → bytes_eq a b ≡ false → a ≢ b
+differ a b different e = let same = bytes_same a b e in absurd cc
 
 put_found : (name : List ℕ) (q : PlainPrinc) (princs : List PlainPrinc) (o : Option PlainPrinc) → name ≢ q.name → princ_named name princs ≡ o → princ_named name (put_by name_of q princs) ≡ o
 unfolding princ_named
@@ -78,45 +93,67 @@ drop_found name gone princs o other is = drop_other name_of name gone princs oth
 abbrev IsUnder : State → PlainPrinc → Type 0
 IsUnder s q = IsListed s.masters q.mkvno
 
-pub put_valid : (time : Moment) (s : State) (q : PlainPrinc) → IsValid time s → IsOrdinary s.realm q.name → IsListed s.masters q.mkvno → HasItsPolicy s.policies q
+put_history : (q : PlainPrinc) (s : State) → (q.name ≡ history_name s.realm → length q.keys ≡ 1) → HasHistory s → HasHistory (put_princ q s)
+unfolding princ_named
+put_history q s one h =
+    elim (truth (bytes_eq (history_name s.realm) q.name)) [
+      | inl same ↦
+          let is = same_bytes (history_name s.realm) q.name same in
+          record {
+            entry = q;
+            there = subst (λ (n : List ℕ). princ_named n (put_by name_of q s.princs) ≡ Some q) (sym is) (put_own name_of q s.princs);
+            one = one (sym is);
+          }
+      | inr other ↦ record {
+        entry = h.entry;
+        there = put_found (history_name s.realm) q s.princs (Some h.entry) (λ e. differ (history_name s.realm) q.name other e) h.there;
+        one = h.one;
+      }
+    ]
+
+pub put_valid : (time : Moment) (s : State) (q : PlainPrinc) → IsValid time s → MayBePut s.realm q → IsListed s.masters q.mkvno → HasItsPolicy s.policies q
     → length (put_princ q s).princs + length s.policies ≤ most_rows → IsValid time (put_princ q s)
-put_valid time s q f ordinary under policy room = record {
+put_valid time s q f fits under policy room = record {
+  realm = f.realm;
   princ_order = put_order name_of q s.princs f.princ_order;
   policy_order = f.policy_order;
   few = room;
   policies = f.policies;
   policies_there = put_each (HasItsPolicy s.policies) name_of q s.princs policy f.policies_there;
+  falling = put_each (λ (o : PlainPrinc). NeverRise o.keys) name_of q s.princs fits.falling f.falling;
   masters = record {
     entry = f.masters.entry;
-    there = put_found (master_name s.realm) q s.princs (Some f.masters.entry) (λ e. ordinary.other_than_master (sym e)) f.masters.there;
+    there = put_found (master_name s.realm) q s.princs (Some f.masters.entry) (λ e. fits.other_than_master (sym e)) f.masters.there;
     keys = f.masters.keys;
     newest = f.masters.newest;
   };
+  masters_rise = f.masters_rise;
   listed = put_each (IsUnder s) name_of q s.princs under f.listed;
   activations = f.activations;
+  activations_rise = f.activations_rise;
   begun = f.begun;
-  history = record {
-    entry = f.history.entry;
-    there = put_found (history_name s.realm) q s.princs (Some f.history.entry) (λ e. ordinary.other_than_history (sym e)) f.history.there;
-    one = f.history.one;
-  };
+  history = put_history q s fits.one_history_key f.history;
 }
 
 pub drop_valid : (time : Moment) (s : State) (name : List ℕ) → IsValid time s → IsOrdinary s.realm name → IsValid time (drop_princ name s)
 drop_valid time s name f ordinary = record {
+  realm = f.realm;
   princ_order = drop_order name_of name s.princs f.princ_order;
   policy_order = f.policy_order;
   few = omega (arith, f.few, drop_short name_of name s.princs);
   policies = f.policies;
   policies_there = drop_each (HasItsPolicy s.policies) name_of name s.princs f.policies_there;
+  falling = drop_each (λ (o : PlainPrinc). NeverRise o.keys) name_of name s.princs f.falling;
   masters = record {
     entry = f.masters.entry;
     there = drop_found (master_name s.realm) name s.princs (Some f.masters.entry) (λ e. ordinary.other_than_master (sym e)) f.masters.there;
     keys = f.masters.keys;
     newest = f.masters.newest;
   };
+  masters_rise = f.masters_rise;
   listed = drop_each (IsUnder s) name_of name s.princs f.listed;
   activations = f.activations;
+  activations_rise = f.activations_rise;
   begun = f.begun;
   history = record {
     entry = f.history.entry;
@@ -127,16 +164,9 @@ drop_valid time s name f ordinary = record {
 
 -- ---- policies
 
-truth : (b : Bool) → (b ≡ true) ⊎ (b ≡ false)
-truth true = inl refl
-truth false = inr refl
-
 each : (F G : PlainPrinc → Type 0) → ((q : PlainPrinc) → F q → G q) → (qs : List PlainPrinc) → AllByRecursion F qs → AllByRecursion G qs
 each F G to [] h = tt
 each F G to (q ∷ qs) h = (to q h.0, each F G to qs h.1)
-
-differ : (a b : List ℕ) → bytes_eq a b ≡ false → a ≢ b
-differ a b different e = let same = bytes_same a b e in absurd cc
 
 -- it names another policy
 named_not : (q : PlainPrinc) (name gone : List ℕ) → q.policy ≡ Some name → uses gone q ≡ false → name ≢ gone
@@ -157,6 +187,7 @@ some_stays p policies (Some name) h = stays p policies name h
 
 pub put_policy_valid : (time : Moment) (s : State) (p : Rules) → IsValid time s → IsPolicy p → length s.princs + length (put_policy p s).policies ≤ most_rows → IsValid time (put_policy p s)
 put_policy_valid time s p f fits room = record {
+  realm = f.realm;
   princ_order = f.princ_order;
   policy_order = put_order policy_name p s.policies f.policy_order;
   few = room;
@@ -164,9 +195,12 @@ put_policy_valid time s p f fits room = record {
   policies_there = All-from_recursion (HasItsPolicy (put_by policy_name p s.policies)) s.princs
       (each (HasItsPolicy s.policies) (HasItsPolicy (put_by policy_name p s.policies)) (λ q h. some_stays p s.policies q.policy h) s.princs
       (recursion_from_All (HasItsPolicy s.policies) s.princs f.policies_there));
+  falling = f.falling;
   masters = record { entry = f.masters.entry; there = f.masters.there; keys = f.masters.keys; newest = f.masters.newest };
+  masters_rise = f.masters_rise;
   listed = f.listed;
   activations = f.activations;
+  activations_rise = f.activations_rise;
   begun = f.begun;
   history = record { entry = f.history.entry; there = f.history.there; one = f.history.one };
 }
@@ -198,15 +232,19 @@ all_left gone policies (q ∷ qs) unused h = (some_left gone policies q q.policy
 pub drop_policy_valid : (time : Moment) (s : State) (name : List ℕ) → IsValid time s → users_of name s.princs ≡ 0 → IsValid time (drop_policy name s)
 unfolding users_of
 drop_policy_valid time s name f unused = record {
+  realm = f.realm;
   princ_order = f.princ_order;
   policy_order = drop_order policy_name name s.policies f.policy_order;
   few = omega (arith, f.few, drop_short policy_name name s.policies);
   policies = drop_each IsPolicy policy_name name s.policies f.policies;
   policies_there = All-from_recursion (HasItsPolicy (drop_by policy_name name s.policies)) s.princs
       (all_left name s.policies s.princs (none_uses name s.princs unused) (recursion_from_All (HasItsPolicy s.policies) s.princs f.policies_there));
+  falling = f.falling;
   masters = record { entry = f.masters.entry; there = f.masters.there; keys = f.masters.keys; newest = f.masters.newest };
+  masters_rise = f.masters_rise;
   listed = f.listed;
   activations = f.activations;
+  activations_rise = f.activations_rise;
   begun = f.begun;
   history = record { entry = f.history.entry; there = f.history.there; one = f.history.one };
 }

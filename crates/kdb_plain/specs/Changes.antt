@@ -1,9 +1,9 @@
 -- Changes of a state by one principal or one policy.
-use Rattle.std.specs.Prelude.{ℕ, ◌≢◌, List}
+use Rattle.std.specs.Prelude.{ℕ, ◌≡◌, ◌≢◌, List, length}
 use Rattle.master_keys.specs.First.{master_name}
 use Rattle.policy_rules.specs.Rules.{Rules}
 use Rattle.princ_rows.specs.Effects.{put_by, drop_by}
-use Rattle.kdb_plain.specs.States.{history_name}
+use Rattle.kdb_plain.specs.States.{NeverRise, history_name}
 use Rattle.kdb_plain.specs.declared.princs.PlainPrinc.{PlainPrinc}
 use Rattle.kdb_plain.specs.declared.states.State.{State}
 
@@ -31,3 +31,9 @@ drop_policy name s = record s { policies = drop_by policy_name name s.policies }
 pub record IsOrdinary (realm name : List ℕ) : Type 0 where
   pub other_than_master : name ≢ master_name realm
   pub other_than_history : name ≢ history_name realm
+
+-- not K/M; kadmin/history too, under whatever version of the master key, where it has one key
+pub record MayBePut (realm : List ℕ) (q : PlainPrinc) : Type 0 where
+  pub other_than_master : q.name ≢ master_name realm
+  pub one_history_key : q.name ≡ history_name realm → length q.keys ≡ 1
+  pub falling : NeverRise q.keys

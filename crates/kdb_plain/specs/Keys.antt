@@ -55,10 +55,11 @@ abbrev pub made_keys : List ℕ → NameParts → NewKeys → List Key
 made_keys random name (Random etypes) = random_keys random etypes
 made_keys random name (Password password etypes) = password_keys password (normal_salt name) etypes
 
--- the random bytes that new keys take, with their confounders; a password takes none here
-abbrev pub bytes_drawn : NewKeys → ℕ
-bytes_drawn (Random etypes) = sum_by drawn_len etypes
-bytes_drawn (Password password etypes) = 0
+-- the bytes that making the keys wants at the front of a random block: those of random keys, each with the 16 behind it, and none for
+-- a password's. A record with these keys may draw more: each of them is kept with a confounder of 16 bytes, a password's too
+abbrev pub bytes_to_make : NewKeys → ℕ
+bytes_to_make (Random etypes) = sum_by drawn_len etypes
+bytes_to_make (Password password etypes) = 0
 
 abbrev pub is_password : NewKeys → Bool
 is_password (Random etypes) = false

@@ -1,15 +1,17 @@
 -- What is found in a state, and which states are valid.
-use Rattle.std.specs.Prelude.{ℕ, ◌≡◌, ◌+◌, ◌≤◌, Bool, false, nat_eq, List, [], ◌∷◌, ◌++◌, codes, length, map, filter, reverse, find, Option, Some, None, is_some, option_map, option_and_then, IfSome, IsTrue}
-use Rattle.std.specs.List.{All, last_or}
+use Rattle.std.specs.Prelude.{ℕ, ◌≡◌, ◌+◌, ◌≤◌, Bool, true, false, nat_eq, List, [], ◌∷◌, ◌++◌, ◌&&◌, nat_le, codes, length, map, filter, reverse, find, Option, Some, None, is_some, option_map, option_and_then, IfSome, IsTrue}
+use Rattle.std.specs.List.{All, last_or, list_all}
 use Rattle.std.specs.Str.{bytes_eq}
 use Rattle.kdb_base.specs.Key.{Key}
 use Rattle.kdb_base.specs.Limits.{most_rows}
 use Rattle.kdb_base.specs.Moment.{Moment}
+use Rattle.kdb_base.specs.Versions.{AreRising}
 use Rattle.kdb_base.specs.declared.versions.Activation.{Activation}
 use Rattle.kdb_base.specs.declared.versions.Master.{Master}
 use Rattle.key_activation.specs.Activations.{active}
 use Rattle.master_keys.specs.First.{master_name}
 use Rattle.policy_rules.specs.Rules.{Rules}
+use Rattle.princ_name.specs.Realms.{IsRealm}
 use Rattle.princ_record.specs.Policies.{IsPolicy}
 use Rattle.princ_rows.specs.Rows.{AreInOrder, policy_keys}
 use Rattle.kdb_plain.specs.Lists.{princ_names}
@@ -94,17 +96,33 @@ IsListed masters version = IsTrue (is_some (master_of masters version))
 abbrev pub HasItsPolicy : List Rules → PlainPrinc → Type 0
 HasItsPolicy policies q = IfSome q.policy (λ name. IsTrue (has_policy name policies))
 
+-- a later key has no greater version
+abbrev pub may_follow : PlainItem → PlainItem → Bool
+may_follow k later = nat_le later.kvno k.kvno
+
+unfoldable pub never_rise : List PlainItem → Bool
+never_rise [] = true
+never_rise (k ∷ keys) = list_all (may_follow k) keys && never_rise keys
+
+-- the versions of the keys never rise along the list
+abbrev pub NeverRise : List PlainItem → Type 0
+NeverRise keys = IsTrue (never_rise keys)
+
 -- The state is valid at a time. This speaks of no point, and holds at later times too; a valid state is one that is valid at the
 -- time of its point.
 pub record IsValid (time : Moment) (s : State) : Type 0 where
+  pub realm : IsRealm s.realm
   pub princ_order : AreInOrder (princ_names s.princs)
   pub policy_order : AreInOrder (policy_keys s.policies)
   pub few : length s.princs + length s.policies ≤ most_rows
   pub policies : All IsPolicy s.policies
   pub policies_there : All (HasItsPolicy s.policies) s.princs
+  pub falling : All (λ (q : PlainPrinc). NeverRise q.keys) s.princs
   pub masters : HasMasters s
+  pub masters_rise : AreRising (map (λ (m : Master). m.version) s.masters)
   pub listed : All (λ (q : PlainPrinc). IsListed s.masters q.mkvno) s.princs
   pub activations : All (λ (a : Activation). IsListed s.masters a.version) s.activations
+  pub activations_rise : AreRising (map (λ (a : Activation). a.version) s.activations)
   pub begun : IsTrue (is_some (active s.activations time.secs))
   pub history : HasHistory s
 

@@ -1,14 +1,16 @@
 //! Laws of plain states. They do no work.
 
-ghost use Rattle.std.specs.Prelude.{◌≡◌, ◌≢◌, ◌+◌, ◌≤◌, ℕ, List, Some, None, true, length};
+ghost use Rattle.std.specs.Prelude.{◌≡◌, ◌≢◌, ◌+◌, ◌≤◌, ℕ, List, Some, None, true, length, map};
 ghost use Rattle.kdb_base.specs.Limits.{most_rows};
 ghost use Rattle.kdb_base.specs.Moment.{Moment};
+ghost use Rattle.kdb_base.specs.Versions.{AreRising};
 ghost use Rattle.kdb_base.specs.declared.moments.Point.{Point};
+ghost use Rattle.kdb_base.specs.declared.versions.Master.{Master};
 ghost use Rattle.master_keys.specs.Purging.{live_masters};
 ghost use Rattle.master_keys.specs.Versions.{last_version};
 ghost use Rattle.policy_rules.specs.Rules.{Rules};
 ghost use Rattle.princ_record.specs.Policies.{IsPolicy};
-ghost use Rattle.kdb_plain.specs.Changes.{IsOrdinary, drop_policy, drop_princ, put_policy, put_princ};
+ghost use Rattle.kdb_plain.specs.Changes.{IsOrdinary, MayBePut, drop_policy, drop_princ, put_policy, put_princ};
 ghost use Rattle.kdb_plain.specs.States.{HasItsPolicy, IsListed, IsValid, policy_named, princ_named, users_of};
 ghost use Rattle.kdb_plain.specs.Versions.{dead_versions, serves, serving_masters};
 ghost use Rattle.kdb_plain.specs.declared.princs.PlainPrinc.{PlainPrinc};
@@ -36,10 +38,10 @@ pub fn changes_are_found()
     ensures left_policies { (name gone : List ℕ) (s : State) → name ≢ gone → policy_named name (drop_policy gone s).policies ≡ policy_named name s.policies }
 {}
 
-/// A principal other than K/M and kadmin/history may be put into a valid state where its master key and its policy
-/// are there and there is room, and may be dropped.
+/// A principal other than K/M whose keys' versions never rise, kadmin/history with one key too, may be put into a
+/// valid state where its master key and its policy are there and there is room. One other than both may be dropped.
 pub fn principals_keep_states_valid()
-    ensures put { (time : Moment) (s : State) (q : PlainPrinc) → IsValid time s → IsOrdinary s.realm q.name → IsListed s.masters q.mkvno → HasItsPolicy s.policies q → length (put_princ q s).princs + length s.policies ≤ most_rows → IsValid time (put_princ q s) }
+    ensures put { (time : Moment) (s : State) (q : PlainPrinc) → IsValid time s → MayBePut s.realm q → IsListed s.masters q.mkvno → HasItsPolicy s.policies q → length (put_princ q s).princs + length s.policies ≤ most_rows → IsValid time (put_princ q s) }
     ensures drop { (time : Moment) (s : State) (name : List ℕ) → IsValid time s → IsOrdinary s.realm name → IsValid time (drop_princ name s) }
 {}
 
@@ -50,7 +52,9 @@ pub fn policies_keep_states_valid()
 {}
 
 /// The newest master key serves always, and a purge of the versions that do not serve leaves the master keys that do.
+/// Those that do not serve are told by rising versions.
 pub fn serving_versions_stay()
     ensures newest { (s : State) (secs : ℕ) → serves s secs (last_version s.masters) ≡ true }
+    ensures rising { (s : State) (secs : ℕ) → AreRising (map (λ (m : Master). m.version) s.masters) → AreRising (dead_versions s secs) }
     ensures purged { (s : State) (secs : ℕ) → live_masters (dead_versions s secs) s.masters ≡ serving_masters s secs }
 {}

@@ -1,6 +1,7 @@
 //! What is found in a state by name and by version.
 
-ghost use Rattle.std.specs.Prelude.{◌≡◌, IfOk, find, option_map};
+ghost use Rattle.std.specs.Prelude.{◌≡◌, ◌≤◌, IfOk, find, option_map};
+ghost use Rattle.kdb_base.specs.Limits.{most_rows};
 ghost use Rattle.kdb_plain.specs.States.{first_key, has_policy, history_key, history_name, is_version, master_of, policy_named, princ_named, users_of, uses};
 
 use crate::items::PlainItem;
@@ -47,7 +48,8 @@ fn uses(princ: &PlainPrinc, name: &[u8]) -> bool
 /// How many principals name this policy.
 #[tactic(auto, unfolding(crate::specs::States::users_of))]
 pub fn users_of(princs: &PlainPrincs, name: &[u8]) -> usize
-    ensures { result ≡ users_of name.now princs.now }
+    ensures count { result ≡ users_of name.now princs.now }
+    ensures few { result ≤ most_rows }
 {
     princs
         .as_slice()

@@ -3,7 +3,7 @@
 ghost use Rattle.std.specs.Prelude.{◌≡◌, ◌≤◌, length, map, IfOk};
 ghost use Rattle.std.specs.List.{flat_map, sum_by};
 ghost use Rattle.kdb_base.specs.Etypes.{key_len};
-ghost use Rattle.kdb_plain.specs.Keys.{bytes_drawn, drawn_len, item_of, items_of, made_keys, normal_salt, password_key, password_keys, random_keys, settled_salt};
+ghost use Rattle.kdb_plain.specs.Keys.{bytes_to_make, drawn_len, item_of, items_of, made_keys, normal_salt, password_key, password_keys, random_keys, settled_salt};
 
 use crate::items::{PlainItem, PlainItems, PlainKeys};
 use kdb_base::{Blob, Etype, MemoryOut, PlainKey, Salt};
@@ -145,7 +145,7 @@ pub fn made_keys(
     name: &Name,
     keys: &NewKeys,
 ) -> Result<PlainKeys, MemoryOut>
-    requires { bytes_drawn keys.now ≤ length random.now }
+    requires { bytes_to_make keys.now ≤ length random.now }
     ensures { IfOk result (λ made. made ≡ made_keys random.now name.now keys.now) }
 {
     match keys {

@@ -141,7 +141,8 @@ pub fn serving_masters(alloc: Global, state: &State, secs: u32) -> Result<Master
     Ok(Masters::from_vec(items))
 }
 
-/// The versions of the master key that do not serve at `secs`, in seconds since 1970, by rising versions.
+/// The versions of the master key that do not serve at `secs`, in seconds since 1970, in the order of the master keys,
+/// which is by rising versions.
 ///
 /// # Errors
 ///

@@ -1,8 +1,11 @@
-use Rattle.kdb_plain.proofs.Purged.{newest_serves, purged_serving}
+use Rattle.kdb_plain.proofs.Purged.{dead_rise, newest_serves, purged_serving}
 use Rattle.kdb_plain.proofs.laws.serving_versions_stay.Goals as goal
 
 pub returns-clause-newest : goal.returns-clause-newest
 returns-clause-newest c = newest_serves
+
+pub returns-clause-rising : goal.returns-clause-rising
+returns-clause-rising c = dead_rise
 
 pub returns-clause-purged : goal.returns-clause-purged
 returns-clause-purged c = λ s secs. purged_serving s secs
