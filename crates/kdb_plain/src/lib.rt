@@ -36,3 +36,6 @@ pub use serving::{
 };
 pub use states::State;
 pub use strings::{has_room_for, has_string, with_string, without_string};
+
+#[cfg(test)]
+mod tests;
