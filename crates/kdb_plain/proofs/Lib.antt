@@ -1,3 +1,5 @@
+pub mod Blocks
+pub mod Causes
 pub mod Finds
 pub mod Sums
 pub mod Used

@@ -1,7 +1,7 @@
 -- The keys that commands make, keep and remember.
-use Rattle.std.specs.Prelude.{ℕ, ◌+◌, ◌-◌, Bool, true, false, ◌&&◌, nat_eq, List, [], ◌∷◌, ◌++◌, map, filter, take, drop}
-use Rattle.std.specs.List.{flat_map, sum_by}
-use Rattle.kdb_base.specs.Etypes.{key_len, product_rounds}
+use Rattle.std.specs.Prelude.{ℕ, ◌+◌, ◌-◌, ◌≤◌, Bool, true, false, ◌&&◌, nat_eq, List, [], ◌∷◌, ◌++◌, map, filter, take, drop}
+use Rattle.std.specs.List.{count_by, flat_map, sum_by}
+use Rattle.kdb_base.specs.Etypes.{key_len, number_of, product_rounds}
 use Rattle.kdb_base.specs.Key.{Key}
 use Rattle.kdb_base.specs.declared.keys.Etype.{Etype}
 use Rattle.kdb_base.specs.declared.keys.Salt.{Salt}
@@ -60,6 +60,10 @@ made_keys random name (Password password etypes) = password_keys password (norma
 abbrev pub bytes_to_make : NewKeys → ℕ
 bytes_to_make (Random etypes) = sum_by drawn_len etypes
 bytes_to_make (Password password etypes) = 0
+
+-- each encryption type at most once
+abbrev pub AreOnce : List Etype → Type 0
+AreOnce etypes = (etype : Etype) → count_by (λ other. nat_eq (number_of other) (number_of etype)) etypes ≤ 1
 
 abbrev pub is_password : NewKeys → Bool
 is_password (Random etypes) = false

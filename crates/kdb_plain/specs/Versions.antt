@@ -1,7 +1,7 @@
 -- Which versions of the master key serve, as MIT's kdb5_util purge_mkeys counts the versions that are in use; that the active one, the
 -- newest one and one that is yet to become active serve too is this project's own rule.
-use Rattle.std.specs.Prelude.{ℕ, Bool, not, ◌&&◌, nat_eq, nat_lt, List, length, map, filter, Option, Some, None, is_some, unwrap_or, if◌then◌else◌}
-use Rattle.std.specs.List.{list_any}
+use Rattle.std.specs.Prelude.{ℕ, ◌≡◌, ◌≢◌, ◌<◌, ◌⊎◌, Bool, not, ◌&&◌, nat_eq, nat_lt, List, length, map, filter, Option, Some, None, is_some, unwrap_or, if◌then◌else◌}
+use Rattle.std.specs.List.{Any, list_any}
 use Rattle.std.specs.Str.{bytes_eq}
 use Rattle.kdb_base.specs.declared.versions.Activation.{Activation}
 use Rattle.kdb_base.specs.declared.versions.Master.{Master}
@@ -62,3 +62,21 @@ serving_masters s secs = filter (λ (m : Master). serves s secs m.version) s.mas
 -- the versions that do not
 unfoldable pub dead_versions : State → ℕ → List ℕ
 dead_versions s secs = filter (λ version. not (serves s secs version)) (map (λ (m : Master). m.version) s.masters)
+
+-- ---- why a version serves, without an order of the causes
+
+-- some principal other than K/M is under the version
+abbrev pub HasPrincipal : State → ℕ → Type 0
+HasPrincipal s version = Any (λ (q : PlainPrinc). (q.mkvno ≡ version) × (q.name ≢ master_name s.realm)) s.princs
+
+-- the version has an activation after these seconds
+abbrev pub HasActivationAfter : State → ℕ → ℕ → Type 0
+HasActivationAfter s secs version = Any (λ (a : Activation). (a.version ≡ version) × (secs < a.secs)) s.activations
+
+-- it protects a principal, is active, is the newest, or is yet to become active
+abbrev pub HasCause : State → ℕ → ℕ → Type 0
+HasCause s secs version =
+    HasPrincipal s version
+    ⊎ ((active s.activations secs ≡ Some version)
+    ⊎ ((version ≡ last_version s.masters)
+    ⊎ HasActivationAfter s secs version))

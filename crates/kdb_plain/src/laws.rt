@@ -1,9 +1,11 @@
 //! Laws of plain states. They do no work.
 
-ghost use Rattle.std.specs.Prelude.{◌≡◌, ◌≢◌, ◌+◌, ◌≤◌, ℕ, List, Some, None, true, length, map};
+ghost use Rattle.std.specs.Prelude.{◌≡◌, ◌≢◌, ◌+◌, ◌≤◌, ◌↔◌, ℕ, List, Some, None, true, length, map};
+ghost use Rattle.std.specs.List.{sum_by};
 ghost use Rattle.kdb_base.specs.Limits.{most_rows};
 ghost use Rattle.kdb_base.specs.Moment.{Moment};
 ghost use Rattle.kdb_base.specs.Versions.{AreRising};
+ghost use Rattle.kdb_base.specs.declared.keys.Etype.{Etype};
 ghost use Rattle.kdb_base.specs.declared.moments.Point.{Point};
 ghost use Rattle.kdb_base.specs.declared.versions.Master.{Master};
 ghost use Rattle.master_keys.specs.Purging.{live_masters};
@@ -11,8 +13,9 @@ ghost use Rattle.master_keys.specs.Versions.{last_version};
 ghost use Rattle.policy_rules.specs.Rules.{Rules};
 ghost use Rattle.princ_record.specs.Policies.{IsPolicy};
 ghost use Rattle.kdb_plain.specs.Changes.{IsOrdinary, MayBePut, drop_policy, drop_princ, put_policy, put_princ};
+ghost use Rattle.kdb_plain.specs.Keys.{AreOnce, drawn_len};
 ghost use Rattle.kdb_plain.specs.States.{HasItsPolicy, IsListed, IsValid, policy_named, princ_named, users_of};
-ghost use Rattle.kdb_plain.specs.Versions.{dead_versions, serves, serving_masters};
+ghost use Rattle.kdb_plain.specs.Versions.{HasCause, dead_versions, serves, serving_masters};
 ghost use Rattle.kdb_plain.specs.declared.princs.PlainPrinc.{PlainPrinc};
 ghost use Rattle.kdb_plain.specs.declared.states.State.{State};
 
@@ -51,10 +54,17 @@ pub fn policies_keep_states_valid()
     ensures drop { (time : Moment) (s : State) (name : List ℕ) → IsValid time s → users_of name s.princs ≡ 0 → IsValid time (drop_policy name s) }
 {}
 
-/// The newest master key serves always, and a purge of the versions that do not serve leaves the master keys that do.
-/// Those that do not serve are told by rising versions.
+/// A version serves where it protects a principal other than K/M, is active, is the newest, or is yet to become active,
+/// and nowhere else. The newest master key serves always, and a purge of the versions that do not serve leaves the
+/// master keys that do. Those that do not serve are told by rising versions.
 pub fn serving_versions_stay()
+    ensures causes { (s : State) (secs version : ℕ) → (serves s secs version ≡ true) ↔ HasCause s secs version }
     ensures newest { (s : State) (secs : ℕ) → serves s secs (last_version s.masters) ≡ true }
     ensures rising { (s : State) (secs : ℕ) → AreRising (map (λ (m : Master). m.version) s.masters) → AreRising (dead_versions s secs) }
     ensures purged { (s : State) (secs : ℕ) → live_masters (dead_versions s secs) s.masters ≡ serving_masters s secs }
+{}
+
+/// Random keys of distinct encryption types want at most 160 bytes of a random block, each with the 16 behind it.
+pub fn distinct_types_want_little()
+    ensures { (etypes : List Etype) → AreOnce etypes → sum_by drawn_len etypes ≤ 160 }
 {}

@@ -1,5 +1,9 @@
+use Rattle.kdb_plain.proofs.Causes.{serves_where}
 use Rattle.kdb_plain.proofs.Purged.{dead_rise, newest_serves, purged_serving}
 use Rattle.kdb_plain.proofs.laws.serving_versions_stay.Goals as goal
+
+pub returns-clause-causes : goal.returns-clause-causes
+returns-clause-causes c = serves_where
 
 pub returns-clause-newest : goal.returns-clause-newest
 returns-clause-newest c = newest_serves
