@@ -20,9 +20,11 @@ use Rattle.kdb_format.specs.Laws.{whole_again}
 use Rattle.policy_rules.specs.Rules.{Rules}
 use Rattle.princ_name.specs.Realms.{is_realm, is_realm_byte}
 use Rattle.princ_record.specs.RowLimits.{IsRow}
-use Rattle.princ_rows.specs.Entries.{bytes_same}
-use Rattle.princ_record.specs.Policies.{policy, policy_at, policy_field, IsPolicy}
-use Rattle.princ_record.specs.Princs.{princ, princ_field}
+use Rattle.princ_entries.specs.EntryLaws.{bytes_same}
+use Rattle.princ_record.specs.Policies.{policy, policy_at, IsPolicy}
+use Rattle.princ_record.specs.PolicyLaws.{policy_field}
+use Rattle.princ_record.specs.Princs.{princ}
+use Rattle.princ_record.specs.PrincLaws.{princ_field}
 use Rattle.princ_rows.specs.Rows.{RowLists, AreRows}
 use Rattle.princ_record.specs.declared.princs.Princ.{Princ}
 use Rattle.kadm_values.specs.Points.{point_text, six_digits}

@@ -7,7 +7,7 @@ use Rattle.kdb_base.specs.declared.moments.Point.{Point}
 use Rattle.kdb_format.specs.Laws.{bind_some}
 use Rattle.kdb_format.specs.Moments.{IsPoint}
 use Rattle.princ_name.specs.Realms.{is_realm}
-use Rattle.princ_rows.specs.Entries.{bytes_same}
+use Rattle.princ_entries.specs.EntryLaws.{bytes_same}
 use Rattle.princ_rows.specs.Rows.{RowLists, rises_from, princ_keys, policy_keys}
 use Rattle.dump_text.specs.Dumps.{ended, realm_line, point_line, end_line, row_count}
 use Rattle.dump_text.specs.Lines.{Lines, in_front, lines_of, lacks}

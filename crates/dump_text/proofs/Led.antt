@@ -16,10 +16,12 @@ use Rattle.kdb_format.specs.Readings.{whole}
 use Rattle.kdb_format.specs.Laws.{bind_some, whole_spelled}
 use Rattle.policy_rules.specs.Rules.{Rules}
 use Rattle.princ_name.specs.Realms.{is_realm, realm_length}
-use Rattle.princ_record.specs.RowLimits.{IsRow, policy_short}
-use Rattle.princ_rows.specs.Entries.{same_bytes}
-use Rattle.princ_record.specs.Policies.{policy, policy_at, policy_field, IsPolicy}
-use Rattle.princ_record.specs.Princs.{princ, princ_at, princ_field}
+use Rattle.princ_record.specs.RowLimits.{IsRow}
+use Rattle.princ_record.specs.PolicyLaws.{policy_short, policy_field}
+use Rattle.princ_entries.specs.EntryLaws.{same_bytes}
+use Rattle.princ_record.specs.Policies.{policy, policy_at, IsPolicy}
+use Rattle.princ_record.specs.Princs.{princ, princ_at}
+use Rattle.princ_record.specs.PrincLaws.{princ_field}
 use Rattle.princ_record.specs.declared.princs.Princ.{Princ}
 use Rattle.kadm_values.specs.Points.{point_text, six_digits}
 use Rattle.dump_text.specs.Dumps.{realm_line, point_line, princ_line, policy_line, end_line, row_count}

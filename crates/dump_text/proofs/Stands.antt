@@ -3,12 +3,13 @@ use Rattle.std.proofs.Common.{◌≡◌, Bool, true, false, cond, List, ℕ, Som
 use Rattle.std.specs.Str.{bytes_eq}
 use Rattle.std.proofs.lemmas.Option.{same_Some}
 use Rattle.princ_record.specs.Princs.{IsPrinc}
-use Rattle.princ_record.specs.RowLimits.{IsRow, row_1_from, row_1_is_row, row_from, row_test}
+use Rattle.princ_record.specs.RowLimits.{IsRow}
+use Rattle.princ_record.specs.RowLaws.{row_1_from, row_1_is_row, row_from, row_test}
 use Rattle.princ_record.specs.declared.princs.Princ.{Princ}
 use Rattle.dump_text.specs.Versions.{stands_in, title, version_of}
 use Rattle.dump_text.specs.declared.versions.Version.{Version}
 use Rattle.dump_text.specs.declared.versions.Version.TheVariants.{One, Two}
-use Rattle.princ_rows.specs.Entries.{same_bytes}
+use Rattle.princ_entries.specs.EntryLaws.{same_bytes}
 
 pub stands_row : (v : Version) (p : Princ) → IsPrinc p → stands_in v p ≡ true → IsRow p
 unfolding stands_in

@@ -4,7 +4,7 @@ use Rattle.princ_name.specs.Bytes.{can_stand, is_refused, is_sign, printed_byte}
 use Rattle.princ_name.specs.Names.{IsName, printed_parts, printed_text}
 use Rattle.princ_name.specs.RealmLaws.{prints_in, is_name_in}
 use Rattle.princ_name.specs.Realms.{IsRealm}
-use Rattle.princ_record.specs.PrintedNames.{IsPrinted}
+use Rattle.princ_name.specs.Printed.{IsPrinted}
 use Rattle.kdb_model.specs.Refusals.{name_of_two}
 use Rattle.kadm_top.specs.Steps.{local_client}
 

@@ -7,8 +7,8 @@ use Rattle.kdb_base.specs.declared.outcomes.Refusal.{Refusal}
 use Rattle.kdb_base.specs.declared.outcomes.Refusal.TheVariants.{TimeEnd}
 use Rattle.princ_rows.specs.Rows.{RowLists}
 use Rattle.princ_rows.specs.Undoing.{IsNewName}
-use Rattle.princ_rows.specs.declared.entries.Op.{Op}
-use Rattle.princ_rows.specs.declared.entries.Op.TheVariants as op
+use Rattle.princ_entries.specs.declared.entries.Op.{Op}
+use Rattle.princ_entries.specs.declared.entries.Op.TheVariants as op
 use Rattle.princ_record.specs.declared.princs.Princ.{Princ}
 use Rattle.kdb_model.specs.Calls.{Call, Outcome, before_end_of}
 use Rattle.kdb_model.specs.Plans.{IsGiven, IsRefused, IsAnswered, IsChanging}

@@ -1,5 +1,5 @@
 ghost use Rattle.std.specs.Prelude.{◌≡◌, IfOk};
-ghost use Rattle.princ_record.specs.PrintedNames.{IsPrinted};
+ghost use Rattle.princ_name.specs.Printed.{IsPrinted};
 ghost use Rattle.princ_name.specs.Realms.{IsRealm};
 ghost use Rattle.kadm_top.specs.Steps.{local_client};
 

@@ -12,7 +12,7 @@ use Rattle.kdb_base.specs.declared.moments.Point.{Point}
 use Rattle.kadm_wire.specs.Refusals.{line_feed, refusal_text, time_text}
 use Rattle.kdb_model.specs.declared.replies.Reply.{Reply}
 use Rattle.kdb_model.specs.declared.replies.Reply.TheVariants.{Done, Shown, Listed, Refused}
-use Rattle.princ_record.specs.declared.keys.KeyItem.{KeyItem}
+use Rattle.princ_keys.specs.declared.keys.KeyItem.{KeyItem}
 use Rattle.princ_record.specs.declared.princs.Princ.{Princ}
 
 -- a point

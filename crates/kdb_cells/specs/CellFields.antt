@@ -10,7 +10,9 @@ use Rattle.kdb_format.specs.Lengths.{length-counted}
 use Rattle.kdb_format.specs.Numbers.{length-big}
 use Rattle.kdb_format.specs.Laws.{same_field, first_field, made_field, done_field, big_field, checked_field, choice_field, refuse_field, padded_field}
 use Rattle.policy_rules.specs.Rules.{Rules}
-use Rattle.princ_record.specs.RowLimits.{IsRow, IsRow1, is_row_1, row_1_from, row_1_test, row_field, policy_row_field, policy_short}
+use Rattle.princ_record.specs.RowLimits.{IsRow, IsRow1, is_row_1}
+use Rattle.princ_record.specs.RowLaws.{row_1_from, row_1_test, row_field, policy_row_field}
+use Rattle.princ_record.specs.PolicyLaws.{policy_short}
 use Rattle.princ_record.specs.Policies.{policy, IsPolicy}
 use Rattle.princ_record.specs.Princs.{princ}
 use Rattle.princ_record.specs.declared.princs.Princ.{Princ as Principal}

@@ -6,13 +6,13 @@ use Rattle.std.proofs.lemmas.Bool.{ltb-false}
 use Rattle.kdb_base.specs.Limits.{most_rows, longest_row}
 use Rattle.princ_name.specs.Names.{NameParts, printed}
 use Rattle.princ_rows.specs.Effects.{effect, put_princ, drop_princ, IsRoom}
-use Rattle.princ_rows.specs.Entries.{IsOp}
-use Rattle.princ_record.specs.PrintedNames.{IsPrinted}
+use Rattle.princ_entries.specs.Entries.{IsOp}
+use Rattle.princ_name.specs.Printed.{IsPrinted}
 use Rattle.princ_record.specs.Princs.{princ}
 use Rattle.princ_rows.specs.Rows.{AreRows, RowLists}
 use Rattle.princ_record.specs.declared.princs.Princ.{Princ}
-use Rattle.princ_rows.specs.declared.entries.Op.{Op}
-use Rattle.princ_rows.specs.declared.entries.Op.TheVariants.{PutPrinc, DropPrinc, Rename, PutPolicy, DropPolicy}
+use Rattle.princ_entries.specs.declared.entries.Op.{Op}
+use Rattle.princ_entries.specs.declared.entries.Op.TheVariants.{PutPrinc, DropPrinc, Rename, PutPolicy, DropPolicy}
 use Rattle.princ_rows.proofs.Orders.{put_princ_rows, drop_princ_rows, put_policy_rows, drop_policy_rows, put_each, drop_each}
 use Rattle.kdb_model.specs.Changes.{entry_of, with_options, fresh_princ, IsCommand}
 use Rattle.kdb_model.specs.Plans.{refusal_at, IsChange}

@@ -8,8 +8,8 @@ use Rattle.kdb_base.specs.declared.outcomes.Refusal.TheVariants.{TimeEnd}
 use Rattle.princ_name.specs.Names.{printed}
 use Rattle.princ_rows.specs.Rows.{RowLists}
 use Rattle.princ_record.specs.declared.princs.Princ.{Princ}
-use Rattle.princ_rows.specs.declared.entries.Op.{Op}
-use Rattle.princ_rows.specs.declared.entries.Op.TheVariants.{PutPrinc, Rename}
+use Rattle.princ_entries.specs.declared.entries.Op.{Op}
+use Rattle.princ_entries.specs.declared.entries.Op.TheVariants.{PutPrinc, Rename}
 use Rattle.kdb_model.specs.Calls.{Call, before_end_of}
 use Rattle.kdb_model.specs.Changes.{entry_of, entry, moment_of, with_options}
 use Rattle.kdb_model.specs.Plans.{refusal_of, refusal_at}

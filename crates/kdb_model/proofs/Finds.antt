@@ -10,7 +10,7 @@ use Rattle.std.proofs.lemmas.List.{get_or-map, length-map}
 use Rattle.std.proofs.lemmas.List.Elements.{recursion_from_All}
 use Rattle.std.proofs.lemmas.Map.Keys.{Less-from_sorted}
 use Rattle.std.proofs.lemmas.Map.Text.{is_eq-slice_cmp}
-use Rattle.princ_rows.specs.Entries.{same_bytes, bytes_same}
+use Rattle.princ_entries.specs.EntryLaws.{same_bytes, bytes_same}
 use Rattle.policy_rules.specs.Rules.{Rules}
 use Rattle.princ_rows.specs.Rows.{key_cmp, AreInOrder, AreRows, RowLists, IsAt}
 use Rattle.kdb_model.specs.States.{is_named, princ_named, has_policy}

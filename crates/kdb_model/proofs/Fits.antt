@@ -2,14 +2,13 @@
 use Rattle.std.proofs.Common.{◌≡◌, ℕ, ◌^◌, ◌<◌, Bool, true, false, List, [], codes, Option, Some, None, refl, sym, ◌∙◌, arith}
 use Rattle.std.specs.Prelude.{if◌then◌else◌}
 use Rattle.policy_rules.specs.Names.{is_policy_name}
-use Rattle.princ_record.specs.PrintedNames.{IsPrinted}
+use Rattle.princ_name.specs.Printed.{IsPrinted, is_master}
 use Rattle.princ_record.specs.Princs.{are_attributes, IsPolicyOr, IsPrinc}
-use Rattle.princ_record.specs.Keys.{IsKey, are_ordered}
-use Rattle.princ_record.specs.Remembered.{IsOldSet}
+use Rattle.princ_keys.specs.Keys.{IsKey, are_ordered}
+use Rattle.princ_keys.specs.Remembered.{IsOldSet}
 use Rattle.std.proofs.lemmas.Bool.{false≢true}
 use Rattle.std.proofs.lemmas.List.Elements.{All-from_recursion}
 use Rattle.tagged_data.specs.StringLaws.{no_strings as without_strings}
-use Rattle.princ_record.specs.Printed.{is_master}
 use Rattle.princ_rows.specs.Rows.{RowLists}
 use Rattle.princ_record.specs.declared.princs.Princ.{Princ}
 use Rattle.kdb_model.specs.Changes.{AreOptions, IsBelow32, value_or, with_options, fresh_princ}

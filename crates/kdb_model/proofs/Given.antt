@@ -4,7 +4,7 @@ use Rattle.std.specs.Prelude.{Result, Ok, Err}
 use Rattle.kdb_base.specs.declared.outcomes.Refusal.{Refusal}
 use Rattle.princ_rows.specs.Effects.{effect, IsRoom}
 use Rattle.princ_rows.specs.Rows.{RowLists}
-use Rattle.princ_rows.specs.declared.entries.Op.{Op}
+use Rattle.princ_entries.specs.declared.entries.Op.{Op}
 use Rattle.kdb_model.specs.Calls.{Call}
 use Rattle.kdb_model.specs.Changes.{entry_of, entry}
 use Rattle.kdb_model.specs.Plans.{refusal_at, IsPlan, IsPlanned, IsAnswer, IsChange, IsGiven, IsRefused, IsAnswered, IsChanging}

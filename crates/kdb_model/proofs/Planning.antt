@@ -8,11 +8,11 @@ use Rattle.kdb_base.specs.declared.outcomes.Refusal.TheVariants.{Protected, Dupl
 use Rattle.princ_name.specs.Names.{NameParts, printed}
 use Rattle.princ_rows.specs.Effects.{effect, IsRoom}
 use Rattle.princ_record.specs.RowLimits.{IsRow}
-use Rattle.princ_record.specs.PrintedNames.{IsPrinted}
+use Rattle.princ_name.specs.Printed.{IsPrinted}
 use Rattle.princ_record.specs.Princs.{IsPrinc, princ}
 use Rattle.princ_rows.specs.Rows.{AreRows, RowLists}
 use Rattle.princ_record.specs.declared.princs.Princ.{Princ}
-use Rattle.princ_rows.specs.declared.entries.Op.TheVariants.{PutPrinc, DropPrinc}
+use Rattle.princ_entries.specs.declared.entries.Op.TheVariants.{PutPrinc, DropPrinc}
 use Rattle.kdb_model.specs.Changes.{entry_of, with_options, fresh_princ, IsCommand}
 use Rattle.kdb_model.specs.Plans.{refusal_of, refusal_at, IsAnswer, IsChange, IsPlanned, IsPlan, IsPut}
 use Rattle.kdb_model.specs.Refusals.{is_protected, is_there, first, too_large}

@@ -4,8 +4,8 @@ use Rattle.std.proofs.lemmas.Bool.Decides.{eqb_tells}
 use Rattle.std.specs.Str.{bytes_eq}
 use Rattle.princ_name.specs.Bytes.{is_sign, escaped, printed_byte}
 use Rattle.princ_name.specs.Names.{NameParts, printed, printed_parts, printed_text}
-use Rattle.princ_rows.specs.Entries.{same_bytes, bytes_same}
-use Rattle.princ_record.specs.Printed.{is_master}
+use Rattle.princ_entries.specs.EntryLaws.{same_bytes, bytes_same}
+use Rattle.princ_name.specs.Printed.{is_master}
 use Rattle.kdb_model.specs.Refusals.{name_of_two, master_name, is_protected}
 use Rattle.std.proofs.lemmas.Bool.{false≢true}
 use Rattle.std.proofs.lemmas.List.{take-append-drop}

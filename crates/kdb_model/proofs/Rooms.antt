@@ -6,7 +6,7 @@ use Rattle.kdb_base.specs.Limits.{most_rows}
 use Rattle.princ_rows.specs.Effects.{is_lower, is_higher, put_by, drop_by, put_princ, drop_princ, effect, IsRoom}
 use Rattle.princ_rows.specs.Rows.{AreRows, RowLists}
 use Rattle.princ_record.specs.declared.princs.Princ.{Princ}
-use Rattle.princ_rows.specs.declared.entries.Op.TheVariants.{PutPrinc, DropPrinc}
+use Rattle.princ_entries.specs.declared.entries.Op.TheVariants.{PutPrinc, DropPrinc}
 use Rattle.princ_rows.proofs.Edits.{set_is_put}
 use Rattle.princ_rows.proofs.Orders.{drop_short}
 use Rattle.kdb_model.specs.States.{princ_named}

@@ -7,7 +7,7 @@ use Rattle.kdb_base.specs.declared.moments.Point.{Point}
 use Rattle.kdb_base.specs.declared.outcomes.MemoryOut.{MemoryOut}
 use Rattle.kdb_base.specs.declared.outcomes.Refusal.{Refusal}
 use Rattle.princ_rows.specs.Effects.{effect}
-use Rattle.princ_rows.specs.declared.entries.Op.{Op}
+use Rattle.princ_entries.specs.declared.entries.Op.{Op}
 use Rattle.kdb_model.specs.Calls.{Call, Outcome, plain_call}
 use Rattle.kdb_model.specs.Changes.{entry, moment_of}
 use Rattle.kdb_model.specs.Plans.{IsAnswered, IsChanging, IsGiven}

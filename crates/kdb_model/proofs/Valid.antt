@@ -6,8 +6,8 @@ use Rattle.kdb_base.specs.Moment.{Moment}
 use Rattle.kdb_base.specs.Moments.{micros}
 use Rattle.kdb_format.specs.Moments.{IsTime}
 use Rattle.princ_rows.specs.Effects.{effect}
-use Rattle.princ_record.specs.PrintedNames.{IsPrinted}
-use Rattle.princ_rows.specs.declared.entries.Op.{Op}
+use Rattle.princ_name.specs.Printed.{IsPrinted}
+use Rattle.princ_entries.specs.declared.entries.Op.{Op}
 use Rattle.kdb_model.specs.Calls.{Call, Outcome}
 use Rattle.kdb_model.specs.Changes.{IsCommand, moment_of, entry}
 use Rattle.kdb_model.specs.Refusals.{refusal}

@@ -7,8 +7,8 @@ use Rattle.princ_name.specs.Names.{NameParts, IsName, printed}
 use Rattle.princ_record.specs.Princs.{are_attributes}
 use Rattle.princ_rows.specs.Rows.{RowLists}
 use Rattle.princ_record.specs.declared.princs.Princ.{Princ}
-use Rattle.princ_rows.specs.declared.entries.Op.{Op}
-use Rattle.princ_rows.specs.declared.entries.Op.TheVariants.{PutPrinc, DropPrinc}
+use Rattle.princ_entries.specs.declared.entries.Op.{Op}
+use Rattle.princ_entries.specs.declared.entries.Op.TheVariants.{PutPrinc, DropPrinc}
 use Rattle.kdb_model.specs.Calls.{Call}
 use Rattle.kadm_values.specs.Flags.{with_flags}
 use Rattle.kdb_model.specs.States.{princ_named, has_policy}

@@ -4,12 +4,12 @@ use Rattle.kdb_base.specs.Limits.{most_rows, longest_row}
 use Rattle.kdb_base.specs.declared.outcomes.Refusal.{Refusal}
 use Rattle.kdb_base.specs.declared.outcomes.Refusal.TheVariants.{Protected, Duplicate, UnknownPrincipal, RowsFull, RecordTooLarge}
 use Rattle.princ_rows.specs.Effects.{effect, IsRoom}
-use Rattle.princ_rows.specs.Entries.{IsOp}
+use Rattle.princ_entries.specs.Entries.{IsOp}
 use Rattle.princ_record.specs.Princs.{princ}
 use Rattle.princ_rows.specs.Rows.{RowLists}
 use Rattle.princ_record.specs.declared.princs.Princ.{Princ}
-use Rattle.princ_rows.specs.declared.entries.Op.{Op}
-use Rattle.princ_rows.specs.declared.entries.Op.TheVariants.{PutPrinc, Rename}
+use Rattle.princ_entries.specs.declared.entries.Op.{Op}
+use Rattle.princ_entries.specs.declared.entries.Op.TheVariants.{PutPrinc, Rename}
 use Rattle.kdb_model.specs.Calls.{Call}
 use Rattle.kdb_model.specs.Changes.{moment_of, entry_of, entry}
 use Rattle.kdb_model.specs.Refusals.{when, changes, adds, on_target, is_protected, is_there, too_large, first, refusal}

@@ -8,8 +8,8 @@ use Rattle.princ_name.specs.Names.{NameParts, printed}
 use Rattle.kdb_model.specs.Calls.{Call}
 use Rattle.princ_record.specs.Princs.{princ}
 use Rattle.princ_rows.specs.Rows.{RowLists}
-use Rattle.princ_rows.specs.declared.entries.Op.{Op}
-use Rattle.princ_rows.specs.declared.entries.Op.TheVariants.{PutPrinc, DropPrinc, Rename, PutPolicy, DropPolicy}
+use Rattle.princ_entries.specs.declared.entries.Op.{Op}
+use Rattle.princ_entries.specs.declared.entries.Op.TheVariants.{PutPrinc, DropPrinc, Rename, PutPolicy, DropPolicy}
 use Rattle.kdb_model.specs.Changes.{entry}
 use Rattle.kdb_model.specs.States.{princ_named}
 use Rattle.kdb_model.specs.declared.commands.Command.{Command}

@@ -8,7 +8,7 @@ use Rattle.princ_name.specs.Names.{printed}
 use Rattle.princ_rows.specs.Effects.{effect}
 use Rattle.princ_rows.specs.Rows.{RowLists}
 use Rattle.princ_record.specs.declared.princs.Princ.{Princ}
-use Rattle.princ_rows.specs.declared.entries.Op.{Op}
+use Rattle.princ_entries.specs.declared.entries.Op.{Op}
 use Rattle.kdb_model.specs.Calls.{Call, Outcome}
 use Rattle.kdb_model.specs.Changes.{moment_of, entry}
 use Rattle.kdb_model.specs.Globs.{matches}

@@ -1,7 +1,7 @@
 //! What a command comes to: a refusal, an answer, or the change that it makes.
 
 ghost use Rattle.std.specs.Prelude.{◌≡◌, ℕ, List, Ok, Err, IfOk};
-ghost use Rattle.princ_record.specs.PrintedNames.{IsPrinted};
+ghost use Rattle.princ_name.specs.Printed.{IsPrinted};
 ghost use Rattle.princ_record.specs.Princs.{IsPrinc, princ};
 ghost use Rattle.kdb_base.specs.declared.outcomes.Refusal.{Refusal};
 ghost use Rattle.kdb_model.specs.Calls.{Call};

@@ -2,8 +2,8 @@
 
 ghost use Rattle.std.specs.Prelude.{◌≡◌, ◌+◌, ◌<◌, Some, option_map, IfOk, OnOk};
 ghost use Rattle.princ_rows.specs.Effects.{effect, IsRoom};
-ghost use Rattle.princ_rows.specs.Entries.{IsOp};
-ghost use Rattle.princ_record.specs.PrintedNames.{IsPrinted};
+ghost use Rattle.princ_entries.specs.Entries.{IsOp};
+ghost use Rattle.princ_name.specs.Printed.{IsPrinted};
 ghost use Rattle.kdb_model.specs.Calls.{plain_call};
 ghost use Rattle.kdb_model.specs.Changes.{IsCommand};
 ghost use Rattle.kdb_model.specs.Steps.{step};

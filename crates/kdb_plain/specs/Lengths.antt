@@ -6,7 +6,7 @@ use Rattle.kdb_base.specs.declared.keys.Etype.{Etype}
 use Rattle.kdb_base.specs.declared.versions.Activation.{Activation}
 use Rattle.kdb_base.specs.declared.versions.Master.{Master}
 use Rattle.master_keys.specs.Wrapping.{wrapped_len}
-use Rattle.princ_record.specs.Keys.{salt_bytes}
+use Rattle.princ_keys.specs.Keys.{salt_bytes}
 use Rattle.princ_record.specs.Princs.{princ}
 use Rattle.kdb_plain.specs.Heads.{plain_head}
 use Rattle.kdb_plain.specs.declared.items.PlainItem.{PlainItem}

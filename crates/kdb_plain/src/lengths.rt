@@ -4,7 +4,7 @@
 ghost use Rattle.std.specs.Prelude.{◌≡◌, ◌+◌, ◌≤◌, ℕ, None, length};
 ghost use Rattle.std.specs.List.{last_or, sum_by};
 ghost use Rattle.master_keys.specs.Wrapping.{wrapped_len};
-ghost use Rattle.princ_record.specs.Keys.{salt_bytes};
+ghost use Rattle.princ_keys.specs.Keys.{salt_bytes};
 ghost use Rattle.princ_record.specs.Princs.{name_of, princ};
 ghost use Rattle.princ_record.specs.Sizes.{pw_text_len, strings_item_len};
 ghost use Rattle.kdb_plain.specs.Heads.{plain_head};

@@ -3,8 +3,8 @@ use Rattle.std.proofs.Common.{◌≡◌, ℕ, ◌+◌, ◌≤◌, List, length}
 use Rattle.std.specs.Prelude.{IsTrue}
 use Rattle.policy_rules.specs.Names.{is_policy_name}
 use Rattle.policy_rules.specs.Rules.{Rules}
-use Rattle.princ_record.specs.RowLimits.{length-policy}
-use Rattle.princ_record.specs.Policies.{policy, short_name}
+use Rattle.princ_record.specs.PolicyLaws.{length-policy, short_name}
+use Rattle.princ_record.specs.Policies.{policy}
 
 pub policy_length : (p : Rules) → length (policy p) ≡ 16 + length p.name
 policy_length p = length-policy p

@@ -13,9 +13,11 @@ use Rattle.kdb_format.specs.Spellings.{big, counted_list}
 use Rattle.kdb_format.specs.Moments.{point_field}
 use Rattle.kdb_format.specs.Fields.{IsField}
 use Rattle.kdb_format.specs.Laws.{same_field, first_field, then_field, after_field, made_field, choice_field, refuse_field, done_field, inside_field, big_field, literal_field, counted_field, checked_field, counted_list_field}
-use Rattle.princ_record.specs.RowLimits.{IsRow, may_be_long, policy_short}
-use Rattle.princ_record.specs.Policies.{policy_at, policy, IsPolicy, policy_field}
-use Rattle.princ_record.specs.Princs.{princ_at, princ, IsPrinc, princ_field}
+use Rattle.princ_record.specs.RowLimits.{IsRow, may_be_long}
+use Rattle.princ_record.specs.PolicyLaws.{policy_short, policy_field}
+use Rattle.princ_record.specs.Policies.{policy_at, policy, IsPolicy}
+use Rattle.princ_record.specs.Princs.{princ_at, princ, IsPrinc}
+use Rattle.princ_record.specs.PrincLaws.{princ_field}
 use Rattle.princ_rows.specs.Rows.{RowLists, AreRows, princ_keys, policy_keys, rises_from, in_order, rises}
 use Rattle.princ_record.specs.declared.princs.Princ.{Princ as Principal}
 use Rattle.kdb_store.specs.StoredRows.{kind_of, record_text, IsStored, long_princ_at, long_policy_at, princ_row_at, policy_row_at, row_of, row_at, row, stored, princs_of, policies_of, lists_of, is_parted, are_in_order, are_rows, rows_at}

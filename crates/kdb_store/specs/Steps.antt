@@ -5,11 +5,11 @@ use Rattle.kdb_base.specs.declared.moments.Point.{Point}
 use Rattle.kdb_control.specs.Choice.{Choice}
 use Rattle.kdb_control.specs.Force.{turn_after}
 use Rattle.princ_rows.specs.Effects.{effect}
-use Rattle.princ_rows.specs.Entries.{entry_len}
+use Rattle.princ_entries.specs.Entries.{entry_len}
 use Rattle.princ_rows.specs.Rows.{RowLists}
 use Rattle.princ_rows.specs.Undoing.{finished}
 use Rattle.princ_rows.specs.declared.begun.Begun.{Begun}
-use Rattle.princ_rows.specs.declared.entries.Op.{Op}
+use Rattle.princ_entries.specs.declared.entries.Op.{Op}
 use Rattle.kdb_store.specs.Places.{Place}
 use Rattle.kdb_store.specs.declared.image.Image.{Image}
 use Rattle.kdb_store.specs.declared.opened.Opened.{Opened}

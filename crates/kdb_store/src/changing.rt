@@ -9,7 +9,7 @@ ghost use Rattle.kdb_disk.specs.Moments.{LeavesOnly};
 ghost use Rattle.kdb_control.specs.declared.force.Force.TheVariants.{Is};
 ghost use Rattle.kdb_control.specs.Moments.{HasInForce};
 ghost use Rattle.princ_rows.specs.Effects.{effect, IsRoom};
-ghost use Rattle.princ_rows.specs.Entries.{IsOp};
+ghost use Rattle.princ_entries.specs.Entries.{IsOp};
 ghost use Rattle.princ_rows.specs.Undoing.{IsNewName};
 ghost use Rattle.kdb_store.specs.declared.opened.Opened.{Opened as OpenedFiles};
 ghost use Rattle.kdb_store.specs.Places.{Holds};

@@ -5,7 +5,7 @@ ghost use Rattle.kdb_base.specs.Moments.{micros};
 ghost use Rattle.kdb_disk.specs.View.{View};
 ghost use Rattle.kdb_disk.specs.Moments.{LeavesOnly};
 ghost use Rattle.princ_rows.specs.Effects.{effect, IsRoom};
-ghost use Rattle.princ_rows.specs.Entries.{IsOp};
+ghost use Rattle.princ_entries.specs.Entries.{IsOp};
 ghost use Rattle.princ_rows.specs.Undoing.{IsNewName};
 ghost use Rattle.kdb_store.specs.Places.{place_of, Holds};
 ghost use Rattle.kdb_store.specs.Steps.{committed, next_choice, restashed, stash_choice};

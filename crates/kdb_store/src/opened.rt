@@ -1,6 +1,6 @@
 ghost use Rattle.std.specs.Prelude.{◌≡◌, ◌≢◌, ◌≤◌, ◌↔◌, ◌-◌, Contains, IfSome, IsTrue, None, Some, option_map};
 ghost use Rattle.std.specs.List.{All};
-ghost use Rattle.princ_rows.specs.Entries.{IsOp};
+ghost use Rattle.princ_entries.specs.Entries.{IsOp};
 ghost use Rattle.kdb_store.specs.Steps.{entry_length};
 
 use crate::image::Image;
@@ -20,7 +20,7 @@ pub struct Opened {
 }
 
 // How many bytes the entry of a change has in a log: its key and its row, and what stands before them.
-#[tactic(auto, unfolding(princ_rows::specs::Entries::key_of, princ_rows::specs::Entries::row_of), using(crate::proofs::Lengths::policy_length, crate::proofs::Lengths::policy_name_short))]
+#[tactic(auto, unfolding(princ_entries::specs::Entries::key_of, princ_entries::specs::Entries::row_of), using(crate::proofs::Lengths::policy_length, crate::proofs::Lengths::policy_name_short))]
 fn entry_length(op: &Op) -> usize
     requires { IsOp (Some op.now) }
     ensures { result ≡ entry_length op.now }

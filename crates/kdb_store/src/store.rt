@@ -10,7 +10,7 @@ ghost use Rattle.kdb_disk.specs.Moments.{Keeps, LeavesOnly};
 ghost use Rattle.kdb_control.specs.declared.force.Force.TheVariants.{Nothing};
 ghost use Rattle.kdb_control.specs.Force.{in_force};
 ghost use Rattle.princ_rows.specs.Effects.{effect, IsRoom};
-ghost use Rattle.princ_rows.specs.Entries.{IsOp};
+ghost use Rattle.princ_entries.specs.Entries.{IsOp};
 ghost use Rattle.princ_rows.specs.Undoing.{IsNewName};
 ghost use Rattle.princ_name.specs.Realms.{IsRealm};
 ghost use Rattle.kdb_store.specs.Places.{place_of, Holds};

@@ -1,6 +1,6 @@
 ghost use Rattle.std.specs.Prelude.{◌≡◌, IfOk, OnOk};
 ghost use Rattle.princ_record.specs.RowLimits.{IsRow};
-ghost use Rattle.princ_record.specs.PrintedNames.{IsPrinted};
+ghost use Rattle.princ_name.specs.Printed.{IsPrinted};
 ghost use Rattle.kdb_store.specs.Places.{Holds};
 
 use super::*;
@@ -9,8 +9,7 @@ use kdb_base::limits::MAX_ROW_LEN;
 use kdb_base::{Blob, Fails, Halt, Point, Refusal, Stop, Time};
 use kdb_disk::{Disk, MemoryDisk, Pick};
 use kdb_format::{FormatFault, read_whole};
-use princ_name::is_realm;
-use princ_record::names::is_printed;
+use princ_name::{is_printed, is_realm};
 use princ_record::{Princ, decode, encoded_len};
 use princ_rows::{Op, Rows};
 use std::alloc::Global;
@@ -105,7 +104,7 @@ fn alice(alloc: Global) -> Result<Princ, Fail>
 }
 
 // A printed name.
-#[tactic(auto, using(princ_record::specs::PrintedNames::test_printed))]
+#[tactic(auto, using(princ_name::specs::PrintedLaws::test_printed))]
 fn printed(alloc: Global, bytes: &[u8]) -> Result<Blob, Fail>
     ensures { IfOk result IsPrinted }
 {

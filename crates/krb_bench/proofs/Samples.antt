@@ -7,13 +7,13 @@ use Rattle.std.proofs.lemmas.List.Elements.{All-from_recursion}
 use Rattle.kdb_base.specs.Etypes.{number_of}
 use Rattle.kdb_base.specs.declared.keys.Etype.{Etype}
 use Rattle.kdb_base.specs.declared.keys.Etype.TheVariants.{Aes128, Aes256}
-use Rattle.princ_record.specs.Keys.{may_follow, are_ordered, IsKey, AreKeys}
-use Rattle.princ_record.specs.PrintedNames.{test_printed}
-use Rattle.princ_record.specs.Printed.{is_printed, is_master}
+use Rattle.princ_keys.specs.Keys.{may_follow, are_ordered, IsKey, AreKeys}
+use Rattle.princ_name.specs.PrintedLaws.{test_printed}
+use Rattle.princ_name.specs.Printed.{is_printed, is_master}
 use Rattle.princ_record.specs.Princs.{are_attributes, IsPrinc}
-use Rattle.princ_record.specs.Remembered.{IsOldSet}
-use Rattle.princ_record.specs.declared.keys.KeyItem.{KeyItem}
-use Rattle.princ_record.specs.declared.remembered.OldSet.{OldSet}
+use Rattle.princ_keys.specs.Remembered.{IsOldSet}
+use Rattle.princ_keys.specs.declared.keys.KeyItem.{KeyItem}
+use Rattle.princ_keys.specs.declared.remembered.OldSet.{OldSet}
 use Rattle.princ_record.specs.declared.princs.Princ.{Princ}
 use Rattle.tagged_data.specs.Strings.{AreStrings}
 use Rattle.tagged_data.specs.StringLaws.{no_strings as without_strings}

@@ -1,7 +1,7 @@
 // The rows a second that are encoded and decoded, of a principal with two keys.
 
 ghost use Rattle.std.specs.Prelude.{◌≡◌, ◌<◌, ◌^◌, length, IfOk};
-ghost use Rattle.princ_record.specs.Keys.{IsKey, AreKeys};
+ghost use Rattle.princ_keys.specs.Keys.{IsKey, AreKeys};
 ghost use Rattle.princ_record.specs.Princs.{IsPrinc};
 
 use crate::timing::{print_rate, seconds_since};

@@ -12,7 +12,7 @@ use Rattle.kdb_base.specs.Key.{Key}
 use Rattle.kdb_base.specs.Versions.{AreRising}
 use Rattle.kdb_base.specs.declared.versions.AuxKey.{AuxKey}
 use Rattle.kdb_base.specs.declared.versions.Master.{Master}
-use Rattle.princ_record.specs.declared.keys.KeyItem.{KeyItem}
+use Rattle.princ_keys.specs.declared.keys.KeyItem.{KeyItem}
 use Rattle.princ_record.specs.declared.princs.Princ.{Princ}
 use Rattle.master_keys.specs.Adding.{added_keys, added_masters, added_record, aux_key, aux_keys, newest_first, newest_item, next_version, with_aux}
 use Rattle.master_keys.specs.Chain.{IsAuxOf, IsChain, IsKeyOf}

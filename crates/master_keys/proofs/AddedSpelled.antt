@@ -9,10 +9,10 @@ use Rattle.kdb_base.specs.Key.{Key}
 use Rattle.kdb_base.specs.declared.versions.Master.{Master}
 use Rattle.tagged_data.specs.Numbers.{IsVersion}
 use Rattle.princ_record.specs.Facts.{IsChain as IsPart, IsChainOr}
-use Rattle.princ_record.specs.Keys.{IsKey, are_falling, begins_at, is_below}
+use Rattle.princ_keys.specs.Keys.{IsKey, are_falling, begins_at, is_below}
 use Rattle.princ_record.specs.Princs.{IsPrinc}
 use Rattle.princ_record.specs.declared.facts.ChainPart.{ChainPart}
-use Rattle.princ_record.specs.declared.keys.KeyItem.{KeyItem}
+use Rattle.princ_keys.specs.declared.keys.KeyItem.{KeyItem}
 use Rattle.princ_record.specs.declared.princs.Princ.{Princ}
 use Rattle.master_keys.specs.Adding.{added_keys, added_masters, added_record, aux_keys, newest_first, newest_item, next_version, with_aux}
 use Rattle.master_keys.specs.Chain.{IsChain}

@@ -8,11 +8,10 @@ use Rattle.tagged_data.specs.Numbers.{IsVersion}
 use Rattle.tagged_data.specs.StringLaws.{no_strings}
 use Rattle.tagged_data.specs.Versions.{IsActivation, IsAuxKey, length-activations_text, length-aux_keys_text}
 use Rattle.princ_record.specs.Facts.{IsChain as IsPart}
-use Rattle.princ_record.specs.Keys.{IsKey, are_falling, are_ordered, begins_at}
+use Rattle.princ_keys.specs.Keys.{IsKey, are_falling, are_ordered, begins_at}
 use Rattle.princ_record.specs.Princs.{are_attributes, IsPrinc}
-use Rattle.princ_record.specs.Printed.{is_master}
-use Rattle.princ_record.specs.PrintedNames.{IsPrinted}
-use Rattle.princ_record.specs.Remembered.{IsOldSet}
+use Rattle.princ_name.specs.Printed.{is_master, IsPrinted}
+use Rattle.princ_keys.specs.Remembered.{IsOldSet}
 use Rattle.master_keys.specs.Chain.{IsChain}
 use Rattle.master_keys.specs.First.{master_name, admin_name, first_record}
 use Rattle.master_keys.specs.Lengths.{short_blob}

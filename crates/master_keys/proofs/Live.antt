@@ -11,7 +11,7 @@ use Rattle.std.proofs.lemmas.List.Kept.{IsStrictlySortedBy-filter}
 use Rattle.kdb_base.specs.Versions.{AreRising}
 use Rattle.kdb_base.specs.declared.versions.AuxKey.{AuxKey}
 use Rattle.kdb_base.specs.declared.versions.Master.{Master}
-use Rattle.princ_record.specs.declared.keys.KeyItem.{KeyItem}
+use Rattle.princ_keys.specs.declared.keys.KeyItem.{KeyItem}
 use Rattle.princ_record.specs.declared.princs.Princ.{Princ}
 use Rattle.master_keys.specs.Chain.{IsAuxOf, IsChain, IsKeyOf}
 use Rattle.master_keys.specs.Purging.{live_masters, live_part, purged_record}

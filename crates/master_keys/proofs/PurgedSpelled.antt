@@ -10,10 +10,10 @@ use Rattle.kdb_base.specs.declared.versions.Master.{Master}
 use Rattle.tagged_data.specs.Numbers.{IsVersion}
 use Rattle.tagged_data.specs.Versions.{IsActivation, length-activations_text}
 use Rattle.princ_record.specs.Facts.{IsChain as IsPart, IsChainOr}
-use Rattle.princ_record.specs.Keys.{IsKey, are_falling, is_below}
+use Rattle.princ_keys.specs.Keys.{IsKey, are_falling, is_below}
 use Rattle.princ_record.specs.Princs.{IsPrinc}
 use Rattle.princ_record.specs.declared.facts.ChainPart.{ChainPart}
-use Rattle.princ_record.specs.declared.keys.KeyItem.{KeyItem}
+use Rattle.princ_keys.specs.declared.keys.KeyItem.{KeyItem}
 use Rattle.princ_record.specs.declared.princs.Princ.{Princ}
 use Rattle.master_keys.specs.Chain.{IsChain}
 use Rattle.master_keys.specs.Purging.{live_masters, live_part, purged_record}

@@ -5,7 +5,7 @@ use Rattle.princ_name.specs.Names.{printed_parts, printed_text}
 use Rattle.princ_name.specs.RealmNames.{name_in}
 use Rattle.princ_name.specs.RealmLaws.{prints_in, is_name_in}
 use Rattle.princ_name.specs.Realms.{IsRealm}
-use Rattle.princ_record.specs.PrintedNames.{IsPrinted}
+use Rattle.princ_name.specs.Printed.{IsPrinted}
 use Rattle.master_keys.specs.First.{master_name, admin_name}
 
 pub master_printed : (realm : List ℕ) → IsRealm realm → IsPrinted (master_name realm)

@@ -4,7 +4,7 @@ use Rattle.std.specs.List.{All, AllZip}
 use Rattle.std.proofs.lemmas.List.{drop_all, drop_more, take_more}
 use Rattle.std.proofs.lemmas.Slice.Zip.{all_zipped_more}
 use Rattle.kdb_base.specs.Key.{Key}
-use Rattle.princ_record.specs.declared.keys.KeyItem.{KeyItem}
+use Rattle.princ_keys.specs.declared.keys.KeyItem.{KeyItem}
 use Rattle.master_keys.specs.Rewrapping.{HoldNotAll, HoldsOne, confounder, with_key, with_keys}
 use Rattle.master_keys.proofs.SideBySide.{zip_at_item}
 

@@ -16,11 +16,11 @@ use Rattle.kdb_base.specs.declared.versions.Master.{Master}
 use Rattle.tagged_data.specs.Numbers.{IsVersion}
 use Rattle.tagged_data.specs.Versions.{AreActivations, IsAuxKey, activations_text, length-aux_keys_text}
 use Rattle.princ_record.specs.Facts.{IsChain as IsPart}
-use Rattle.princ_record.specs.Keys.{IsKey, IsSalt, are_falling, are_ordered, begins_at, is_below, may_follow}
+use Rattle.princ_keys.specs.Keys.{IsKey, IsSalt, are_falling, are_ordered, begins_at, is_below, may_follow}
 use Rattle.princ_record.specs.Princs.{IsPrinc}
-use Rattle.princ_record.specs.Printed.{is_master}
+use Rattle.princ_name.specs.Printed.{is_master}
 use Rattle.princ_record.specs.declared.facts.ChainPart.{ChainPart}
-use Rattle.princ_record.specs.declared.keys.KeyItem.{KeyItem}
+use Rattle.princ_keys.specs.declared.keys.KeyItem.{KeyItem}
 use Rattle.princ_record.specs.declared.princs.Princ.{Princ}
 use Rattle.master_keys.specs.Chain.{IsAuxOf, IsChain, IsKeyOf}
 use Rattle.master_keys.specs.Lengths.{few_bytes, short_blob}

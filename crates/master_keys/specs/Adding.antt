@@ -6,7 +6,7 @@ use Rattle.kdb_base.specs.declared.keys.Salt.TheVariants.{Normal}
 use Rattle.kdb_base.specs.declared.versions.AuxKey.{AuxKey}
 use Rattle.kdb_base.specs.declared.versions.Master.{Master}
 use Rattle.princ_record.specs.declared.facts.ChainPart.{ChainPart}
-use Rattle.princ_record.specs.declared.keys.KeyItem.{KeyItem}
+use Rattle.princ_keys.specs.declared.keys.KeyItem.{KeyItem}
 use Rattle.princ_record.specs.declared.princs.Princ.{Princ}
 use Rattle.master_keys.specs.Rewrapping.{confounder, with_keys}
 use Rattle.master_keys.specs.Versions.{last_version}

@@ -8,7 +8,7 @@ use Rattle.kdb_base.specs.Versions.{AreRising}
 use Rattle.kdb_base.specs.declared.versions.AuxKey.{AuxKey}
 use Rattle.kdb_base.specs.declared.versions.Master.{Master}
 use Rattle.princ_record.specs.declared.facts.ChainPart.{ChainPart}
-use Rattle.princ_record.specs.declared.keys.KeyItem.{KeyItem}
+use Rattle.princ_keys.specs.declared.keys.KeyItem.{KeyItem}
 use Rattle.princ_record.specs.declared.princs.Princ.{Princ}
 use Rattle.master_keys.specs.Wrapping.{Unwraps}
 

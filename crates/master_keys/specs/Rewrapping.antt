@@ -2,7 +2,7 @@
 use Rattle.std.specs.Prelude.{◌≡◌, ℕ, ◌+◌, ◌*◌, List, [], ◌∷◌}
 use Rattle.std.specs.List.{AllZip, Any, slice_range}
 use Rattle.kdb_base.specs.Key.{Key}
-use Rattle.princ_record.specs.declared.keys.KeyItem.{KeyItem}
+use Rattle.princ_keys.specs.declared.keys.KeyItem.{KeyItem}
 use Rattle.princ_record.specs.declared.princs.Princ.{Princ}
 use Rattle.master_keys.specs.Wrapping.{Unwraps, wrapped}
 

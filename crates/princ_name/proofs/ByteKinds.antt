@@ -4,7 +4,7 @@ use Rattle.std.proofs.lemmas.Bool.{eqb-true}
 use Rattle.std.proofs.lemmas.Bool.Decides.{eqb_tells}
 use Rattle.princ_name.specs.Bytes.{is_refused, is_plain}
 use Rattle.princ_name.specs.Faults.{fault_from}
-use Rattle.princ_name.proofs.Bytewise.{tests_plain}
+use Rattle.princ_name.specs.ByteLaws.{tests_plain}
 
 pub record IsPlainByte (at : ℕ) (realm : Bool) (c : ℕ) (rest : List ℕ) : Type 0 where
   pub plain : is_plain c ≡ true

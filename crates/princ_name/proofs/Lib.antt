@@ -1,4 +1,3 @@
-pub mod Bytewise
 pub mod Takes
 pub mod ByteKinds
 pub mod Sound
@@ -14,5 +13,4 @@ pub mod PrintedSpells
 pub mod FaultlessWords
 pub mod OwnNames
 pub mod PatternReadings
-pub mod PrintedNames
 pub mod MasterName

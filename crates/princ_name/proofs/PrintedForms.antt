@@ -3,6 +3,7 @@ use Rattle.std.proofs.Common.{◌≡◌, ℕ, ◌+◌, ◌<◌, ◌≤◌, List,
 use Rattle.std.proofs.lemmas.List.{drop_more, drop_all}
 use Rattle.princ_name.specs.Bytes.{printed_byte}
 use Rattle.princ_name.specs.Names.{printed_text, printed_parts, behind_parts}
+use Rattle.princ_name.specs.PrintedLaws.{behind-cons, behind-nil, parts-cons}
 
 text-cons : (b : ℕ) (text : List ℕ) → printed_text (b ∷ text) ≡ printed_byte b ++ printed_text text
 unfolding printed_text
@@ -11,14 +12,6 @@ text-cons b text = refl
 text-nil : printed_text [] ≡ []
 unfolding printed_text
 text-nil = refl
-
-behind-cons : (part : List ℕ) (parts : List (List ℕ)) → behind_parts (part ∷ parts) ≡ 47 ∷ (printed_text part ++ behind_parts parts)
-unfolding behind_parts
-behind-cons part parts = refl
-
-behind-nil : behind_parts [] ≡ []
-unfolding behind_parts
-behind-nil = refl
 
 pub text-more : (text old new whole : List ℕ) (i : ℕ) → i < length text → new ≡ old ++ printed_byte (get_or text i 0)
     → old ++ printed_text (drop i text) ≡ whole → new ++ printed_text (drop (i + 1) text) ≡ whole
@@ -48,12 +41,6 @@ behind-done parts old whole i le h = sym (append-nil old) ∙ ap (λ w. old ++ w
 pub parts-nil : printed_parts [] ≡ []
 unfolding printed_parts
 parts-nil = refl
-
-pub parts-cons : (part : List ℕ) (parts : List (List ℕ)) → printed_parts (part ∷ parts) ≡ printed_text part ++ behind_parts parts
-unfolding printed_parts
-parts-cons part [] = sym (ap (λ w. printed_text part ++ w) behind-nil ∙ append-nil (printed_text part))
-parts-cons part (next ∷ parts) =
-    ap (λ w. printed_text part ++ 47 ∷ w) (parts-cons next parts) ∙ ap (λ w. printed_text part ++ w) (sym (behind-cons next parts))
 
 pub parts-split : (parts : List (List ℕ)) (first : List ℕ) (others : List (List ℕ)) (old mid new text : List ℕ) → parts ≡ first ∷ others → text ≡ first
     → mid ≡ old ++ printed_text text → new ≡ mid ++ behind_parts others → new ≡ old ++ printed_parts parts

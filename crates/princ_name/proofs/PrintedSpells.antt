@@ -5,7 +5,7 @@ use Rattle.std.specs.List.{list_all}
 use Rattle.princ_name.specs.Bytes.{is_refused, is_sign, escaped, can_stand, printed_byte}
 use Rattle.princ_name.specs.Names.{NameParts, IsName, printed, printed_parts, printed_text}
 use Rattle.princ_name.specs.Spelling.{SpellsByte, SpellsText, SpellsParts, Spells}
-use Rattle.princ_name.proofs.Bytewise.{tests_plain}
+use Rattle.princ_name.specs.ByteLaws.{tests_plain}
 
 -- a byte that is printed with a backslash
 behind : (b n c : ℕ) → b ≡ n → is_refused c ≡ false → n ≡ escaped c → printed_byte n ≡ 92 ∷ c ∷ [] → SpellsByte b (printed_byte b)

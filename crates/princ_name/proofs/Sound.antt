@@ -6,7 +6,7 @@ use Rattle.princ_name.specs.Reading.{Said, says, before_plain, before_escaped, b
 use Rattle.princ_name.specs.Spelling.{SpellsText, SpellsPart, SpellsParts, is_bare}
 use Rattle.princ_name.specs.declared.parts.Part.{Part}
 use Rattle.princ_name.proofs.ByteKinds.{kind_of, allowed_behind, ended_behind}
-use Rattle.princ_name.proofs.Bytewise.{plain_tests}
+use Rattle.princ_name.specs.ByteLaws.{plain_tests}
 use Rattle.princ_name.proofs.Takes.{says-plain}
 
 pub nothing_spelled : SpellsPart empty_part []

@@ -6,7 +6,7 @@ use Rattle.princ_name.specs.Reading.{Said, says, before_plain, before_escaped, b
 use Rattle.princ_name.specs.Steps.{Takes, fault_of}
 use Rattle.princ_name.specs.declared.parts.Part.{Part}
 use Rattle.princ_name.specs.declared.reading.Reading.{Reading}
-use Rattle.princ_name.proofs.Bytewise.{plain_tests}
+use Rattle.princ_name.specs.ByteLaws.{plain_tests}
 
 pub says-plain : (at b : ℕ) (mark : Option ℕ) (rest : List ℕ) → is_plain b ≡ true → says at false mark (b ∷ rest) ≡ before_plain b (says (at + 1) false mark rest)
 unfolding says

@@ -1,4 +1,5 @@
 pub mod Bytes
+pub mod ByteLaws
 pub mod Names
 pub mod Spelling
 pub mod Faults
@@ -10,6 +11,7 @@ pub mod Whole
 pub mod Answers
 pub mod Shape
 pub mod Printed
+pub mod PrintedLaws
 pub mod Patterns
 pub mod PatternReadings
 pub mod Found

@@ -7,8 +7,10 @@ use Rattle.tagged_data.specs.Modifiers.{modifier_text, length-modifier_text}
 use Rattle.tagged_data.specs.Versions.{activations_text, length-activations_text, aux_keys_text}
 use Rattle.tagged_data.specs.Strings.{strings_text}
 use Rattle.tagged_data.specs.declared.string_attributes.StringAttribute.{StringAttribute}
-use Rattle.princ_record.specs.Facts.{head, tag, behind_head, strings_item}
-use Rattle.princ_record.specs.PrintedNames.{IsPrinted, printed_short}
+use Rattle.princ_record.specs.Facts.{head, tag, strings_item}
+use Rattle.princ_record.specs.FactLaws.{behind_head}
+use Rattle.princ_name.specs.Printed.{IsPrinted}
+use Rattle.princ_name.specs.PrintedLaws.{printed_short}
 
 pub modifier_behind : (front : List ℕ) (secs : ℕ) (name : List ℕ) → (front ++ head 2 (5 + length name)) ++ modifier_text (secs, name) ≡ front ++ tag 2 (modifier_text (secs, name))
 modifier_behind front secs name = behind_head front 2 (5 + length name) (modifier_text (secs, name)) (length-modifier_text (secs, name))

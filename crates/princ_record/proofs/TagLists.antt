@@ -19,7 +19,7 @@ use Rattle.tagged_data.specs.StringLaws.{strings_short}
 use Rattle.tagged_data.specs.declared.string_attributes.StringAttribute.{StringAttribute}
 use Rattle.tagged_data.specs.declared.items.TagItem.{TagItem}
 use Rattle.princ_record.specs.Facts.{tag, pw_len, pw_text, chain_text, chain_part, strings_count, strings_item, base_of, facts, IsChainOr, IsFacts}
-use Rattle.princ_record.specs.PrintedNames.{printed_short}
+use Rattle.princ_name.specs.PrintedLaws.{printed_short}
 use Rattle.princ_record.specs.Tags.{pw_tags, chain_tags, string_tags, tags}
 use Rattle.princ_record.specs.declared.facts.ChainPart.{ChainPart}
 use Rattle.princ_record.specs.declared.facts.Facts.{Facts}

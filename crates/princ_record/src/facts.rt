@@ -1,23 +1,22 @@
 //! What a principal's tagged list says, read and written without the list.
 
-ghost use Rattle.std.specs.Prelude.{◌≡◌, ◌++◌, ◌<◌, ◌≤◌, ◌^◌, ◌+◌, ◌*◌, length, OnOk, is_some};
+ghost use Rattle.std.specs.Prelude.{◌≡◌, ◌++◌, ◌<◌, ◌^◌, ◌+◌, ◌*◌, length, OnOk, is_some};
 ghost use Rattle.kdb_format.specs.Answers.{Finds, Gives, Reads, ReadsAs};
 ghost use Rattle.kdb_format.specs.Readings.{literal_at, whole, little_at};
 ghost use Rattle.kdb_format.specs.Spellings.{big, little};
 ghost use Rattle.tagged_data.specs.Modifiers.{modifier_text};
 ghost use Rattle.tagged_data.specs.Numbers.{version_at};
 ghost use Rattle.tagged_data.specs.Versions.{activations_at, activations_text, aux_keys_at, aux_keys_text};
-ghost use Rattle.princ_record.specs.Facts.{content_at, tag_at, tag, pw_text, modifier_of, pw_then_at, changes_at, strings_count, strings_item, strings_item_at, chain_part_at, chain_part, IsChain, chain_at, chain_text, IsChainOr, base_of, facts_at, facts as facts_text, IsFacts, head, pw_len};
+ghost use Rattle.princ_record.specs.Facts.{content_at, tag_at, tag, pw_text, modifier_of, pw_then_at, changes_at, strings_count, strings_item, strings_item_at, chain_part_at, chain_part, IsChain, chain_at, chain_text, IsChainOr, base_of, facts_at, facts as facts_text, head, pw_len};
 ghost use Rattle.tagged_data.specs.Versions.{AreAuxKeys};
 ghost use Rattle.tagged_data.specs.Strings.{strings_at, strings_text, AreStrings};
 ghost use Rattle.princ_record.specs.Princs.{facts_of};
 
-use crate::measures::measure_all;
-use crate::names::is_printed;
 use crate::princs::Princ;
 use kdb_base::{Activations, AuxList, Blob, MemoryOut};
 use kdb_format::writing::{push_counted, push_u16};
 use kdb_format::{FormatFault, Malformed, Reader};
+use princ_name::is_printed;
 use std::alloc::Global;
 use tagged_data::kinds::{ACTIVATIONS, AUX_KEYS, MKVNO, MODIFIER, PW_CHANGE, STRINGS};
 use tagged_data::modifiers::read_ended;
@@ -25,7 +24,10 @@ use tagged_data::rest::read_rest;
 use tagged_data::rising::are_rising;
 use tagged_data::string_attributes::strings_in;
 use tagged_data::versions::{ActivationFormat, AuxKeyFormat};
-use tagged_data::{StringAttributes, push_activations, push_aux_keys, push_modifier, push_strings};
+use tagged_data::{
+    StringAttributes, aux_len, push_activations, push_aux_keys, push_modifier, push_strings,
+    strings_len,
+};
 
 /// What the record of the master key's principal alone holds.
 #[derive(Debug, Drop, PartialEq, Eq)]
@@ -354,15 +356,6 @@ fn push_activations_tag(out: &mut Vec<u8>, list: &Activations) -> Result<(), Mem
     Ok(())
 }
 
-/// The number of bytes that spell the auxiliary keys.
-pub(crate) fn aux_len(list: &AuxList) -> usize
-    requires fit { AreAuxKeys list.now }
-    requires short { length (aux_keys_text list.now) < 2 ^ 16 }
-    ensures { result ≡ length (aux_keys_text list.now) }
-{
-    measure_all(list.as_slice())
-}
-
 #[tactic(auto, using(crate::proofs::Heads::aux_keys_behind))]
 fn push_aux_tag(out: &mut Vec<u8>, list: &AuxList) -> Result<(), MemoryOut>
     requires fit { AreAuxKeys list.now }
@@ -412,15 +405,6 @@ fn pw_len(pw_changed: Option<u32>) -> u16
         Some(_) => 1,
         None => 0,
     }
-}
-
-/// The number of bytes that spell the attributes.
-pub(crate) fn strings_len(list: &StringAttributes) -> usize
-    requires { AreStrings list.now }
-    ensures value { result ≡ length (strings_text list.now) }
-    ensures small { result ≤ 17440 }
-{
-    measure_all(list.as_slice())
 }
 
 #[tactic(auto, using(crate::proofs::Heads::strings_behind))]

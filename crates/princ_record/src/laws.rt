@@ -6,11 +6,11 @@ ghost use Rattle.tagged_data.specs.Lists.{tagged, content, IsTagged};
 ghost use Rattle.princ_record.specs.Facts.{facts};
 ghost use Rattle.princ_record.specs.Policies.{policy, IsPolicy};
 ghost use Rattle.princ_record.specs.Princs.{princ, IsPrinc, facts_of, with_keys, FitKeys};
-ghost use Rattle.princ_record.specs.Keys.{AreKeys};
+ghost use Rattle.princ_keys.specs.Keys.{AreKeys};
 ghost use Rattle.tagged_data.specs.Numbers.{IsVersion};
-ghost use Rattle.princ_record.specs.Printed.{is_master};
+ghost use Rattle.princ_name.specs.Printed.{is_master};
 ghost use Rattle.princ_record.specs.Tags.{tags};
-ghost use Rattle.princ_record.specs.declared.keys.KeyItem.{KeyItem};
+ghost use Rattle.princ_keys.specs.declared.keys.KeyItem.{KeyItem};
 ghost use Rattle.princ_record.specs.declared.princs.Princ.{Princ};
 
 /// Two principals that have a spelling never have the same one.

@@ -5,24 +5,22 @@
 mod copies;
 pub mod facts;
 pub mod faults;
-pub mod keys;
 pub mod laws;
 mod measures;
-pub mod names;
 pub mod policies;
 pub mod princs;
-pub mod remembered;
 pub mod row_limits;
+pub mod rows;
 
 pub use copies::copy;
 pub use facts::ChainPart;
 pub use faults::RowFault;
-pub use keys::{KeyItem, Keys};
 pub use measures::encoded_len;
-pub use policies::{PolicyFormat, copy_policy, decode_policy, encode_policy};
+pub use policies::{PolicyFormat, copy_policy, decode_policy, encode_policy, policy_len};
+pub use princ_keys::{KeyItem, Keys, OldKey, OldKeys, OldSet, OldSets};
 pub use princs::{Princ, PrincFormat, decode, encode};
-pub use remembered::{OldKey, OldKeys, OldSet, OldSets};
 pub use row_limits::{is_row, is_row_1};
+pub use rows::{PolicyRowFormat, RowFormat};
 
 #[cfg(test)]
 mod tests;

@@ -1,7 +1,8 @@
-ghost use Rattle.std.specs.Prelude.{◌≡◌, ◌++◌, Some, IfOk, OnOk};
+ghost use Rattle.std.specs.Prelude.{◌≡◌, ◌++◌, ◌+◌, ◌≤◌, Some, length, IfOk, OnOk};
 ghost use Rattle.policy_rules.specs.Rules.{Rules};
 ghost use Rattle.princ_record.specs.Answers.{Finds};
-ghost use Rattle.princ_record.specs.Policies.{policy_at, policy, IsPolicy, policy_field};
+ghost use Rattle.princ_record.specs.Policies.{policy_at, policy, IsPolicy};
+ghost use Rattle.princ_record.specs.PolicyLaws.{policy_field};
 
 use crate::faults::RowFault;
 use kdb_base::{Blob, MemoryOut};
@@ -66,6 +67,14 @@ pub fn push_policy(out: &mut Vec<u8>, value: &Policy) -> Result<(), MemoryOut>
     push_u16(out, value.min_classes())?;
     push_u16(out, value.history())?;
     Ok(())
+}
+
+/// The number of bytes of the policy's spelling.
+pub fn policy_len(value: &Policy) -> usize
+    ensures value { result ≡ length (policy value.now) }
+    ensures small { result ≤ 80 }
+{
+    16 + value.name().len()
 }
 
 /// The spelling of the policy.

@@ -2,18 +2,19 @@ ghost use Rattle.std.specs.Prelude.{◌≡◌, ◌++◌, Some, IfOk, OnOk};
 ghost use Rattle.kdb_format.specs.Answers.{Gives, Reads};
 ghost use Rattle.kdb_format.specs.Spellings.{counted};
 ghost use Rattle.princ_record.specs.Answers.{Finds};
-ghost use Rattle.princ_record.specs.Princs.{lives_at, policy_name_at, are_attributes, lives, lives_of, name_of, IsPolicyOr, princ_at, princ, IsPrinc, princ_field};
+ghost use Rattle.princ_record.specs.Princs.{lives_at, policy_name_at, are_attributes, lives, lives_of, name_of, IsPolicyOr, princ_at, princ, IsPrinc};
+ghost use Rattle.princ_record.specs.PrincLaws.{princ_field};
 ghost use Rattle.princ_record.specs.declared.princs.Princ.{Princ};
 
 use crate::facts::{ChainPart, push_facts, read_facts};
 use crate::faults::RowFault;
-use crate::keys::{Keys, fit_name, push_keys, read_keys};
-use crate::names::{is_master, is_printed};
-use crate::remembered::{OldSets, push_sets, read_sets};
 use kdb_base::{Blob, MemoryOut};
 use kdb_format::writing::{push_counted, push_u32};
 use kdb_format::{Format, FormatFault, Malformed, Reader, read_whole};
 use policy_rules::is_policy_name;
+use princ_keys::keys::{Keys, fit_name, push_keys, read_keys};
+use princ_keys::remembered::{OldSets, push_sets, read_sets};
+use princ_name::{is_master, is_printed};
 use std::alloc::Global;
 use tagged_data::StringAttributes;
 

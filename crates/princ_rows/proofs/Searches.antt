@@ -10,7 +10,7 @@ use Rattle.std.proofs.lemmas.List.{get_or-map, length-map}
 use Rattle.std.proofs.lemmas.List.Sorted.{searchable_from_sorted}
 use Rattle.std.proofs.lemmas.Map.Keys.{Less-from_sorted}
 use Rattle.std.proofs.lemmas.Map.Text.{is_eq-slice_cmp}
-use Rattle.princ_rows.specs.Entries.{same_bytes, bytes_same}
+use Rattle.princ_entries.specs.EntryLaws.{same_bytes, bytes_same}
 use Rattle.std.specs.Prelude.{None}
 use Rattle.princ_rows.specs.Rows.{key_cmp, AreInOrder, IsAt, IsGap, rises_from, in_order, rises}
 

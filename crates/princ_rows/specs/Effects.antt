@@ -6,8 +6,8 @@ use Rattle.kdb_base.specs.Limits.{most_rows}
 use Rattle.policy_rules.specs.Rules.{Rules}
 use Rattle.princ_rows.specs.Rows.{key_cmp, RowLists}
 use Rattle.princ_record.specs.declared.princs.Princ.{Princ}
-use Rattle.princ_rows.specs.declared.entries.Op.{Op}
-use Rattle.princ_rows.specs.declared.entries.Op.TheVariants.{PutPrinc, DropPrinc, Rename, PutPolicy, DropPolicy}
+use Rattle.princ_entries.specs.declared.entries.Op.{Op}
+use Rattle.princ_entries.specs.declared.entries.Op.TheVariants.{PutPrinc, DropPrinc, Rename, PutPolicy, DropPolicy}
 
 -- the records before a key, and those behind it
 abbrev pub is_lower : {X : Type 0} → (X → List ℕ) → List ℕ → X → Bool

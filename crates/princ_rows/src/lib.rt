@@ -1,22 +1,16 @@
-//! The rows of a principal database, and the entries of the log that change them: principals and policies in
-//! the byte order of their names, changes that can be taken back, and what a replica that polls the log is
-//! answered.
+//! The rows of a principal database: principals and policies in the byte order of their names, and changes that
+//! can be taken back.
 #![tactic(auto)]
 
 pub mod begun;
 pub mod boxes;
-mod copies;
-pub mod entries;
 pub mod laws;
-pub mod replies;
 pub mod rows;
 pub mod sorted;
 
 pub use begun::Begun;
 pub use boxes::{Boxed, push_boxed};
-pub use copies::{copy_entry, copy_op};
-pub use entries::{Entries, Entry, Logged, Op};
-pub use replies::{PollReply, ReplyCode};
+pub use princ_entries::{Entries, Entry, Logged, Op, PollReply, ReplyCode, copy_entry, copy_op};
 pub use rows::Rows;
 pub use sorted::Keyed;
 

@@ -1,12 +1,12 @@
 ghost use Rattle.std.specs.Prelude.{Some, IfOk};
-ghost use Rattle.princ_record.specs.PrintedNames.{IsPrinted};
+ghost use Rattle.princ_name.specs.Printed.{IsPrinted};
 ghost use Rattle.princ_record.specs.RowLimits.{IsRow};
-ghost use Rattle.princ_rows.specs.Entries.{IsOp};
+ghost use Rattle.princ_entries.specs.Entries.{IsOp};
 ghost use Rattle.princ_rows.specs.Undoing.{IsBegun, IsNewName};
 
 use super::*;
+use kdb_base::Blob;
 use kdb_base::limits::MAX_ROW_LEN;
-use kdb_base::{Blob, Point, Time};
 use princ_record::{Princ, decode, encoded_len};
 use std::test::*;
 
@@ -14,35 +14,6 @@ use std::test::*;
 // and nothing remembered.
 const BEHIND: &[u8] =
     b"\0\0\0\0\0\0\0\0\0\0\0\0\0\0\0\0\0\0\0\0\0\x02\0\x02\0\x08\0\xf1\x53\x65a@R\0\0\x08\0\x02\x01\0\0\0\0\0\0\0";
-
-#[test]
-fn a_reply_has_the_code_of_iprop(rt: HostRuntime) {
-    let codes = [
-        (0, Some(ReplyCode::UpdateOk)),
-        (1, None),
-        (2, Some(ReplyCode::FullResyncNeeded)),
-        (3, Some(ReplyCode::Busy)),
-        (4, Some(ReplyCode::Nil)),
-        (5, Some(ReplyCode::PermDenied)),
-        (6, None),
-    ];
-    for (number, code) in codes {
-        assert_eq!(rt; ReplyCode::from_number(number), code);
-        if let Some(code) = code {
-            assert_eq!(rt; code.number(), number);
-        }
-    }
-    let asked = Point {
-        sno: 7,
-        time: Time::new(1, 2),
-    };
-    let none = Entries::from_vec(Vec::new(rt.alloc()));
-    let reply = PollReply::new(ReplyCode::Nil, asked, none);
-    assert_eq!(rt; reply.code(), ReplyCode::Nil);
-    assert_eq!(rt; reply.asked().sno, 7);
-    assert_eq!(rt; reply.updates().len(), 0);
-    assert_eq!(rt; reply.into_updates().as_slice().len(), 0);
-}
 
 fn princ_named(rt: &HostRuntime, name: &[u8]) -> Result<Princ, Fail>
     ensures { IfOk result (λ p. IsRow p) }

@@ -3,9 +3,9 @@ ghost use Rattle.kdb_base.specs.declared.outcomes.Halt.TheVariants.{MemoryOut as
 ghost use Rattle.kdb_disk.specs.View.{View, IsAfter};
 ghost use Rattle.kdb_disk.specs.Moments.{Differs};
 ghost use Rattle.kdb_disk.specs.Frames.{IsCall, IsCrashSafe};
-ghost use Rattle.princ_rows.specs.declared.entries.Logged.{Logged};
+ghost use Rattle.princ_entries.specs.declared.entries.Logged.{Logged};
 ghost use Rattle.std.specs.VecDeque.{deque_len, deque_capacity};
-ghost use Rattle.princ_rows.specs.Entries.{IsOp, logged};
+ghost use Rattle.princ_entries.specs.Entries.{IsOp, logged};
 ghost use Rattle.update_log.specs.Slots.{slot_of, Spells, IsSpelled};
 ghost use Rattle.update_log.specs.Logs.{IsJournal, ComesNext, entry_of, marker_of, with_prepared, log_committed, newest, begun};
 ghost use Rattle.update_log.specs.Moments.{HasLog, HasPrepared, IsDurable, LeavesLog, LeavesEither, ReadsOthers};
@@ -59,7 +59,7 @@ fn marker_of(base: &Point) -> Logged
 }
 
 // Tells a proof that a slot has room for the base marker, and does nothing.
-#[tactic(auto, unfolding(princ_rows::specs::Entries::key_of, princ_rows::specs::Entries::row_of))]
+#[tactic(auto, unfolding(princ_entries::specs::Entries::key_of, princ_entries::specs::Entries::row_of))]
 fn holds_marker(marker: &Logged, base: &Point, block: u32)
     requires block { 2048 ≤ block }
     requires marker { marker.now ≡ marker_of base.now }

@@ -4,7 +4,7 @@ use Rattle.std.specs.Prelude.{Option, Some, None}
 use Rattle.std.proofs.lemmas.Option.{same_Some}
 use Rattle.kdb_base.specs.Moment.{Moment}
 use Rattle.kdb_base.specs.declared.outcomes.Refusal.{Refusal}
-use Rattle.princ_rows.specs.declared.entries.Op.{Op}
+use Rattle.princ_entries.specs.declared.entries.Op.{Op}
 use Rattle.kdb_model.specs.Calls.{Call}
 use Rattle.kdb_model.specs.Changes.{entry}
 use Rattle.kdb_model.specs.Refusals.{refusal}

@@ -1,5 +1,5 @@
 use Rattle.std.proofs.Common.{◌≡◌, true, rules, sym, ◌∙◌}
-use Rattle.princ_rows.specs.Entries.{bytes_same}
+use Rattle.princ_entries.specs.EntryLaws.{bytes_same}
 use Rattle.kdb_model.proofs.PrintedPairs.{answer_is_pair}
 use Rattle.kdb_model.proofs.names.is_pair.Goals as goal
 

@@ -1,6 +1,6 @@
 use Rattle.std.proofs.Common.{◌≡◌, true, codes, rules}
-use Rattle.princ_record.specs.Printed.{is_printed}
-use Rattle.princ_record.specs.PrintedNames.{test_printed}
+use Rattle.princ_name.specs.Printed.{is_printed}
+use Rattle.princ_name.specs.PrintedLaws.{test_printed}
 use Rattle.kdb_model.proofs.tests.planned.Goals as goal
 
 pub plan-requires-clause-client : goal.plan-requires-clause-client

@@ -1,7 +1,7 @@
 use Rattle.std.proofs.Common.{◌≡◌, true, codes, None, rules, sym, subst, arith}
 use Rattle.kdb_format.specs.Moments.{IsTime}
-use Rattle.princ_record.specs.Printed.{is_printed}
-use Rattle.princ_record.specs.PrintedNames.{test_printed}
+use Rattle.princ_name.specs.Printed.{is_printed}
+use Rattle.princ_name.specs.PrintedLaws.{test_printed}
 use Rattle.kdb_model.specs.Calls.{plain_call}
 use Rattle.kdb_model.proofs.Valid.{valid_next}
 use Rattle.kdb_model.proofs.tests.run.Goals as goal

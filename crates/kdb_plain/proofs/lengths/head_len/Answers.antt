@@ -2,7 +2,8 @@ use Rattle.std.proofs.Common.{◌+◌, arith, refl, length, ap, ◌∙◌}
 use Rattle.kdb_plain.specs.Heads.{plain_head}
 use Rattle.kdb_plain.specs.Lengths.{in_64_bits}
 use Rattle.princ_record.specs.Princs.{name_of}
-use Rattle.princ_record.specs.Sizes.{length-princ, pw_text_len, strings_item_len}
+use Rattle.princ_record.specs.SizeLaws.{length-princ}
+use Rattle.princ_record.specs.Sizes.{pw_text_len, strings_item_len}
 use Rattle.kdb_plain.proofs.lengths.head_len.Goals as goal
 
 pub returns : goal.returns

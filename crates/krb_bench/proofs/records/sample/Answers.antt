@@ -1,6 +1,6 @@
 use Rattle.std.proofs.Common.{refl, ap, ◌∙◌}
 use Rattle.princ_name.specs.Bytes.{is_plain, is_sign, is_refused}
-use Rattle.princ_record.specs.Printed.{is_printed, is_master, prints}
+use Rattle.princ_name.specs.Printed.{is_printed, is_master, prints}
 use Rattle.krb_bench.proofs.Samples.{sample_is}
 use Rattle.krb_bench.proofs.records.sample.Goals as goal
 

@@ -1,7 +1,7 @@
 use Rattle.std.proofs.Common.{◌≡◌, ap, rules, subst, sym, Err}
 use Rattle.std.specs.Prelude.{is_some}
 use Rattle.kdb_base.specs.Key.{Key}
-use Rattle.princ_record.specs.declared.keys.KeyItem.{KeyItem}
+use Rattle.princ_keys.specs.declared.keys.KeyItem.{KeyItem}
 use Rattle.master_keys.specs.Rewrapping.{HoldNotAll, Holds}
 use Rattle.master_keys.proofs.Errors.{only_memory, was_wrong}
 use Rattle.master_keys.proofs.Rewrapped.{not_each, zip_to}

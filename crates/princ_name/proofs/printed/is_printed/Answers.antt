@@ -1,5 +1,5 @@
 use Rattle.std.proofs.Common.{sym, ◌∙◌}
-use Rattle.princ_name.proofs.PrintedNames.{printed_test, test_printed}
+use Rattle.princ_name.specs.PrintedLaws.{printed_test, test_printed}
 use Rattle.princ_name.proofs.printed.is_printed.Goals as goal
 
 pub returns-clause-printed : goal.returns-clause-printed

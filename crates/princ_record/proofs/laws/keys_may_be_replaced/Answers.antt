@@ -1,4 +1,4 @@
-use Rattle.princ_record.specs.Princs.{with_keys_fits, other_keys_fit}
+use Rattle.princ_record.specs.PrincLaws.{with_keys_fits, other_keys_fit}
 use Rattle.princ_record.proofs.laws.keys_may_be_replaced.Goals as goal
 
 pub returns-clause-made : goal.returns-clause-made

@@ -1,4 +1,4 @@
-use Rattle.princ_record.specs.Policies.{policy_field}
+use Rattle.princ_record.specs.PolicyLaws.{policy_field}
 use Rattle.princ_record.proofs.OneSpelling.{spelled_once}
 use Rattle.princ_record.proofs.laws.policies_have_their_own_spellings.Goals as goal
 

@@ -1,5 +1,5 @@
 use Rattle.princ_record.specs.Princs.{facts_of}
-use Rattle.princ_record.specs.Printed.{is_master}
+use Rattle.princ_name.specs.Printed.{is_master}
 use Rattle.princ_record.proofs.TagLists.{facts_are_tagged, tags_are_items}
 use Rattle.princ_record.proofs.laws.principals_have_tagged_lists.Goals as goal
 

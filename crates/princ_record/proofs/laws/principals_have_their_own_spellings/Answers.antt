@@ -1,4 +1,4 @@
-use Rattle.princ_record.specs.Princs.{princ_field}
+use Rattle.princ_record.specs.PrincLaws.{princ_field}
 use Rattle.princ_record.proofs.OneSpelling.{spelled_once}
 use Rattle.princ_record.proofs.laws.principals_have_their_own_spellings.Goals as goal
 

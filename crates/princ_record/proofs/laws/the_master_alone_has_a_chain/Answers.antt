@@ -1,5 +1,5 @@
 use Rattle.princ_record.specs.Princs.{facts_of}
-use Rattle.princ_record.specs.Printed.{is_master}
+use Rattle.princ_name.specs.Printed.{is_master}
 use Rattle.princ_record.proofs.TagLists.{has_activations, has_aux}
 use Rattle.princ_record.proofs.laws.the_master_alone_has_a_chain.Goals as goal
 

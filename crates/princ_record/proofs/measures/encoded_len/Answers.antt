@@ -1,8 +1,9 @@
 use Rattle.std.proofs.Common.{◌≡◌, List, ap, ◌∙◌, arith}
 use Rattle.std.specs.List.{sum_by}
-use Rattle.princ_record.specs.Sizes.{length-princ, key_len, old_set_len}
-use Rattle.princ_record.specs.declared.keys.KeyItem.{KeyItem}
-use Rattle.princ_record.specs.declared.remembered.OldSet.{OldSet}
+use Rattle.princ_record.specs.SizeLaws.{length-princ}
+use Rattle.princ_keys.specs.Sizes.{key_len, old_set_len}
+use Rattle.princ_keys.specs.declared.keys.KeyItem.{KeyItem}
+use Rattle.princ_keys.specs.declared.remembered.OldSet.{OldSet}
 use Rattle.princ_record.proofs.measures.encoded_len.Goals as goal
 
 pub returns : goal.returns
@@ -14,7 +15,7 @@ returns c =
       length-princ c.args.value.now,
       c.len.ensures,
       c.len-2.ensures,
-      c.policy_len.ensures.value,
+      c.policy_name_len.ensures.value,
       c.pw_text_len.ensures.value,
       c.chain_len.ensures.value,
       c.strings_item_len.ensures.value,

@@ -1,7 +1,7 @@
 -- By the kind of the byte.
 use Rattle.std.proofs.Common.{◌≡◌, Some, refl, sym, ap, ◌∙◌}
 use Rattle.std.proofs.lemmas.Bool.{ne_eqb}
-use Rattle.princ_name.proofs.Bytewise.{tests_plain}
+use Rattle.princ_name.specs.ByteLaws.{tests_plain}
 use Rattle.princ_name.proofs.Takes.{takes-slash, fault-refused}
 use Rattle.princ_name.proofs.reading.Reading.take.Goals as goal
 

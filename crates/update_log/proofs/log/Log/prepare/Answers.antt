@@ -1,5 +1,5 @@
 use Rattle.std.proofs.Common.{◌≡◌, ◌≤◌, ◌<◌, ◌*◌, ◌∙◌, ap, sym, subst, ℕ, length, arith}
-use Rattle.princ_rows.specs.declared.entries.Logged.{Logged}
+use Rattle.princ_entries.specs.declared.entries.Logged.{Logged}
 use Rattle.update_log.specs.Slots.{slot_of}
 use Rattle.update_log.specs.Logs.{Journal}
 use Rattle.update_log.specs.Moments.{HasPrepared, IsDurable}

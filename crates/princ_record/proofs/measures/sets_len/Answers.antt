@@ -1,9 +1,0 @@
-use Rattle.std.proofs.Common.{arith}
-use Rattle.princ_record.specs.Sizes.{old_sets_short}
-use Rattle.princ_record.proofs.measures.sets_len.Goals as goal
-
-pub measure_all-requires-clause-small : goal.measure_all-requires-clause-small
-measure_all-requires-clause-small c = omega (arith, old_sets_short c.args.sets.now c.requires)
-
-pub returns-clause-small : goal.returns-clause-small
-returns-clause-small c = omega (arith, c.measure_all.ensures, old_sets_short c.args.sets.now c.requires)
