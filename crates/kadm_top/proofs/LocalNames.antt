@@ -5,7 +5,7 @@ use Rattle.princ_name.specs.Names.{IsName, printed_parts, printed_text}
 use Rattle.princ_name.specs.RealmLaws.{prints_in, is_name_in}
 use Rattle.princ_name.specs.Realms.{IsRealm}
 use Rattle.princ_name.specs.Printed.{IsPrinted}
-use Rattle.kdb_model.specs.Refusals.{name_of_two}
+use Rattle.keyless_model.specs.Refusals.{name_of_two}
 use Rattle.kadm_top.specs.Steps.{local_client}
 
 -- `admin/local@` and the realm

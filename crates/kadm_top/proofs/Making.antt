@@ -26,8 +26,8 @@ use Rattle.std.proofs.lemmas.List.Elements.{All-from_recursion}
 use Rattle.princ_record.specs.RowLimits.{IsRow}
 use Rattle.princ_record.specs.Policies.{IsPolicy}
 use Rattle.princ_rows.specs.Rows.{AreRows}
-use Rattle.kadm_wire.specs.Replies.{reply_text}
-use Rattle.kdb_model.specs.declared.replies.Reply.TheVariants.{Done}
+use Rattle.keyless_wire.specs.Replies.{reply_text}
+use Rattle.keyless_model.specs.declared.replies.Reply.TheVariants.{Done}
 use Rattle.kadm_top.specs.Replies.{ended_text}
 use Rattle.kadm_top.specs.declared.words.Words.{Words}
 use Rattle.kadm_top.specs.declared.words.Words.TheVariants.{Admin, Create, Destroy}

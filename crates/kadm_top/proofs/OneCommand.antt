@@ -14,9 +14,9 @@ use Rattle.kdb_disk.proofs.Runs.{at_end, weaken, started}
 use Rattle.kdb_store.specs.Places.{Place, Holds, place_in, place_of, recovers}
 use Rattle.kdb_store.specs.Moments.{RecoversEither}
 use Rattle.kdb_store.specs.declared.opened.Opened.{Opened}
-use Rattle.kdb_model.specs.declared.commands.Command.{Command}
-use Rattle.kdb_model.specs.declared.replies.Reply.{Reply}
-use Rattle.kdb_model.specs.declared.replies.Reply.TheVariants as reply
+use Rattle.keyless_model.specs.declared.commands.Command.{Command}
+use Rattle.keyless_model.specs.declared.replies.Reply.{Reply}
+use Rattle.keyless_model.specs.declared.replies.Reply.TheVariants as reply
 use Rattle.kadm_top.specs.declared.intake.Asked.{Asked}
 use Rattle.kadm_top.specs.declared.intake.Asked.TheVariants.{Nothing, Refused, Does}
 use Rattle.kdb_ports.specs.Parts.{SaidPart}

@@ -10,15 +10,15 @@ use Rattle.princ_rows.specs.Undoing.{IsNewName}
 use Rattle.princ_entries.specs.declared.entries.Op.{Op}
 use Rattle.princ_entries.specs.declared.entries.Op.TheVariants as op
 use Rattle.princ_record.specs.declared.princs.Princ.{Princ}
-use Rattle.kdb_model.specs.Calls.{Call, Outcome, before_end_of}
-use Rattle.kdb_model.specs.Plans.{IsGiven, IsRefused, IsAnswered, IsChanging}
-use Rattle.kdb_model.specs.Refusals.{changes, refusal}
-use Rattle.kdb_model.specs.Steps.{step, performed, unless_refused}
-use Rattle.kdb_model.specs.declared.commands.Command.{Command}
-use Rattle.kdb_model.specs.declared.replies.Reply.{Reply}
-use Rattle.kdb_model.specs.declared.replies.Reply.TheVariants.{Done, Refused}
-use Rattle.kdb_model.specs.declared.states.State.{State}
-use Rattle.kdb_model.proofs.Ends.{end_keeps_refusal, end_lets_read, end_refuses_change, makes_entry, makes_none}
+use Rattle.keyless_model.specs.Calls.{Call, Outcome, before_end_of}
+use Rattle.keyless_model.specs.Plans.{IsGiven, IsRefused, IsAnswered, IsChanging}
+use Rattle.keyless_model.specs.Refusals.{changes, refusal}
+use Rattle.keyless_model.specs.Steps.{step, performed, unless_refused}
+use Rattle.keyless_model.specs.declared.commands.Command.{Command}
+use Rattle.keyless_model.specs.declared.replies.Reply.{Reply}
+use Rattle.keyless_model.specs.declared.replies.Reply.TheVariants.{Done, Refused}
+use Rattle.keyless_model.specs.declared.states.State.{State}
+use Rattle.keyless_model.proofs.Ends.{end_keeps_refusal, end_lets_read, end_refuses_change, makes_entry, makes_none}
 use Rattle.kdb_store.specs.Places.{Place}
 use Rattle.kadm_top.specs.Changes.{changed_to, committed_at, kept_with}
 use Rattle.kadm_top.specs.Steps.{call_of, is_last, local_client, outcome, state_of}

@@ -4,9 +4,9 @@ use Rattle.kdb_base.specs.Moment.{Moment}
 use Rattle.kdb_base.specs.Moments.{later_moment}
 use Rattle.kdb_base.specs.declared.outcomes.Refusal.TheVariants.{TimeEnd}
 use Rattle.princ_entries.specs.declared.entries.Op.{Op}
-use Rattle.kdb_model.specs.Calls.{Outcome}
-use Rattle.kdb_model.specs.declared.replies.Reply.{Reply}
-use Rattle.kdb_model.specs.declared.replies.Reply.TheVariants.{Done, Refused}
+use Rattle.keyless_model.specs.Calls.{Outcome}
+use Rattle.keyless_model.specs.declared.replies.Reply.{Reply}
+use Rattle.keyless_model.specs.declared.replies.Reply.TheVariants.{Done, Refused}
 use Rattle.kdb_store.specs.Places.{Place}
 use Rattle.kdb_store.specs.Steps.{committed}
 use Rattle.kadm_top.specs.Steps.{is_last, state_of}

@@ -2,10 +2,10 @@
 use Rattle.std.specs.Prelude.{ℕ, ◌==◌, Bool, List, [], ◌∷◌, Option, Some, None, Result, Ok, Err, map, option_map, if◌then◌else◌}
 use Rattle.kdb_base.specs.declared.outcomes.Refusal.{Refusal}
 use Rattle.kdb_base.specs.declared.outcomes.Refusal.TheVariants.{LineTooLong}
-use Rattle.kdb_model.specs.Changes.{IsCommand}
-use Rattle.kdb_model.specs.declared.commands.Command.{Command}
+use Rattle.keyless_model.specs.Changes.{IsCommand}
+use Rattle.keyless_model.specs.declared.commands.Command.{Command}
 use Rattle.kadm_lines.specs.Lines.{Seen}
-use Rattle.kadm_wire.specs.LineReadings.{reading}
+use Rattle.keyless_wire.specs.LineReadings.{reading}
 use Rattle.kadm_top.specs.declared.intake.Asked.{Asked}
 use Rattle.kadm_top.specs.declared.intake.Asked.TheVariants.{Nothing, Refused, Does}
 

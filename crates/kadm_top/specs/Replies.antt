@@ -1,7 +1,7 @@
 -- What is written to a sink.
 use Rattle.std.specs.Prelude.{ℕ, List, [], codes, Option, Some, None}
-use Rattle.kdb_model.specs.declared.replies.Reply.{Reply}
-use Rattle.kadm_wire.specs.Replies.{reply_text}
+use Rattle.keyless_model.specs.declared.replies.Reply.{Reply}
+use Rattle.keyless_wire.specs.Replies.{reply_text}
 use Rattle.kadm_top.specs.declared.replies.Printed.{Printed}
 
 -- the answer to `destroy`

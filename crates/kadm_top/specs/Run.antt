@@ -19,8 +19,8 @@ use Rattle.kdb_store.specs.Moments.{IsLike, Creates, Destroys}
 use Rattle.kdb_store.specs.Steps.{created}
 use Rattle.kadm_lines.specs.Lines.{seen_lines}
 use Rattle.kdb_ports.specs.Parts.{SaidPart}
-use Rattle.kadm_wire.specs.Replies.{reply_text}
-use Rattle.kdb_model.specs.declared.replies.Reply.TheVariants.{Done, Refused}
+use Rattle.keyless_wire.specs.Replies.{reply_text}
+use Rattle.keyless_model.specs.declared.replies.Reply.TheVariants.{Done, Refused}
 use Rattle.kadm_top.specs.Replies.{ended_text}
 use Rattle.kadm_top.specs.declared.intake.Asked.{Asked}
 use Rattle.kadm_top.specs.declared.words.Words.{Words}

@@ -3,13 +3,13 @@ use Rattle.std.specs.Prelude.{ℕ, ◌≡◌, Bool, true, false, ◌||◌, nat_l
 use Rattle.kdb_base.specs.Moment.{Moment}
 use Rattle.kdb_ports.specs.Told.{after_told, later_moments}
 use Rattle.princ_name.specs.Names.{printed}
-use Rattle.kdb_model.specs.Calls.{Call, Outcome}
-use Rattle.kdb_model.specs.Refusals.{name_of_two}
-use Rattle.kdb_model.specs.Steps.{step}
-use Rattle.kdb_model.specs.declared.commands.Command.{Command}
-use Rattle.kdb_model.specs.declared.replies.Reply.{Reply}
-use Rattle.kdb_model.specs.declared.replies.Reply.TheVariants as reply
-use Rattle.kdb_model.specs.declared.states.State.{State}
+use Rattle.keyless_model.specs.Calls.{Call, Outcome}
+use Rattle.keyless_model.specs.Refusals.{name_of_two}
+use Rattle.keyless_model.specs.Steps.{step}
+use Rattle.keyless_model.specs.declared.commands.Command.{Command}
+use Rattle.keyless_model.specs.declared.replies.Reply.{Reply}
+use Rattle.keyless_model.specs.declared.replies.Reply.TheVariants as reply
+use Rattle.keyless_model.specs.declared.states.State.{State}
 use Rattle.kdb_store.specs.Places.{Place}
 use Rattle.kadm_top.specs.Replies.{text_of}
 use Rattle.kadm_top.specs.declared.intake.Asked.{Asked}

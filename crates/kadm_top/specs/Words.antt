@@ -31,8 +31,12 @@ unfoldable pub words_in : List (List ℕ) → Option Words
 words_in [] = None
 words_in (word ∷ words) = words_behind word words
 
--- the only word asks what the program is
-unfoldable pub is_alone : List (List ℕ) → Bool
-is_alone [] = false
-is_alone (word ∷ []) = bytes_eq word (codes "--help") || bytes_eq word (codes "--version")
-is_alone (word ∷ _ ∷ _) = false
+-- the text that a word asks for where it stands alone
+abbrev pub text_for : List ℕ → Option (List ℕ)
+text_for word = if bytes_eq word (codes "--help") then Some USAGE else if bytes_eq word (codes "--version") then Some VERSION else None
+
+-- what the only word asks for
+unfoldable pub alone_text : List (List ℕ) → Option (List ℕ)
+alone_text [] = None
+alone_text (word ∷ []) = text_for word
+alone_text (word ∷ _ ∷ _) = None

@@ -1,9 +1,8 @@
-ghost use Rattle.std.specs.Prelude.{◌≡◌, ◌≤◌, ◌⊎◌, ◌||◌, codes, is_some, map};
-ghost use Rattle.std.specs.Str.{bytes_eq};
+ghost use Rattle.std.specs.Prelude.{◌≡◌, ◌≤◌, ◌⊎◌, map, option_map};
 ghost use Rattle.kdb_base.specs.Causes.{Rose};
 ghost use Rattle.kdb_ports.specs.Told.{after_told};
 ghost use Rattle.kdb_ports.specs.Parts.{SaidPart};
-ghost use Rattle.kadm_top.specs.Words.{is_alone};
+ghost use Rattle.kadm_top.specs.Words.{alone_text, text_for};
 
 use crate::words::is_word;
 use kdb_base::Status;
@@ -26,7 +25,7 @@ pub const VERSION: &[u8] = b"kdb_tool 0.1.0\n";
 
 /// What a word asks for that stands alone.
 fn text_for(word: &[u8]) -> Option<&'static [u8]>
-    ensures { is_some result ≡ (bytes_eq word.now (codes "--help") || bytes_eq word.now (codes "--version")) }
+    ensures { option_map (λ text. text.now) result ≡ text_for word.now }
 {
     if is_word(word, b"--help") {
         return Some(USAGE);
@@ -39,9 +38,9 @@ fn text_for(word: &[u8]) -> Option<&'static [u8]>
 
 /// The text that is asked for where the words are `--help` or `--version` and no other, for which no
 /// file is wanted.
-#[tactic(auto, unfolding(crate::specs::Words::is_alone))]
+#[tactic(auto, unfolding(crate::specs::Words::alone_text))]
 pub fn text_alone(words: &[Vec<u8>]) -> Option<&'static [u8]>
-    ensures { is_some result ≡ is_alone (map (λ word. word.items) words.now) }
+    ensures { option_map (λ text. text.now) result ≡ alone_text (map (λ word. word.items) words.now) }
 {
     match words {
         [word] => text_for(word.as_slice()),

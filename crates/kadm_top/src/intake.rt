@@ -6,9 +6,9 @@ ghost use Rattle.kadm_top.specs.Intake.{coming, Comes, IsValid, HasTaken};
 
 use crate::halts::ReadHalt;
 use kadm_lines::{LineReader, NextLine};
-use kadm_wire::parse_line;
+use keyless_wire::parse_line;
 use kdb_base::{MemoryOut, Refusal, Stop};
-use kdb_model::Command;
+use keyless_model::Command;
 use kdb_ports::Source;
 use std::alloc::Global;
 

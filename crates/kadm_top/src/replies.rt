@@ -1,14 +1,14 @@
 ghost use Rattle.std.specs.Prelude.{◌≡◌, ◌≤◌, Err, IfOk, OnOk, OnErr};
 ghost use Rattle.kdb_base.specs.Causes.{Rose, HasCause};
 ghost use Rattle.kdb_ports.specs.Told.{after_told};
-ghost use Rattle.kadm_wire.specs.Replies.{reply_text};
+ghost use Rattle.keyless_wire.specs.Replies.{reply_text};
 ghost use Rattle.kdb_ports.specs.Parts.{SaidPart};
 ghost use Rattle.kadm_top.specs.Replies.{ended_text, text_in};
 
 use crate::halts::SayHalt;
-use kadm_wire::print_reply;
+use keyless_wire::print_reply;
 use kdb_base::{Blob, MemoryOut};
-use kdb_model::Reply;
+use keyless_model::Reply;
 use kdb_ports::{Sink, WriteFailed, write_whole};
 use std::alloc::Global;
 

@@ -19,7 +19,7 @@ use crate::replies::{Printed, print, write_any};
 use kadm_lines::LineReader;
 use kdb_base::Halt;
 use kdb_disk::Disk;
-use kdb_model::Reply;
+use keyless_model::Reply;
 use kdb_ports::{Clock, Sink, Source};
 use kdb_store::Opened;
 use std::alloc::Global;

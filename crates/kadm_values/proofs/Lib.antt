@@ -6,3 +6,5 @@ pub mod ReadingLemmas
 pub mod TimeLemmas
 pub mod PointLemmas
 pub mod EtypeLemmas
+pub mod GlobLemmas
+pub mod GlobTests

@@ -6,3 +6,4 @@ pub mod Numbers
 pub mod Points
 pub mod Readings
 pub mod Times
+pub mod Globs

@@ -1,4 +1,4 @@
-//! The values that words of kadmin spell: numbers, durations, times and flags. A reader answers a value
+//! The values that words of kadmin spell: numbers, durations, times, flags and globs. A reader answers a value
 //! exactly where the word spells it.
 #![tactic(auto)]
 
@@ -6,6 +6,7 @@ pub mod bytes;
 pub mod durations;
 pub mod etypes;
 pub mod flags;
+pub mod globs;
 pub mod numbers;
 pub mod points;
 #[cfg(test)]
@@ -15,6 +16,7 @@ pub mod times;
 pub use durations::{Unit, read_duration};
 pub use etypes::{EtypeWord, read_etype, read_etypes};
 pub use flags::{Flag, FlagChange, flags_in, read_flag, with_flags};
+pub use globs::{glob_matches, is_glob};
 pub use numbers::read_number;
 pub use points::push_point;
 pub use times::{print_time, read_time};

@@ -1,7 +1,9 @@
-pub mod Globs
 pub mod Calls
-pub mod States
-pub mod Changes
+pub mod Access
+pub mod Fields
+pub mod Records
+pub mod Masters
+pub mod Entries
 pub mod Refusals
 pub mod Steps
-pub mod Plans
+pub mod Rekeying

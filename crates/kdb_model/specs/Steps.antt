@@ -1,69 +1,124 @@
 -- What a command does to a state and answers, and what a list of commands does.
-use Rattle.std.specs.Prelude.{ℕ, ◌+◌, List, [], ◌∷◌, Option, Some, None}
-use Rattle.std.specs.List.{filter}
+use Rattle.std.specs.Prelude.{ℕ, Bool, true, false, List, [], ◌∷◌, map, filter, Option, Some, None}
+use Rattle.kadm_commands.specs.declared.commands.Command.{Command}
+use Rattle.kadm_commands.specs.declared.commands.Command.TheVariants as command
+use Rattle.kadm_commands.specs.declared.replies.Reply.{Reply}
+use Rattle.kadm_commands.specs.declared.replies.Reply.TheVariants as reply
+use Rattle.kadm_commands.specs.declared.shown.KeyShown.{KeyShown}
+use Rattle.kadm_commands.specs.declared.shown.PrincShown.{PrincShown}
+use Rattle.kadm_values.specs.Globs.{matches}
+use Rattle.kdb_base.specs.declared.extracts.Extract.{Extract}
+use Rattle.kdb_base.specs.declared.keys.Salt.{Salt}
+use Rattle.kdb_base.specs.declared.keys.Salt.TheVariants.{Normal, Special}
 use Rattle.kdb_base.specs.declared.moments.Point.{Point}
 use Rattle.kdb_base.specs.declared.outcomes.Refusal.{Refusal}
-use Rattle.kdb_base.specs.declared.outcomes.Refusal.TheVariants.{UnknownPrincipal}
-use Rattle.princ_name.specs.Names.{printed}
-use Rattle.princ_rows.specs.Effects.{effect}
-use Rattle.princ_rows.specs.Rows.{RowLists}
-use Rattle.princ_record.specs.declared.princs.Princ.{Princ}
-use Rattle.princ_entries.specs.declared.entries.Op.{Op}
-use Rattle.kdb_model.specs.Calls.{Call, Outcome}
-use Rattle.kdb_model.specs.Changes.{moment_of, entry}
-use Rattle.kdb_model.specs.Globs.{matches}
-use Rattle.kdb_model.specs.Refusals.{refusal}
-use Rattle.kdb_model.specs.States.{princ_named, princ_names}
-use Rattle.kdb_model.specs.declared.commands.Command.{Command}
-use Rattle.kdb_model.specs.declared.commands.Command.TheVariants.{AddPrinc, ModPrinc, DelPrinc, GetPrinc, ListPrincs}
-use Rattle.kdb_model.specs.declared.replies.Reply.{Reply}
-use Rattle.kdb_model.specs.declared.replies.Reply.TheVariants.{Done, Shown, Listed, Refused}
-use Rattle.kdb_model.specs.declared.states.State.{State}
+use Rattle.kdb_base.specs.declared.outcomes.Refusal.TheVariants.{UnknownPrincipal, UnknownPolicy}
+use Rattle.kdb_model.specs.Access.{privileges}
+use Rattle.kdb_model.specs.Calls.{Call, change_point, secs_of}
+use Rattle.kdb_model.specs.Entries.{entry}
+use Rattle.kdb_model.specs.Masters.{master_rows, purge_rows, use_secs}
+use Rattle.kdb_model.specs.Refusals.{refusal, target}
+use Rattle.kdb_plain.specs.Changes.{PlainOp, effect_on}
+use Rattle.kdb_plain.specs.Keys.{has_kvno, newest_kvno}
+use Rattle.kdb_plain.specs.Lists.{princ_names}
+use Rattle.kdb_plain.specs.States.{policy_named}
+use Rattle.kdb_plain.specs.declared.items.PlainItem.{PlainItem}
+use Rattle.kdb_plain.specs.declared.princs.PlainPrinc.{PlainPrinc}
+use Rattle.kdb_plain.specs.declared.states.State.{State}
+use Rattle.master_keys.specs.Adding.{next_version}
+use Rattle.policy_rules.specs.Rules.{Rules}
+use Rattle.princ_rows.specs.Rows.{policy_keys}
 
 -- ---- what is read
 
-abbrev pub shown : Option Princ → Reply
-shown None = Refused UnknownPrincipal
-shown (Some p) = Shown p
+abbrev pub is_special : Salt → Bool
+is_special Normal = false
+is_special (Special bytes) = true
+
+abbrev pub key_shown : PlainItem → KeyShown
+key_shown k = record { kvno = k.kvno; etype = k.key.etype; special = is_special k.salt }
+
+unfoldable pub shown_of : PlainPrinc → PrincShown
+shown_of q = record {
+  name = q.name;
+  expire = q.expire;
+  pw_expire = q.pw_expire;
+  pw_changed = q.pw_changed;
+  max_life = q.max_life;
+  max_renew = q.max_renew;
+  modified = q.modified;
+  modifier = q.modifier;
+  mkvno = q.mkvno;
+  attributes = q.attributes;
+  policy = q.policy;
+  keys = map key_shown q.keys;
+}
+
+abbrev pub extract_of : PlainItem → Extract
+extract_of k = record { kvno = k.kvno; key = k.key }
+
+-- the keys of the greatest version, for a keytab
+unfoldable pub extracts : PlainPrinc → List Extract
+extracts q = map extract_of (filter (has_kvno (newest_kvno q.keys)) q.keys)
 
 -- the names that a glob matches, all without one
-unfoldable pub listed : Option (List ℕ) → List (List ℕ) → List (List ℕ)
-listed None names = names
-listed (Some glob) names = filter (matches glob) names
+unfoldable pub names_in : Option (List ℕ) → List (List ℕ) → List (List ℕ)
+names_in None names = names
+names_in (Some glob) names = filter (matches glob) names
 
--- the answer to a command that makes no entry; of those that change, modprinc alone may make none, where nothing is there, and
--- that was refused before
-abbrev pub reading : RowLists → Command → Reply
-reading rows (AddPrinc c) = Refused UnknownPrincipal
-reading rows (ModPrinc c) = Refused UnknownPrincipal
-reading rows (DelPrinc name) = Refused UnknownPrincipal
-reading rows (GetPrinc name) = shown (princ_named (printed name) rows)
-reading rows (ListPrincs glob) = Listed (listed glob (princ_names rows))
+abbrev pub policy_shown : Option Rules → Reply
+policy_shown None = reply.Refused UnknownPolicy
+policy_shown (Some p) = reply.PolicyShown p
+
+-- The answer to a command that makes no entry. A command that changes a principal or a policy makes one where that is there, and is
+-- refused before where it is not.
+unfoldable pub reading_of : State → Call → Command → Option PlainPrinc → Reply
+reading_of s call (command.GetPrinc name) (Some q) = reply.Shown (shown_of q)
+reading_of s call (command.GetStrings name) (Some q) = reply.Strings q.strings
+reading_of s call (command.Extract name) (Some q) = reply.Extracted (extracts q)
+reading_of s call (command.ListPrincs glob) found = reply.Listed (names_in glob (princ_names s.princs))
+reading_of s call (command.GetPolicy name) found = policy_shown (policy_named name s.policies)
+reading_of s call command.ListPolicies found = reply.Listed (policy_keys s.policies)
+reading_of s call command.GetPrivs found = reply.Privileges (privileges call)
+reading_of s call command.ListMasters found = reply.MastersListed (master_rows s (secs_of s call))
+reading_of s call command.PurgeMasters found = reply.MastersPurged None (purge_rows s (secs_of s call))
+reading_of s call command.Stash found = reply.Stashed
+reading_of s call _ found = reply.Refused UnknownPrincipal
+
+abbrev pub reading : State → Call → Reply
+reading s call = reading_of s call call.command (target s call.command)
+
+-- the answer to a command that made its entry, at this point
+unfoldable pub change_reply : State → Call → Point → Command → Reply
+change_reply s call point (command.AddMaster etype) = reply.MasterAdded point (next_version s.masters)
+change_reply s call point (command.UseMaster c) = reply.MasterUsed point c.version (use_secs s call c)
+change_reply s call point command.PurgeMasters = reply.MastersPurged (Some point) (purge_rows s (secs_of s call))
+change_reply s call point _ = reply.Done point
 
 -- ---- one command
 
--- the next serial, at the moment of the call
-abbrev pub next_point : State → Call → Point
-next_point s call = record { sno = s.point.sno + 1; time = moment_of s call }
+pub record Outcome : Type 0 where
+  pub state : State
+  pub reply : Reply
 
 -- nothing is changed
 abbrev pub answered : State → Reply → Outcome
 answered s reply = record { state = s; reply = reply }
 
--- the entry takes effect
-abbrev pub committed : State → Call → Op → Outcome
-committed s call op = record {
-  state = record { realm = s.realm; rows = effect (Some op) s.rows; point = next_point s call };
-  reply = Done (next_point s call);
-}
+abbrev pub with_point : Point → State → State
+with_point point s = record s { point = point }
 
-unfoldable pub performed : State → Call → Option Op → Outcome
-performed s call None = answered s (reading s.rows call.command)
+-- the entry takes effect
+abbrev pub committed : State → Call → PlainOp → Outcome
+committed s call op = record { state = with_point (change_point s call) (effect_on op s); reply = change_reply s call (change_point s call) call.command }
+
+unfoldable pub performed : State → Call → Option PlainOp → Outcome
+performed s call None = answered s (reading s call)
 performed s call (Some op) = committed s call op
 
 unfoldable pub unless_refused : State → Call → Option Refusal → Outcome
 unless_refused s call None = performed s call (entry s call)
-unless_refused s call (Some refusal) = answered s (Refused refusal)
+unless_refused s call (Some refusal) = answered s (reply.Refused refusal)
 
 -- what one command does and answers
 unfoldable pub step : State → Call → Outcome

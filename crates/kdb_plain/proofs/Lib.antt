@@ -9,3 +9,11 @@ pub mod StringItems
 pub mod Drawn
 pub mod Named
 pub mod Purged
+pub mod Ranked
+pub mod Kept
+pub mod LatestKept
+pub mod Places
+pub mod MasterSets
+pub mod Spared
+pub mod OwnNames
+pub mod StringsInForm

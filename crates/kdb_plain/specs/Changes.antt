@@ -1,5 +1,7 @@
 -- Changes of a state by one principal or one policy.
 use Rattle.std.specs.Prelude.{ℕ, ◌≡◌, ◌≢◌, List, length}
+use Rattle.kdb_base.specs.declared.versions.Activation.{Activation}
+use Rattle.kdb_base.specs.declared.versions.Master.{Master}
 use Rattle.master_keys.specs.First.{master_name}
 use Rattle.policy_rules.specs.Rules.{Rules}
 use Rattle.princ_rows.specs.Effects.{put_by, drop_by}
@@ -27,6 +29,8 @@ put_policy p s = record s { policies = put_by policy_name p s.policies }
 abbrev pub drop_policy : List ℕ → State → State
 drop_policy name s = record s { policies = drop_by policy_name name s.policies }
 
+-- ---- which changes keep a state valid
+
 -- neither K/M nor kadmin/history, which keep the database's own keys
 pub record IsOrdinary (realm name : List ℕ) : Type 0 where
   pub other_than_master : name ≢ master_name realm
@@ -37,3 +41,32 @@ pub record MayBePut (realm : List ℕ) (q : PlainPrinc) : Type 0 where
   pub other_than_master : q.name ≢ master_name realm
   pub one_history_key : q.name ≡ history_name realm → length q.keys ≡ 1
   pub falling : NeverRise q.keys
+
+-- ---- what a command changes
+
+pub data PlainOp : Type 0 where
+  PutPrinc : PlainPrinc → PlainOp
+  DropPrinc : List ℕ → PlainOp
+  -- the principal of this name goes, and the other stands in its place
+  Rename : List ℕ → PlainPrinc → PlainOp
+  PutPolicy : Rules → PlainOp
+  DropPolicy : List ℕ → PlainOp
+  -- K/M, the master keys that it keeps, and their activations
+  PutMasters : PlainPrinc → List Master → List Activation → PlainOp
+
+unfoldable pub effect_on : PlainOp → State → State
+effect_on (PutPrinc q) s = put_princ q s
+effect_on (DropPrinc name) s = drop_princ name s
+effect_on (Rename old q) s = put_princ q (drop_princ old s)
+effect_on (PutPolicy p) s = put_policy p s
+effect_on (DropPolicy name) s = drop_policy name s
+effect_on (PutMasters q masters activations) s = put_princ q (record s { masters = masters; activations = activations })
+
+-- the change is of a principal other than K/M and kadmin/history, or of a policy
+abbrev pub Spares : List ℕ → PlainOp → Type 0
+Spares realm (PutPrinc q) = IsOrdinary realm q.name
+Spares realm (DropPrinc name) = IsOrdinary realm name
+Spares realm (Rename old q) = IsOrdinary realm old × IsOrdinary realm q.name
+Spares realm (PutPolicy p) = Unit {0}
+Spares realm (DropPolicy name) = Unit {0}
+Spares realm (PutMasters q masters activations) = ⊥

@@ -1,8 +1,9 @@
 -- The keys that commands make, keep and remember.
-use Rattle.std.specs.Prelude.{ℕ, ◌+◌, ◌-◌, ◌≤◌, Bool, true, false, ◌&&◌, nat_eq, List, [], ◌∷◌, ◌++◌, map, filter, take, drop}
+use Rattle.std.specs.Prelude.{ℕ, ◌+◌, ◌-◌, ◌≤◌, Bool, true, false, ◌&&◌, nat_eq, nat_le, List, [], ◌∷◌, ◌++◌, map, filter, take, drop, Option, unwrap_or, if◌then◌else◌}
 use Rattle.std.specs.List.{count_by, flat_map, sum_by}
 use Rattle.kdb_base.specs.Etypes.{key_len, number_of, product_rounds}
 use Rattle.kdb_base.specs.Key.{Key}
+use Rattle.kdb_base.specs.declared.extracts.Extract.{Extract}
 use Rattle.kdb_base.specs.declared.keys.Etype.{Etype}
 use Rattle.kdb_base.specs.declared.keys.Salt.{Salt}
 use Rattle.kdb_base.specs.declared.keys.Salt.TheVariants.{Normal, Special}
@@ -27,6 +28,30 @@ has_kvno kvno k = nat_eq k.kvno kvno
 -- the keys of the greatest version
 unfoldable pub newest_keys : List PlainItem → List Key
 newest_keys keys = map (λ k. k.key) (filter (has_kvno (newest_kvno keys)) keys)
+
+-- the keys of the greatest version, with that version, as they are handed out
+abbrev pub extract_of : PlainItem → Extract
+extract_of k = record { kvno = k.kvno; key = k.key }
+
+unfoldable pub extracts : List PlainItem → List Extract
+extracts keys = map extract_of (filter (has_kvno (newest_kvno keys)) keys)
+
+-- ---- keys that stay
+
+-- the old keys that stand behind new ones, where they are kept
+abbrev pub kept_keys : Bool → List PlainItem → List PlainItem
+kept_keys keep keys = if keep then keys else []
+
+-- the version from which on keys stay: the one that is named, or the greatest
+abbrev pub least_kvno : Option ℕ → List PlainItem → ℕ
+least_kvno named keys = unwrap_or named (newest_kvno keys)
+
+abbrev pub is_from : ℕ → PlainItem → Bool
+is_from kvno k = nat_le kvno k.kvno
+
+-- the keys of this version and of later ones
+unfoldable pub keys_from : ℕ → List PlainItem → List PlainItem
+keys_from kvno keys = filter (is_from kvno) keys
 
 -- ---- new keys
 
@@ -108,3 +133,10 @@ is_reused fresh keys old = is_among_keys fresh (newest_keys keys) (old_keys old)
 abbrev pub settled_salt : NameParts → Salt → Salt
 settled_salt name Normal = Special (normal_salt name)
 settled_salt name (Special bytes) = Special bytes
+
+abbrev pub settled_item : NameParts → PlainItem → PlainItem
+settled_item name k = record k { salt = settled_salt name k.salt }
+
+-- the keys of a principal that had this name, under another name
+unfoldable pub settled_items : NameParts → List PlainItem → List PlainItem
+settled_items name keys = map (settled_item name) keys

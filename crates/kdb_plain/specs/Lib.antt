@@ -3,6 +3,7 @@ pub mod Heads
 pub mod Keys
 pub mod Lengths
 pub mod Lists
+pub mod MasterChanges
 pub mod States
 pub mod Strings
 pub mod Versions

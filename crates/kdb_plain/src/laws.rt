@@ -1,6 +1,6 @@
 //! Laws of plain states. They do no work.
 
-ghost use Rattle.std.specs.Prelude.{◌≡◌, ◌≢◌, ◌+◌, ◌≤◌, ◌↔◌, ℕ, List, Some, None, true, length, map};
+ghost use Rattle.std.specs.Prelude.{◌≡◌, ◌≢◌, ◌+◌, ◌≤◌, ◌↔◌, ℕ, List, [], ◌∷◌, Some, None, true, IsTrue, codes, length, map};
 ghost use Rattle.std.specs.List.{sum_by};
 ghost use Rattle.kdb_base.specs.Limits.{most_rows};
 ghost use Rattle.kdb_base.specs.Moment.{Moment};
@@ -8,16 +8,24 @@ ghost use Rattle.kdb_base.specs.Versions.{AreRising};
 ghost use Rattle.kdb_base.specs.declared.keys.Etype.{Etype};
 ghost use Rattle.kdb_base.specs.declared.moments.Point.{Point};
 ghost use Rattle.kdb_base.specs.declared.versions.Master.{Master};
+ghost use Rattle.master_keys.specs.First.{master_name};
 ghost use Rattle.master_keys.specs.Purging.{live_masters};
 ghost use Rattle.master_keys.specs.Versions.{last_version};
 ghost use Rattle.policy_rules.specs.Rules.{Rules};
+ghost use Rattle.princ_name.specs.Names.{printed};
+ghost use Rattle.princ_name.specs.RealmNames.{name_in};
+ghost use Rattle.princ_name.specs.Realms.{IsRealm};
 ghost use Rattle.princ_record.specs.Policies.{IsPolicy};
+ghost use Rattle.princ_name.specs.Printed.{IsPrinted};
 ghost use Rattle.kdb_plain.specs.Changes.{IsOrdinary, MayBePut, drop_policy, drop_princ, put_policy, put_princ};
 ghost use Rattle.kdb_plain.specs.Keys.{AreOnce, drawn_len};
-ghost use Rattle.kdb_plain.specs.States.{HasItsPolicy, IsListed, IsValid, policy_named, princ_named, users_of};
+ghost use Rattle.kdb_plain.specs.States.{HasItsPolicy, IsListed, IsValid, history_name, policy_named, princ_named, users_of};
+ghost use Rattle.kdb_plain.specs.Strings.{has_room_for, with_string, without_string};
 ghost use Rattle.kdb_plain.specs.Versions.{HasCause, dead_versions, serves, serving_masters};
 ghost use Rattle.kdb_plain.specs.declared.princs.PlainPrinc.{PlainPrinc};
 ghost use Rattle.kdb_plain.specs.declared.states.State.{State};
+ghost use Rattle.tagged_data.specs.Strings.{AreStrings, is_string_key, is_string_value};
+ghost use Rattle.tagged_data.specs.declared.string_attributes.StringAttribute.{StringAttribute};
 
 use key_activation::laws::some_version_stays_active;
 
@@ -67,4 +75,18 @@ pub fn serving_versions_stay()
 /// Random keys of distinct encryption types want at most 160 bytes of a random block, each with the 16 behind it.
 pub fn distinct_types_want_little()
     ensures { (etypes : List Etype) → AreOnce etypes → sum_by drawn_len etypes ≤ 160 }
+{}
+
+/// The names of the principals that hold the database's own keys are the printed forms of K/M and of kadmin/history
+/// in the realm.
+pub fn own_names_are_printed()
+    ensures master { (realm : List ℕ) → IsRealm realm → master_name realm ≡ printed (name_in (codes "K" ∷ codes "M" ∷ []) realm) }
+    ensures history { (realm : List ℕ) → IsRealm realm → history_name realm ≡ printed (name_in (codes "kadmin" ∷ codes "history" ∷ []) realm) }
+    ensures history_fits { (realm : List ℕ) → IsRealm realm → IsPrinted (history_name realm) }
+{}
+
+/// Attributes that a principal may have stay so with one more where there is room for it, and without one.
+pub fn strings_stay_in_form()
+    ensures set { (key value : List ℕ) (strings : List StringAttribute) → AreStrings strings → IsTrue (is_string_key key) → IsTrue (is_string_value value) → has_room_for key strings ≡ true → AreStrings (with_string key value strings) }
+    ensures taken { (key : List ℕ) (strings : List StringAttribute) → AreStrings strings → AreStrings (without_string key strings) }
 {}

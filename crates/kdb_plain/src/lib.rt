@@ -10,6 +10,7 @@ pub mod laws;
 mod lengths;
 mod lists;
 mod lookups;
+pub mod master_laws;
 pub mod new_keys;
 pub mod princs;
 mod remembering;
@@ -23,8 +24,8 @@ pub use items::{PlainItem, PlainItems, PlainKeys, PlainSet, PlainSets};
 pub use lengths::{chain_len, row_len};
 pub use lists::{PlainPrincs, PolicyList};
 pub use lookups::{
-    first_key, has_policy, history_key, history_name, master_of, policy_named, princ_named,
-    users_of,
+    first_key, has_policy, history_key, history_name, is_history_name, is_master_name, master_name,
+    master_of, policy_named, princ_named, users_of,
 };
 pub use new_keys::{
     Etypes, NewKeys, items_of, made_keys, normal_salt, password_keys, random_keys, settled_salt,

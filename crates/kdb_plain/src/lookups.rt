@@ -1,7 +1,9 @@
 //! What is found in a state by name and by version.
 
 ghost use Rattle.std.specs.Prelude.{◌≡◌, ◌≤◌, IfOk, find, option_map};
+ghost use Rattle.std.specs.Str.{bytes_eq};
 ghost use Rattle.kdb_base.specs.Limits.{most_rows};
+ghost use Rattle.master_keys.specs.First.{master_name};
 ghost use Rattle.kdb_plain.specs.States.{first_key, has_policy, history_key, history_name, is_version, master_of, policy_named, princ_named, users_of, uses};
 
 use crate::items::PlainItem;
@@ -86,6 +88,44 @@ pub fn first_key(keys: &[PlainItem]) -> Option<PlainKey>
         [] => None,
         [first, ..] => Some(first.key),
     }
+}
+
+/// Whether the printed name is that of K/M, whose keys are the master keys, in a database of this realm.
+#[tactic(auto, unfolding(master_keys::specs::First::master_name))]
+pub fn is_master_name(realm: &[u8], name: &[u8]) -> bool
+    ensures { result ≡ bytes_eq name.now (master_name realm.now) }
+{
+    match name.strip_prefix(b"K/M@") {
+        Some(rest) => rest == realm,
+        None => false,
+    }
+}
+
+/// Whether the printed name is that of kadmin/history, whose key protects remembered keys, in a database of this
+/// realm.
+#[tactic(auto, unfolding(crate::specs::States::history_name))]
+pub fn is_history_name(realm: &[u8], name: &[u8]) -> bool
+    ensures { result ≡ bytes_eq name.now (history_name realm.now) }
+{
+    match name.strip_prefix(b"kadmin/history@") {
+        Some(rest) => rest == realm,
+        None => false,
+    }
+}
+
+/// The printed name of K/M in a database of this realm.
+///
+/// # Errors
+///
+/// `MemoryOut` where memory is wanted and not given.
+#[tactic(auto, unfolding(master_keys::specs::First::master_name))]
+pub fn master_name(alloc: Global, realm: &[u8]) -> Result<Blob, MemoryOut>
+    ensures { IfOk result (λ name. name ≡ master_name realm.now) }
+{
+    let mut name = Vec::new(alloc);
+    name.extend_from_slice(b"K/M@")?;
+    name.extend_from_slice(realm)?;
+    Ok(Blob::from_vec(name))
 }
 
 /// The printed name of the principal whose key protects remembered keys, in a database of this realm.

@@ -1,13 +1,12 @@
 //! Which versions of the master key serve, so that they may not be purged.
 
 ghost use Rattle.std.specs.Prelude.{◌≡◌, ◌≤◌, IfOk, nat_eq, option_map};
-ghost use Rattle.std.specs.Str.{bytes_eq};
 ghost use Rattle.kdb_base.specs.Limits.{most_rows};
-ghost use Rattle.master_keys.specs.First.{master_name};
 ghost use Rattle.master_keys.specs.Versions.{last_version};
 ghost use Rattle.kdb_plain.specs.Versions.{cause_from, cause_of, dead_versions, is_active_at, is_pending, is_under, protected_by, serves, serving_masters};
 
 use crate::lists::PlainPrincs;
+use crate::lookups::is_master_name;
 use crate::princs::PlainPrinc;
 use crate::states::State;
 use kdb_base::{Activations, Masters, MemoryOut};
@@ -25,17 +24,6 @@ pub enum Cause {
     Newest,
     /// It has an activation that is yet to come.
     Pending,
-}
-
-/// Whether the printed name is that of K/M, whose keys are the master keys, in a database of this realm.
-#[tactic(auto, unfolding(master_keys::specs::First::master_name))]
-fn is_master_name(realm: &[u8], name: &[u8]) -> bool
-    ensures { result ≡ bytes_eq name.now (master_name realm.now) }
-{
-    match name.strip_prefix(b"K/M@") {
-        Some(rest) => rest == realm,
-        None => false,
-    }
 }
 
 fn is_under(realm: &[u8], version: u16, princ: &PlainPrinc) -> bool

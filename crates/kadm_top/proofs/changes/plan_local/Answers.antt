@@ -1,7 +1,7 @@
 use Rattle.std.proofs.Common.{◌∙◌, sym, ap, refl}
 use Rattle.kdb_base.specs.Moment.{Moment}
-use Rattle.kdb_model.specs.Calls.{before_end_of}
-use Rattle.kdb_model.specs.Plans.{IsGiven}
+use Rattle.keyless_model.specs.Calls.{before_end_of}
+use Rattle.keyless_model.specs.Plans.{IsGiven}
 use Rattle.kdb_store.specs.Places.{place_of}
 use Rattle.kadm_top.specs.Steps.{call_of, local_client, state_of}
 use Rattle.kadm_top.proofs.Performing.{answered_step, changed_step, given, new_name, refused_step}

@@ -5,12 +5,12 @@ use Rattle.std.proofs.lemmas.Option.{same_Some}
 use Rattle.kdb_base.specs.Moment.{Moment}
 use Rattle.kdb_base.specs.declared.outcomes.Refusal.{Refusal}
 use Rattle.princ_entries.specs.declared.entries.Op.{Op}
-use Rattle.kdb_model.specs.Calls.{Call}
-use Rattle.kdb_model.specs.Changes.{entry}
-use Rattle.kdb_model.specs.Refusals.{refusal}
-use Rattle.kdb_model.specs.Steps.{performed, step, unless_refused}
-use Rattle.kdb_model.specs.declared.replies.Reply.TheVariants as reply
-use Rattle.kdb_model.specs.declared.states.State.{State}
+use Rattle.keyless_model.specs.Calls.{Call}
+use Rattle.keyless_model.specs.Changes.{entry}
+use Rattle.keyless_model.specs.Refusals.{refusal}
+use Rattle.keyless_model.specs.Steps.{performed, step, unless_refused}
+use Rattle.keyless_model.specs.declared.replies.Reply.TheVariants as reply
+use Rattle.keyless_model.specs.declared.states.State.{State}
 use Rattle.kdb_store.specs.Places.{Place}
 use Rattle.kadm_top.specs.Steps.{call_of, outcome, place_after, place_at, reply_to, state_of}
 use Rattle.kadm_top.specs.declared.intake.Asked.{Asked}

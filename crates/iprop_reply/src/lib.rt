@@ -1,0 +1,8 @@
+//! What a poll of incremental propagation is told.
+#![tactic(auto)]
+
+pub mod status;
+#[cfg(test)]
+mod tests;
+
+pub use status::{Status4, sno_status};

@@ -1,0 +1,13 @@
+pub mod PrintedPairs
+pub mod Finds
+pub mod Listings
+pub mod Attributes
+pub mod Fits
+pub mod Rooms
+pub mod Planning
+pub mod Ends
+pub mod Given
+pub mod Stepping
+pub mod Accepted
+pub mod Valid
+pub mod Folds
