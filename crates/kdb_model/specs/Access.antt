@@ -27,15 +27,31 @@ asking_alone letter = record { letter = letter; target = None; plainly = false }
 
 -- ---- the letters of operations
 
-abbrev pub adding changing deleting extracting inquiring listing modifying propagating setting : ℕ
+abbrev pub adding : ℕ
 adding = 97
+
+abbrev pub changing : ℕ
 changing = 99
+
+abbrev pub deleting : ℕ
 deleting = 100
+
+abbrev pub extracting : ℕ
 extracting = 101
+
+abbrev pub inquiring : ℕ
 inquiring = 105
+
+abbrev pub listing : ℕ
 listing = 108
+
+abbrev pub modifying : ℕ
 modifying = 109
+
+abbrev pub propagating : ℕ
 propagating = 112
+
+abbrev pub setting : ℕ
 setting = 115
 
 -- the principal whose keys are the master keys
