@@ -1,6 +1,7 @@
 -- How the lines of an input follow from those of its end.
 use Rattle.std.proofs.Common.{◌≡◌, ℕ, ◌<◌, ◌≤◌, ◌==◌, Bool, true, false, if◌then◌else◌, List, [], ◌∷◌, ◌++◌, length, map, Some, None, refl, ap, ◌∙◌, length-append, arith}
 use Rattle.std.proofs.lemmas.Bool.{lt-ltb, le-ltb}
+use Rattle.kdb_base.specs.Limits.{longest_line}
 use Rattle.kadm_lines.specs.Windows.{lacks_feed}
 use Rattle.kadm_lines.specs.Steps.{line_seen}
 use Rattle.kadm_lines.specs.Lines.{Line, onto_first, lines_of, seen, seen_lines, long_first, lines_from}
@@ -61,31 +62,31 @@ unfolding lines_from seen_lines
 from-skipped [] rest clear = refl
 from-skipped (b ∷ xs) rest clear = ap (λ t. long_first (map seen t)) (lines-clear b xs rest clear) ∙ skipped-joined (b ∷ xs) (lines_of rest)
 
-pub seen-long : (xs : List ℕ) (ended : Bool) → 65536 < length xs → seen (record { bytes = xs; ended = ended }) ≡ record { text = None; ended = ended }
+pub seen-long : (xs : List ℕ) (ended : Bool) → longest_line < length xs → seen (record { bytes = xs; ended = ended }) ≡ record { text = None; ended = ended }
 unfolding seen
-seen-long xs ended long = rw (lt-ltb 65536 (length xs) long)
+seen-long xs ended long = rw (lt-ltb longest_line (length xs) long)
 
-pub seen-short : (xs : List ℕ) (ended : Bool) → length xs ≤ 65536 → seen (record { bytes = xs; ended = ended }) ≡ record { text = Some xs; ended = ended }
+pub seen-short : (xs : List ℕ) (ended : Bool) → length xs ≤ longest_line → seen (record { bytes = xs; ended = ended }) ≡ record { text = Some xs; ended = ended }
 unfolding seen
-seen-short xs ended short = rw (le-ltb 65536 (length xs) short)
+seen-short xs ended short = rw (le-ltb longest_line (length xs) short)
 
-long-joined : (xs : List ℕ) (lines : List Line) → 65536 < length xs → map seen (joined xs lines) ≡ long_first (map seen lines)
+long-joined : (xs : List ℕ) (lines : List Line) → longest_line < length xs → map seen (joined xs lines) ≡ long_first (map seen lines)
 unfolding long_first seen joined
 long-joined xs [] long = ap (λ s. s ∷ []) (seen-long xs false long)
 long-joined xs (line ∷ lines) long = ap (λ s. s ∷ map seen lines) (seen-long (xs ++ line.bytes) line.ended (omega (arith, length-append xs line.bytes)))
 
 -- so many bytes without a line feed are the front of a line that is too long
-pub from-long : (xs rest : List ℕ) → lacks_feed xs ≡ true → 65536 < length xs → lines_from false (xs ++ rest) ≡ lines_from true rest
+pub from-long : (xs rest : List ℕ) → lacks_feed xs ≡ true → longest_line < length xs → lines_from false (xs ++ rest) ≡ lines_from true rest
 unfolding lines_from seen_lines
 from-long [] rest clear long = absurd (omega arith)
 from-long (b ∷ xs) rest clear long = ap (λ t. map seen t) (lines-clear b xs rest clear) ∙ long-joined (b ∷ xs) (lines_of rest) long
 
-last-joined : (xs : List ℕ) → length xs ≤ 65536 → map seen (joined xs (lines_of [])) ≡ record { text = Some xs; ended = false } ∷ map seen (lines_of [])
+last-joined : (xs : List ℕ) → length xs ≤ longest_line → map seen (joined xs (lines_of [])) ≡ record { text = Some xs; ended = false } ∷ map seen (lines_of [])
 unfolding joined lines_of
 last-joined xs short = ap (λ s. s ∷ []) (seen-short xs false short)
 
 -- a last line that no line feed ends
-pub from-last : (xs : List ℕ) → lacks_feed xs ≡ true → 0 < length xs → length xs ≤ 65536
+pub from-last : (xs : List ℕ) → lacks_feed xs ≡ true → 0 < length xs → length xs ≤ longest_line
     → lines_from false (xs ++ []) ≡ record { text = Some xs; ended = false } ∷ lines_from false []
 unfolding lines_from seen_lines
 from-last [] clear least short = absurd (omega arith)

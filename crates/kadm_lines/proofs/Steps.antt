@@ -1,5 +1,6 @@
 -- What a step of a reader says of the lines that come.
 use Rattle.std.proofs.Common.{◌≡◌, ℕ, ◌<◌, ◌≤◌, Bool, true, false, IsTrue, List, [], ◌∷◌, ◌++◌, length, Option, Some, None, option_map, refl, sym, ap, ◌∙◌, append_assoc, ◌⊎◌, inl, inr}
+use Rattle.kdb_base.specs.Limits.{longest_line}
 use Rattle.kdb_ports.specs.Told.{before_told, IsSpent}
 use Rattle.kadm_lines.specs.Lines.{Seen, lines_from, seen_lines}
 use Rattle.kadm_lines.specs.Windows.{lacks_feed, Parts}
@@ -43,14 +44,14 @@ same-lines old new same over None = refl
 same-lines old new same over (Some rest) =
     ap (λ t. Some t) (ap (λ o. lines_from new.skipping (new.pending ++ unread o rest)) over ∙ same (unread old.over rest))
 
-skipped-front : (skipping : Bool) (xs rest : List ℕ) → lacks_feed xs ≡ true → (skipping ≡ true) ⊎ (65536 < length xs)
+skipped-front : (skipping : Bool) (xs rest : List ℕ) → lacks_feed xs ≡ true → (skipping ≡ true) ⊎ (longest_line < length xs)
     → lines_from true rest ≡ lines_from skipping (xs ++ rest)
 skipped-front true xs rest clear why = sym (from-skipped xs rest clear)
 skipped-front false xs rest clear (inl is) = cc
 skipped-front false xs rest clear (inr long) = sym (from-long xs rest clear long)
 
 -- bytes that belong to a line that is too long
-pub keeps-given-up : (old new : ReaderState) → lacks_feed old.pending ≡ true → (old.skipping ≡ true) ⊎ (65536 < length old.pending)
+pub keeps-given-up : (old new : ReaderState) → lacks_feed old.pending ≡ true → (old.skipping ≡ true) ⊎ (longest_line < length old.pending)
     → new.skipping ≡ true → new.pending ≡ [] → new.over ≡ old.over → Keeps old new
 keeps-given-up old new clear why within none over = record {
   at = same-lines old new (λ rest.
@@ -96,7 +97,7 @@ gives-long old new was none is none' over over' =
     ∙ ap (λ t. record { text = None; ended = false } ∷ lines_from new.skipping (t ++ [])) (sym none')) over over')
 
 -- a last line that no line feed ended
-pub gives-last : (old new : ReaderState) → old.skipping ≡ false → lacks_feed old.pending ≡ true → 0 < length old.pending → length old.pending ≤ 65536
+pub gives-last : (old new : ReaderState) → old.skipping ≡ false → lacks_feed old.pending ≡ true → 0 < length old.pending → length old.pending ≤ longest_line
     → new.text ≡ old.pending → new.skipping ≡ false → new.pending ≡ [] → old.over ≡ true → new.over ≡ true → Gives (answer.Line false) old new
 gives-last old new was clear least short text is none over over' =
     answered (answer.Line false) old new (record { text = Some new.text; ended = false }) (is-line new.text false) (line-over old new _
@@ -136,12 +137,12 @@ keeps-read old new piece before (Some rest) told pending skipping going spent =
     ∙ sym (ap (λ t. to_come old t) told)
 
 -- the answer to a line that is cut off
-pub answers-line : (text : List ℕ) (skipping : Bool) → skipping ≡ false → length text ≤ 65536
+pub answers-line : (text : List ℕ) (skipping : Bool) → skipping ≡ false → length text ≤ longest_line
     → Answers (answer.Line true) text (line_seen skipping (record { bytes = text; ended = true }))
 unfolding Answers
 answers-line text skipping is short = ap (λ s. line_seen s (record { bytes = text; ended = true })) is ∙ seen-short text true short
 
-pub answers-long : (text given : List ℕ) (skipping : Bool) → (skipping ≡ true) ⊎ (65536 < length text)
+pub answers-long : (text given : List ℕ) (skipping : Bool) → (skipping ≡ true) ⊎ (longest_line < length text)
     → Answers (TooLong true) given (line_seen skipping (record { bytes = text; ended = true }))
 unfolding Answers
 answers-long text given true why = refl

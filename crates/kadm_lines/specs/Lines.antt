@@ -1,5 +1,6 @@
 -- The lines of an input, and what a reader with a bounded memory sees of them.
 use Rattle.std.specs.Prelude.{ℕ, ◌==◌, Bool, true, false, List, [], ◌∷◌, Option, Some, None, length, map, nat_lt, if◌then◌else◌}
+use Rattle.kdb_base.specs.Limits.{longest_line}
 
 -- a line: its bytes before the line feed or the end, and whether a line feed ended it
 pub record Line : Type 0 where
@@ -25,7 +26,7 @@ pub record Seen : Type 0 where
 
 unfoldable pub seen : Line → Seen
 seen line = record {
-  text = (if nat_lt 65536 (length line.bytes) then None else Some line.bytes);
+  text = (if nat_lt longest_line (length line.bytes) then None else Some line.bytes);
   ended = line.ended;
 }
 

@@ -1,5 +1,6 @@
 -- What a step of a reader does to the lines that come.
 use Rattle.std.specs.Prelude.{ℕ, ◌≡◌, ◌≤◌, Bool, true, List, [], Option, Some, None, length, IsTrue, if◌then◌else◌}
+use Rattle.kdb_base.specs.Limits.{longest_line}
 use Rattle.kadm_lines.specs.Lines.{Line, Seen, seen}
 use Rattle.kadm_lines.specs.Windows.{lacks_feed}
 use Rattle.kadm_lines.specs.Reader.{ReaderState, Advances, to_come}
@@ -19,7 +20,7 @@ pub record Keeps (old new : ReaderState) : Type 0 where
 pub record Waits (s : ReaderState) : Type 0 where
   pub no_text : s.text ≡ []
   pub lacks : lacks_feed s.pending ≡ true
-  pub short : length s.pending ≤ 65536
+  pub short : length s.pending ≤ longest_line
   pub skips : IsTrue s.skipping → s.pending ≡ []
 
 -- what is seen of a line, or of the rest of one that is too long

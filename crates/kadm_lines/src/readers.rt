@@ -1,12 +1,14 @@
 ghost use Rattle.std.specs.Prelude.{◌≡◌, ◌≢◌, ◌+◌, ◌-◌, ◌*◌, ◌<◌, ◌≤◌, [], true, false, None, length, option_map, IfOk, IfSome, OnErr, OnOk, IsTrue};
+ghost use Rattle.kdb_base.specs.Limits.{longest_line};
 ghost use Rattle.kdb_base.specs.Causes.{Rose};
 ghost use Rattle.kdb_ports.specs.Told.{IsSpent};
 ghost use Rattle.kadm_lines.specs.Reader.{Advances, IsDone, to_come, is_last, has_text, turns_left, work_left};
 ghost use Rattle.kadm_lines.specs.Steps.{Answers, Gives, Keeps, Waits, line_seen};
 ghost use Rattle.kadm_lines.specs.Windows.{lacks_feed};
 
-use crate::windows::{LONGEST, Window};
+use crate::windows::Window;
 use kdb_base::MemoryOut;
+use kdb_base::limits::MAX_LINE_LEN;
 use kdb_ports::Source;
 use std::alloc::Global;
 use std::marker::Model;
@@ -82,7 +84,7 @@ impl LineReader {
     /// Answers the line whose bytes were cut off as the text.
     fn judge(&mut self) -> NextLine
         ensures line { Answers result self.new.text (line_seen self.old.skipping (record { bytes = self.old.text; ended = true })) }
-        ensures short { length self.new.text ≤ 65536 }
+        ensures short { length self.new.text ≤ longest_line }
         ensures no_text { has_text result ≡ false → self.new.text ≡ [] }
         ensures more { is_last result ≡ false }
         ensures within { self.new.skipping ≡ false }
@@ -90,7 +92,7 @@ impl LineReader {
         ensures over { self.new.over ≡ self.old.over }
         ensures taken { self.new.taken ≡ self.old.taken }
     {
-        if self.skipping || self.window.text_len() > LONGEST {
+        if self.skipping || self.window.text_len() > MAX_LINE_LEN {
             self.skipping = false;
             self.window.forget_text();
             return NextLine::TooLong { ended: true };
@@ -108,7 +110,7 @@ impl LineReader {
         ensures taken { self.new.taken ≡ self.old.taken }
         ensures work { work_left self.new ≤ work_left self.old }
     {
-        if self.skipping || self.window.pending_len() > LONGEST {
+        if self.skipping || self.window.pending_len() > MAX_LINE_LEN {
             self.skipping = true;
             self.window.discard();
         }
@@ -117,7 +119,7 @@ impl LineReader {
     /// Takes the next line out of what is pending, where a line feed ends one there.
     fn take_held(&mut self) -> Option<NextLine>
         ensures next { IfSome result (λ n. Gives n self.old self.new) }
-        ensures short { length self.new.text ≤ 65536 }
+        ensures short { length self.new.text ≤ longest_line }
         ensures no_text { IfSome result (λ n. has_text n ≡ false → self.new.text ≡ []) }
         ensures more { IfSome result (λ n. is_last n ≡ false) }
         ensures falls { IfSome result (λ n. work_left self.new < work_left self.old) }
@@ -141,7 +143,7 @@ impl LineReader {
         requires waits { Waits self.old }
         requires over { IsTrue self.old.over }
         ensures next { Gives result self.old self.new }
-        ensures short { length self.new.text ≤ 65536 }
+        ensures short { length self.new.text ≤ longest_line }
         ensures no_text { has_text result ≡ false → self.new.text ≡ [] }
         ensures falls { result ≢ NextLine.End → work_left self.new < work_left self.old }
         ensures done { IsDone self.new }
@@ -196,7 +198,7 @@ impl LineReader {
     pub fn advance<S: Source>(&mut self, source: &mut S) -> Result<NextLine, IntakeFault>
         ensures next { IfOk result (λ n. Advances n self.new.text (to_come self.old (S.left source.old)) (to_come self.new (S.left source.new))) }
         ensures kept { OnErr result (to_come self.new (S.left source.new) ≡ to_come self.old (S.left source.old)) }
-        ensures short { length self.new.text ≤ 65536 }
+        ensures short { length self.new.text ≤ longest_line }
         ensures no_text { IfOk result (λ n. has_text n ≡ false → self.new.text ≡ []) }
         ensures err_text { OnErr result (self.new.text ≡ []) }
         ensures done { IfOk result (λ n. is_last n ≡ true → IsDone self.new) }

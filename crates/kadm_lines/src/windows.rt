@@ -1,19 +1,18 @@
 ghost use Rattle.std.specs.Prelude.{◌≡◌, ◌+◌, ◌-◌, ◌<◌, ◌≤◌, [], true, false, None, length, take, drop, slice_range, IfOk, IfSome, OnErr, OnOk, IsTrue};
+ghost use Rattle.kdb_base.specs.Limits.{longest_line};
 ghost use Rattle.kdb_base.specs.Causes.{HasCause};
 ghost use Rattle.kdb_ports.specs.Told.{before_told, IsSpent};
 ghost use Rattle.kadm_lines.specs.Windows.{Parts, lacks_feed};
 
 use kdb_base::MemoryOut;
+use kdb_base::limits::MAX_LINE_LEN;
 use kdb_ports::{ReadFailed, Source};
 use memchr::memchr;
 use std::alloc::Global;
 use std::marker::Model;
 
-/// The longest line, in bytes, whose text is given.
-pub const LONGEST: usize = 65536;
-
 /// How many bytes a window holds.
-const ROOM: usize = 131072;
+const ROOM: usize = 2 * MAX_LINE_LEN;
 
 /// So many bytes.
 fn blank(alloc: Global, size: usize) -> Result<Vec<u8>, MemoryOut>
@@ -181,14 +180,14 @@ impl Window {
     /// Makes room for a read. What is pending is moved only where as many bytes lie in front of it, so
     /// no more bytes are moved than were taken.
     fn make_room(&mut self)
-        requires { length self.old.pending ≤ 65536 }
+        requires { length self.old.pending ≤ longest_line }
         ensures text { self.new.text ≡ [] }
         ensures pending { self.new.pending ≡ self.old.pending }
         ensures room { 0 < self.new.room }
     {
         self.text = 0;
         self.text_end = 0;
-        if self.start >= LONGEST {
+        if self.start >= MAX_LINE_LEN {
             move_front(&mut self.bytes, self.start, self.end);
             self.end -= self.start;
             self.clear -= self.start;
@@ -198,7 +197,7 @@ impl Window {
 
     /// Reads behind what is pending, at most so many bytes.
     pub fn read<S: Source>(&mut self, source: &mut S, limit: usize) -> Result<usize, ReadFailed>
-        requires short { length self.old.pending ≤ 65536 }
+        requires short { length self.old.pending ≤ longest_line }
         requires limit { 0 < limit }
         ensures text { self.new.text ≡ [] }
         ensures bound { IfOk result (λ n. n ≤ limit) }

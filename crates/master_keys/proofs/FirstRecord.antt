@@ -1,8 +1,7 @@
 -- The first record is a chain, and it has a spelling.
-use Rattle.std.proofs.Common.{◌≡◌, ℕ, ◌^◌, ◌<◌, ◌≤◌, List, [], ◌∷◌, length, true, refl, sym, ap, arith, length-append}
+use Rattle.std.proofs.Common.{◌≡◌, ℕ, ◌^◌, ◌<◌, List, [], ◌∷◌, true, refl, sym, arith}
 use Rattle.std.proofs.lemmas.List.Elements.{All-nil, All-cons}
 use Rattle.kdb_base.specs.Key.{Key}
-use Rattle.kdb_base.specs.declared.keys.Etype.{Etype}
 use Rattle.kdb_base.specs.declared.keys.Salt.TheVariants.{Normal}
 use Rattle.tagged_data.specs.Numbers.{IsVersion}
 use Rattle.tagged_data.specs.StringLaws.{no_strings}

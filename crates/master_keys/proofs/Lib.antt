@@ -11,3 +11,4 @@ pub mod Spelled
 pub mod PurgedSpelled
 pub mod AddedSpelled
 pub mod OneKey
+pub mod NewActivations

@@ -1,5 +1,5 @@
 -- A blob holds one key.
-use Rattle.std.proofs.Common.{◌≡◌, ℕ, List, ◌++◌, length, sym, ap, subst, ◌∙◌}
+use Rattle.std.proofs.Common.{◌≡◌, ℕ, List, length, sym, ap, subst, ◌∙◌}
 use Rattle.std.proofs.lemmas.List.{append_cancel_left}
 use Rattle.aes_cts.specs.BlockKeys.{AreBytes}
 use Rattle.kdb_base.specs.Etypes.{key_len}

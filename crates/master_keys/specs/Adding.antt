@@ -1,8 +1,10 @@
 -- A new newest master key, as MIT's kdb5_util add_mkey makes it: the record has it first, wrapped under itself, and each older key
 -- wrapped anew under it, and its auxiliary list has it under each of the older ones.
-use Rattle.std.specs.Prelude.{ℕ, ◌+◌, List, [], ◌∷◌, ◌++◌, length, map, option_map, reverse}
+use Rattle.std.specs.Prelude.{◌≢◌, ℕ, ◌+◌, List, [], ◌∷◌, ◌++◌, length, map, Option, Some, None, option_map, reverse}
+use Rattle.std.specs.List.{All, Contains}
 use Rattle.kdb_base.specs.Key.{Key}
 use Rattle.kdb_base.specs.declared.keys.Salt.TheVariants.{Normal}
+use Rattle.kdb_base.specs.declared.versions.Activation.{Activation}
 use Rattle.kdb_base.specs.declared.versions.AuxKey.{AuxKey}
 use Rattle.kdb_base.specs.declared.versions.Master.{Master}
 use Rattle.princ_record.specs.declared.facts.ChainPart.{ChainPart}
@@ -51,3 +53,18 @@ added_record entry masters key random = record entry {
 -- the master keys with the new one behind them
 unfoldable pub added_masters : List Master → Key → List Master
 added_masters masters key = masters ++ record { version = next_version masters; key = key } ∷ []
+
+-- ---- activations
+
+-- from when on versions may be active; none where nothing stands at K/M alone
+abbrev pub activations_in : Option ChainPart → List Activation
+activations_in None = []
+activations_in (Some part) = part.activations
+
+-- each activation names a listed version
+abbrev pub AreListed : List Master → List Activation → Type 0
+AreListed masters activations = All (λ a. Contains (map (λ m. m.version) masters) a.version) activations
+
+-- no activation names the version
+abbrev pub IsInactive : ℕ → List Activation → Type 0
+IsInactive version activations = All (λ a. a.version ≢ version) activations

@@ -2,9 +2,10 @@
 
 ghost use Rattle.std.specs.Prelude.{◌≡◌, ◌+◌, ◌*◌, ◌<◌, ◌≤◌, ◌++◌, ◌∷◌, [], IfOk, length, map, option_map};
 ghost use Rattle.std.specs.List.{AllZip};
+ghost use Rattle.kdb_base.specs.Limits.{most_masters};
 ghost use Rattle.kdb_base.specs.Versions.{AreRising};
 ghost use Rattle.princ_record.specs.Princs.{IsPrinc};
-ghost use Rattle.master_keys.specs.Adding.{added_keys, added_masters, added_record, aux_key, aux_keys, newest_first, newest_item, with_aux};
+ghost use Rattle.master_keys.specs.Adding.{AreListed, IsInactive, activations_in, added_keys, added_masters, added_record, aux_key, aux_keys, newest_first, newest_item, next_version, with_aux};
 ghost use Rattle.master_keys.specs.Chain.{IsAuxOf, IsChain};
 ghost use Rattle.master_keys.specs.Rewrapping.{Holds};
 ghost use Rattle.master_keys.specs.Versions.{last_version};
@@ -154,7 +155,8 @@ fn push_master(alloc: Global, masters: &Masters, newest: Master) -> Result<Maste
 
 /// K/M's record and the master keys with `key` as the newest, of the version after the greatest. The first
 /// 16 bytes of `random` are the confounder of the first key of the record, the next 16 of the second, and so
-/// on; those of the auxiliary keys follow. The rest is not used. The activations stay as they are.
+/// on; those of the auxiliary keys follow. The rest is not used. The activations stay as they are, so that the new
+/// version is not active.
 ///
 /// # Errors
 ///
@@ -167,11 +169,14 @@ pub fn add(
     random: &[u8; 1008],
 ) -> Result<(Princ, Masters), MemoryOut>
     requires chain { IsChain entry.now masters.now }
-    requires few { length masters.now < 32 }
+    requires few { length masters.now < most_masters }
     requires greatest { last_version masters.now < 65535 }
     ensures entry { IfOk result (λ both. both.0 ≡ added_record entry.now masters.now key.now random.now) }
     ensures masters { IfOk result (λ both. both.1 ≡ added_masters masters.now key.now) }
     ensures chain { IfOk result (λ both. IsChain both.0 both.1) }
+    // The activations stay as they were; where they name listed versions, none names the new one.
+    ensures activations { IfOk result (λ both. activations_in both.0.chain ≡ activations_in entry.now.chain) }
+    ensures inactive { AreListed masters.now (activations_in entry.now.chain) → IfOk result (λ both. IsInactive (next_version masters.now) (activations_in both.0.chain)) }
     // A record that has a spelling gets one.
     ensures spelled { IsPrinc entry.now → IfOk result (λ both. IsPrinc both.0) }
 {

@@ -1,4 +1,5 @@
 ghost use Rattle.std.specs.Prelude.{◌≡◌, ◌+◌, ◌<◌, IfOk, length};
+ghost use Rattle.kdb_base.specs.Limits.{most_masters};
 ghost use Rattle.master_keys.specs.Chain.{IsChain};
 ghost use Rattle.master_keys.specs.Versions.{last_version};
 
@@ -170,7 +171,7 @@ fn grown(
     key: &PlainKey,
 ) -> Result<(Princ, Masters), Fail>
     requires chain { IsChain entry.now masters.now }
-    requires few { length masters.now < 32 }
+    requires few { length masters.now < most_masters }
     requires greatest { last_version masters.now < 65535 }
     ensures more { IfOk result (λ both. length both.1 ≡ length masters.now + 1) }
     ensures last { IfOk result (λ both. last_version both.1 ≡ last_version masters.now + 1) }

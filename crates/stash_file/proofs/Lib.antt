@@ -5,3 +5,4 @@ pub mod Loops
 pub mod Steps
 pub mod Judged
 pub mod Entries
+pub mod KeytabStashes

@@ -1,8 +1,11 @@
 //! Laws of stashes. They do no work.
 
 ghost use Rattle.std.specs.Prelude.{◌≡◌, ℕ, List};
+ghost use Rattle.std.specs.List.{flat_map};
 ghost use Rattle.kdb_format.specs.Fields.{IsBytes};
-ghost use Rattle.stash_file.specs.Stashes.{IsStash, IsBadAt, IsJudged};
+ghost use Rattle.stash_file.specs.Keytabs.{IsKeytab};
+ghost use Rattle.stash_file.specs.Pieces.{Told};
+ghost use Rattle.stash_file.specs.Stashes.{IsStash, IsBadAt, IsJudged, key_of};
 ghost use Rattle.stash_file.specs.declared.keys.StashKey.{StashKey};
 
 /// A stash has one list of keys.
@@ -23,4 +26,9 @@ pub fn stash_is_bad_nowhere()
 /// A text that is no stash is bad at one place.
 pub fn bad_text_has_one_place()
     ensures { (text : List ℕ) (a b : ℕ) → IsBadAt text a → IsBadAt text b → a ≡ b }
+{}
+
+/// A keytab is a stash: its keys are those of its entries of K/M.
+pub fn keytab_is_a_stash()
+    ensures { (text : List ℕ) (entries : List Told) → IsKeytab text entries → IsStash text (flat_map key_of entries) }
 {}

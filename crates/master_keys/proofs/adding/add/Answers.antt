@@ -1,9 +1,13 @@
-use Rattle.std.proofs.Common.{◌+◌, ◌∙◌, ap, arith, length, map, sym, subst}
+use Rattle.std.proofs.Common.{List, ◌+◌, ◌∙◌, ap, arith, length, map, sym, subst}
 use Rattle.kdb_base.specs.Versions.{AreRising}
+use Rattle.kdb_base.specs.declared.versions.Activation.{Activation}
 use Rattle.kdb_base.specs.declared.versions.AuxKey.{AuxKey}
+use Rattle.princ_record.specs.declared.princs.Princ.{Princ}
+use Rattle.master_keys.specs.Adding.{IsInactive, activations_in, added_record, aux_keys, next_version}
 use Rattle.master_keys.proofs.Added.{added_rising, aux_versions, chain_is, chain_length, masters_are, old_types, record_is}
 use Rattle.master_keys.proofs.AddedSpelled.{added_spelled}
 use Rattle.master_keys.proofs.Live.{last_is_named}
+use Rattle.master_keys.proofs.NewActivations.{next_inactive, same_activations}
 use Rattle.master_keys.proofs.adding.add.Goals as goal
 
 pub overflow_add-version : goal.overflow_add-version
@@ -58,3 +62,14 @@ returns-clause-spelled c f =
     chain_is c.args.entry.now c.args.masters.now c.args.key.now c.args.random.now c.requires.chain c.as_slice-items.result.now c.in_ok-keys.keys.items c.as_slice-older.result.now c.in_ok-aux.aux.items c.from_vec.result
     c.as_slice-items.ensures c.as_slice-older.ensures.value c.in_ok-keys.ensures.keys c.in_ok-aux.ensures.keys c.from_vec.ensures c.in_ok-keys.ensures.holds c.in_ok-aux.ensures.are in
     rw (returns-clause-entry c) (added_spelled c.args.entry.now c.args.masters.now c.args.key.now c.args.random.now c.requires.chain f c.requires.greatest c.requires.few chain)
+
+pub returns-clause-activations : goal.returns-clause-activations
+unfolding added_record
+returns-clause-activations c =
+    ap (λ (p : Princ). activations_in p.chain) (returns-clause-entry c)
+    ∙ same_activations (aux_keys c.args.key.now c.args.random.now (1 + length c.args.entry.now.keys) c.args.masters.now) c.args.entry.now.chain
+
+pub returns-clause-inactive : goal.returns-clause-inactive
+returns-clause-inactive c listed =
+    subst (λ (list : List Activation). IsInactive (next_version c.args.masters.now) list) (sym (returns-clause-activations c))
+    (next_inactive c.args.entry.now c.args.masters.now (activations_in c.args.entry.now.chain) c.requires.chain listed)
