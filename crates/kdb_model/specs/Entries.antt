@@ -4,9 +4,11 @@ use Rattle.std.specs.List.{last_or}
 use Rattle.kadm_commands.specs.declared.commands.Command.{Command}
 use Rattle.kadm_commands.specs.declared.commands.Command.TheVariants as command
 use Rattle.kdb_model.specs.Calls.{Call, secs_of}
-use Rattle.kdb_model.specs.Masters.{on_master, new_etype, new_master, adds_master, uses_master, purges_masters}
+use Rattle.kdb_model.specs.Masters.{on_master, new_etype, new_master, use_secs}
 use Rattle.kdb_model.specs.Records.{added, modified, rekeyed, renamed, purged, restrung, changed_policy}
-use Rattle.kdb_plain.specs.Changes.{PlainOp, PutPrinc, DropPrinc, Rename, PutPolicy, DropPolicy}
+use Rattle.kdb_plain.specs.declared.changes.PlainOp.{PlainOp}
+use Rattle.kdb_plain.specs.declared.changes.PlainOp.TheVariants.{PutPrinc, DropPrinc, Rename, PutPolicy, DropPolicy}
+use Rattle.kdb_plain.specs.MasterChanges.{adds_master, purges_masters, uses_version}
 use Rattle.kdb_plain.specs.States.{princ_named, policy_named}
 use Rattle.kdb_plain.specs.Strings.{with_string, without_string}
 use Rattle.kdb_plain.specs.Versions.{dead_versions}
@@ -38,7 +40,7 @@ entry_of s call (command.ModPolicy c) = option_map (λ p. PutPolicy (changed_pol
 entry_of s call (command.DelPolicy name) = option_map (λ _. DropPolicy name) (policy_named name s.policies)
 entry_of s call (command.AddMaster etype) =
     option_and_then (λ newest. on_master s (adds_master s (new_master (new_etype etype newest) call.random s.masters))) (last_or None s.masters)
-entry_of s call (command.UseMaster c) = on_master s (uses_master s call c)
+entry_of s call (command.UseMaster c) = on_master s (uses_version s c.version (use_secs s call c))
 entry_of s call command.PurgeMasters = unless_none_dead (dead_versions s (secs_of s call)) (on_master s (purges_masters s (secs_of s call)))
 entry_of s call _ = None
 

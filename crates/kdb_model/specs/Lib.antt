@@ -7,3 +7,4 @@ pub mod Entries
 pub mod Refusals
 pub mod Steps
 pub mod Rekeying
+pub mod Laws

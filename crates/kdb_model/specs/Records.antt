@@ -1,5 +1,5 @@
 -- The records that commands put: principals with their keys, and policies.
-use Rattle.std.specs.Prelude.{ℕ, ◌+◌, Bool, nat_le, List, [], ◌++◌, codes, map, filter, Option, Some, None, option_map, unwrap_or, if◌then◌else◌}
+use Rattle.std.specs.Prelude.{ℕ, ◌+◌, List, [], ◌++◌, codes, Option, Some, None, option_map, unwrap_or, if◌then◌else◌}
 use Rattle.acl_text.specs.declared.limits.Limits.{Limits}
 use Rattle.kadm_commands.specs.declared.commands.AddPrinc.{AddPrinc}
 use Rattle.kadm_commands.specs.declared.commands.ChangeKeys.{ChangeKeys}
@@ -11,7 +11,7 @@ use Rattle.kdb_model.specs.Access.{adding, modifying, limits_for}
 use Rattle.kdb_model.specs.Calls.{Call, secs_of}
 use Rattle.kdb_model.specs.Fields.{By, marked, chosen, forced, added_head, modified_head, rekeyed_head, renamed_head}
 use Rattle.kdb_plain.specs.Heads.{plain_head, plain_of}
-use Rattle.kdb_plain.specs.Keys.{newest_kvno, made_keys, items_of, is_password, remembered, settled_salt}
+use Rattle.kdb_plain.specs.Keys.{newest_kvno, made_keys, items_of, is_password, kept_keys, keys_from, least_kvno, remembered, settled_items}
 use Rattle.kdb_plain.specs.States.{has_policy, policy_named}
 use Rattle.kdb_plain.specs.declared.items.PlainItem.{PlainItem}
 use Rattle.kdb_plain.specs.declared.new_keys.NewKeys.{NewKeys}
@@ -66,29 +66,19 @@ added s call c = plain_of
 unfoldable pub modified : State → Call → ModPrinc → PlainPrinc → PlainPrinc
 modified s call c q = plain_of (modified_head c.policy (limits_for call modifying c.name) c.options (by_of s call) (plain_head q)) q.keys q.old
 
-abbrev pub kept_keys : ChangeKeys → PlainPrinc → List PlainItem
-kept_keys c q = if c.keep_old then q.keys else []
-
 -- new keys in front of the kept ones; the keys that a password replaces are remembered, those that a random key replaces are not
 unfoldable pub rekeyed : State → Call → ChangeKeys → PlainPrinc → PlainPrinc
 rekeyed s call c q = plain_of
     (rekeyed_head (active_in s call) (numbers_for q.policy s.policies).max_life (by_of s call) (plain_head q))
-    (items_of (newest_kvno q.keys + 1) (made_keys call.random c.name c.keys) ++ kept_keys c q)
+    (items_of (newest_kvno q.keys + 1) (made_keys call.random c.name c.keys) ++ kept_keys c.keep_old q.keys)
     (if is_password c.keys then remembered (numbers_for q.policy s.policies).history q.keys q.old else q.old)
-
-abbrev pub settled : RenPrinc → PlainItem → PlainItem
-settled c k = record k { salt = settled_salt c.name k.salt }
 
 -- the salts of the old name stay
 unfoldable pub renamed : State → Call → RenPrinc → PlainPrinc → PlainPrinc
-renamed s call c q = plain_of (renamed_head (printed c.new_name) (by_of s call) (plain_head q)) (map (settled c) q.keys) q.old
-
--- keys of a version and those of greater ones
-abbrev pub keys_from : ℕ → List PlainItem → List PlainItem
-keys_from kvno keys = filter (λ (k : PlainItem). nat_le kvno k.kvno) keys
+renamed s call c q = plain_of (renamed_head (printed c.new_name) (by_of s call) (plain_head q)) (settled_items c.name q.keys) q.old
 
 unfoldable pub purged : State → Call → PurgeKeys → PlainPrinc → PlainPrinc
-purged s call c q = plain_of (marked (by_of s call) (plain_head q)) (keys_from (unwrap_or c.keep (newest_kvno q.keys)) q.keys) q.old
+purged s call c q = plain_of (marked (by_of s call) (plain_head q)) (keys_from (least_kvno c.keep q.keys) q.keys) q.old
 
 -- setstr and delstr
 unfoldable pub restrung : State → Call → List StringAttribute → PlainPrinc → PlainPrinc

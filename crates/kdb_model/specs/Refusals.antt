@@ -1,5 +1,5 @@
 -- Why a command is refused. Each cause stands for itself; where several hold, the first of their list is the answer.
-use Rattle.std.specs.Prelude.{ℕ, ◌+◌, Bool, true, false, not, ◌&&◌, ◌||◌, nat_eq, nat_le, nat_lt, List, [], ◌∷◌, length, min, Option, Some, None, is_none, is_some, option_map, option_and_then, if◌then◌else◌}
+use Rattle.std.specs.Prelude.{ℕ, ◌+◌, Bool, true, false, not, ◌&&◌, ◌||◌, nat_eq, nat_le, nat_lt, List, [], ◌∷◌, ◌++◌, length, min, Option, Some, None, is_none, is_some, option_map, option_and_then, if◌then◌else◌}
 use Rattle.std.specs.List.{list_any}
 use Rattle.std.specs.Str.{bytes_eq}
 use Rattle.kadm_commands.specs.declared.commands.Command.{Command}
@@ -19,9 +19,10 @@ use Rattle.kdb_model.specs.Entries.{entry}
 use Rattle.kdb_model.specs.Fields.{has_bit, lockdown_keys, needchange}
 use Rattle.kdb_model.specs.Masters.{used_activations}
 use Rattle.kdb_model.specs.Records.{added_policy, numbers_for}
-use Rattle.kdb_plain.specs.Changes.{PlainOp, PutPrinc, DropPrinc, Rename, PutPolicy, DropPolicy, PutMasters}
+use Rattle.kdb_plain.specs.declared.changes.PlainOp.{PlainOp}
+use Rattle.kdb_plain.specs.declared.changes.PlainOp.TheVariants.{PutPrinc, DropPrinc, Rename, PutPolicy, DropPolicy, PutMasters}
 use Rattle.kdb_plain.specs.Keys.{is_password, is_reused, made_keys, newest_kvno}
-use Rattle.kdb_plain.specs.Lengths.{row_len, chain_len}
+use Rattle.kdb_plain.specs.Lengths.{chain_len, in_64_bits, row_len}
 use Rattle.kdb_plain.specs.States.{has_policy, history_key, history_name, master_of, princ_named, users_of}
 use Rattle.kdb_plain.specs.Strings.{has_room_for, has_string}
 use Rattle.kdb_plain.specs.declared.new_keys.NewKeys.{NewKeys}
@@ -152,8 +153,8 @@ breaks_lock change (command.Extract name) = true
 breaks_lock change _ = false
 
 -- over a connection, which has an access list; on the own record too
-abbrev pub locked_down : State → Call → Option Refusal
-locked_down s call = when (is_some call.access && is_locked (target s call.command) && breaks_lock (entry s call) call.command) why.LockedDown
+abbrev pub locked_down : State → Call → Option PlainOp → Option Refusal
+locked_down s call change = when (is_some call.access && is_locked (target s call.command) && breaks_lock change call.command) why.LockedDown
 
 abbrev pub is_missing : State → Option (List ℕ) → Bool
 is_missing s None = false
@@ -173,8 +174,8 @@ lacks_policy s change (command.AddPrinc c) = names_missing s c.policy || puts_mi
 lacks_policy s change (command.ModPrinc c) = names_missing s c.policy || puts_missing s change
 lacks_policy s change other = is_missing s (needed_policy other)
 
-abbrev pub unknown_policy : State → Call → Option Refusal
-unknown_policy s call = when (lacks_policy s (entry s call) call.command) why.UnknownPolicy
+abbrev pub unknown_policy : State → Option PlainOp → Command → Option Refusal
+unknown_policy s change command = when (lacks_policy s change command) why.UnknownPolicy
 
 abbrev pub policy_in_use : State → Command → Option Refusal
 policy_in_use s (command.DelPolicy name) = when (nat_lt 0 (users_of name s.princs)) (why.PolicyInUse (users_of name s.princs))
@@ -224,8 +225,8 @@ puts_many_keys (Some (PutPrinc q)) = nat_lt most_keys (length q.keys)
 puts_many_keys _ = false
 
 -- no version is left for new keys, or there would be more keys than a principal may have
-abbrev pub keys_full : State → Call → Option Refusal
-keys_full s call = when (has_last_kvno call.command (target s call.command) || puts_many_keys (entry s call)) why.KeysFull
+abbrev pub keys_full : State → Option PlainOp → Command → Option Refusal
+keys_full s change command = when (has_last_kvno command (target s command) || puts_many_keys change) why.KeysFull
 
 abbrev pub lacks_string : Command → Option PlainPrinc → Bool
 lacks_string (command.DelString c) (Some q) = not (has_string c.key q.strings)
@@ -285,37 +286,37 @@ bytes_put s (Some (Rename old q)) = len_in s q
 bytes_put s (Some (PutMasters q masters activations)) = len_under masters (history_key s.realm s.princs) q + chain_len masters activations
 bytes_put s _ = 0
 
-abbrev pub too_large : State → Call → Option Refusal
-too_large s call = when (nat_lt longest_row (bytes_put s (entry s call))) (why.RecordTooLarge (bytes_put s (entry s call)))
+abbrev pub too_large : State → Option PlainOp → Option Refusal
+too_large s change = when (nat_lt longest_row (bytes_put s change)) (why.RecordTooLarge (in_64_bits (bytes_put s change)))
 
 -- the log is to start anew, and no later time is left for it
-abbrev pub ended : State → Call → Option Refusal
-ended s call = when (is_some (entry s call) && call.due && is_last s.point.time) why.TimeEnd
+abbrev pub ended : State → Call → Option PlainOp → Option Refusal
+ended s call change = when (is_some change && call.due && is_last s.point.time) why.TimeEnd
 
 -- ---- the answer
 
-unfoldable pub causes : State → Call → List (Option Refusal)
-causes s call =
+-- the causes but for the end of time, where the command would make this change
+unfoldable pub causes_with : State → Call → Option PlainOp → List (Option Refusal)
+causes_with s call change =
     unknown_master s call.command
     ∷ denied s call
     ∷ protected s call.command
     ∷ duplicate s call.command
     ∷ unknown_principal s call.command
-    ∷ locked_down s call
-    ∷ unknown_policy s call
+    ∷ locked_down s call change
+    ∷ unknown_policy s change call.command
     ∷ policy_in_use s call.command
     ∷ too_short s call
     ∷ few_classes s call
     ∷ pass_reused s call
     ∷ too_soon s call
-    ∷ keys_full s call
+    ∷ keys_full s change call.command
     ∷ unknown_string s call.command
     ∷ strings_full s call.command
     ∷ too_many_masters s call.command
     ∷ no_active_master s call call.command
     ∷ rows_full s call.command
-    ∷ too_large s call
-    ∷ ended s call
+    ∷ too_large s change
     ∷ []
 
 unfoldable pub first : List (Option Refusal) → Option Refusal
@@ -323,6 +324,6 @@ first [] = None
 first (None ∷ others) = first others
 first (Some refusal ∷ others) = Some refusal
 
--- why the command is refused, where it is
+-- Why the command is refused, where it is: the first cause that holds. The end of time is the last of them.
 unfoldable pub refusal : State → Call → Option Refusal
-refusal s call = first (causes s call)
+refusal s call = first (causes_with s call (entry s call) ++ ended s call (entry s call) ∷ [])

@@ -13,6 +13,7 @@ use Rattle.kdb_model.specs.Calls.{is_last, point_after}
 use Rattle.kdb_model.specs.Refusals.{len_in}
 use Rattle.kdb_model.specs.Steps.{with_point}
 use Rattle.kdb_plain.specs.Changes.{put_princ}
+use Rattle.kdb_plain.specs.Lengths.{in_64_bits}
 use Rattle.kdb_plain.specs.States.{master_of, princ_named}
 use Rattle.kdb_plain.specs.declared.princs.PlainPrinc.{PlainPrinc}
 use Rattle.kdb_plain.specs.declared.states.State.{State}
@@ -45,7 +46,7 @@ abbrev pub under_version : ℕ → PlainPrinc → PlainPrinc
 under_version version q = record q { mkvno = version }
 
 unfoldable pub moved : State → At → PlainPrinc → Rekeyed
-moved s at q = if nat_lt longest_row (len_in s q) then Refused (RecordTooLarge (len_in s q))
+moved s at q = if nat_lt longest_row (len_in s q) then Refused (RecordTooLarge (in_64_bits (len_in s q)))
     else if at.due && is_last s.point.time then Refused TimeEnd
     else Updated (with_point (point_after s at.clock at.due) (put_princ q s))
 

@@ -7,7 +7,6 @@ use Rattle.kadm_commands.specs.declared.replies.Reply.TheVariants as reply
 use Rattle.kadm_commands.specs.declared.shown.KeyShown.{KeyShown}
 use Rattle.kadm_commands.specs.declared.shown.PrincShown.{PrincShown}
 use Rattle.kadm_values.specs.Globs.{matches}
-use Rattle.kdb_base.specs.declared.extracts.Extract.{Extract}
 use Rattle.kdb_base.specs.declared.keys.Salt.{Salt}
 use Rattle.kdb_base.specs.declared.keys.Salt.TheVariants.{Normal, Special}
 use Rattle.kdb_base.specs.declared.moments.Point.{Point}
@@ -18,8 +17,9 @@ use Rattle.kdb_model.specs.Calls.{Call, change_point, secs_of}
 use Rattle.kdb_model.specs.Entries.{entry}
 use Rattle.kdb_model.specs.Masters.{master_rows, purge_rows, use_secs}
 use Rattle.kdb_model.specs.Refusals.{refusal, target}
-use Rattle.kdb_plain.specs.Changes.{PlainOp, effect_on}
-use Rattle.kdb_plain.specs.Keys.{has_kvno, newest_kvno}
+use Rattle.kdb_plain.specs.Changes.{effect_on}
+use Rattle.kdb_plain.specs.declared.changes.PlainOp.{PlainOp}
+use Rattle.kdb_plain.specs.Keys.{extracts}
 use Rattle.kdb_plain.specs.Lists.{princ_names}
 use Rattle.kdb_plain.specs.States.{policy_named}
 use Rattle.kdb_plain.specs.declared.items.PlainItem.{PlainItem}
@@ -54,13 +54,6 @@ shown_of q = record {
   keys = map key_shown q.keys;
 }
 
-abbrev pub extract_of : PlainItem → Extract
-extract_of k = record { kvno = k.kvno; key = k.key }
-
--- the keys of the greatest version, for a keytab
-unfoldable pub extracts : PlainPrinc → List Extract
-extracts q = map extract_of (filter (has_kvno (newest_kvno q.keys)) q.keys)
-
 -- the names that a glob matches, all without one
 unfoldable pub names_in : Option (List ℕ) → List (List ℕ) → List (List ℕ)
 names_in None names = names
@@ -75,7 +68,7 @@ policy_shown (Some p) = reply.PolicyShown p
 unfoldable pub reading_of : State → Call → Command → Option PlainPrinc → Reply
 reading_of s call (command.GetPrinc name) (Some q) = reply.Shown (shown_of q)
 reading_of s call (command.GetStrings name) (Some q) = reply.Strings q.strings
-reading_of s call (command.Extract name) (Some q) = reply.Extracted (extracts q)
+reading_of s call (command.Extract name) (Some q) = reply.Extracted (extracts q.keys)
 reading_of s call (command.ListPrincs glob) found = reply.Listed (names_in glob (princ_names s.princs))
 reading_of s call (command.GetPolicy name) found = policy_shown (policy_named name s.policies)
 reading_of s call command.ListPolicies found = reply.Listed (policy_keys s.policies)

@@ -1,10 +1,13 @@
 -- The latest activation is the latest of some, where it is among them.
 use Rattle.std.proofs.Common.{◌≡◌, ℕ, ◌<◌, ◌≤◌, Bool, true, false, List, [], ◌∷◌, fold, Option, Some, None, refl, sym, ap, subst, ◌∙◌, ◌⊎◌, inl, inr, arith}
 use Rattle.std.specs.Prelude.{filter, nat_eq, nat_le, nat_lt, option_map}
-use Rattle.std.specs.List.{AllByRecursion, reduce}
+use Rattle.std.specs.List.{All, AllByRecursion, reduce}
+use Rattle.std.proofs.lemmas.List.Elements.{recursion_from_All}
 use Rattle.kdb_base.specs.declared.versions.Activation.{Activation}
 use Rattle.key_activation.specs.Activations.{IsUpTo, active, begun, is_later, later, latest}
+use Rattle.kdb_base.specs.Moment.{Moment}
 use Rattle.kdb_plain.specs.MasterChanges.{serving_activations}
+use Rattle.kdb_plain.specs.States.{IsListed, IsValid}
 use Rattle.kdb_plain.specs.Versions.{serves}
 use Rattle.kdb_plain.specs.declared.states.State.{State}
 use Rattle.kdb_plain.proofs.Causes.{serves_where}
@@ -156,3 +159,20 @@ still_active s secs =
     ap (λ (list : List Activation). option_map (λ (a : Activation). a.version) (latest list)) (filter_swap p q s.activations)
     ∙ ap (option_map (λ (a : Activation). a.version))
     (latest_kept p (filter q s.activations) (λ r is. (serves_where s secs r.version).1 (inr (inl (ap (option_map (λ (a : Activation). a.version)) is)))))
+
+-- what holds of each version holds of the one that is active
+latest_from : (P : ℕ → Type 0) (xs : List Activation) (version : ℕ) → AllByRecursion (λ (a : Activation). P a.version) xs → option_map (λ (a : Activation). a.version) (latest xs) ≡ Some version → P version
+unfolding latest
+latest_from P [] version all is = absurd cc
+latest_from P (x ∷ xs) version all is =
+    let same : (fold later x xs).version ≡ version = cc in
+    subst P same (latest_holds (λ (a : Activation). P a.version) x xs all.0 all.1)
+
+pub active_holds : (P : ℕ → Type 0) (list : List Activation) (secs version : ℕ) → All (λ (a : Activation). P a.version) list → active list secs ≡ Some version → P version
+unfolding active begun
+active_holds P list secs version all is =
+    let q : Activation → Bool = λ (a : Activation). nat_le a.secs secs in
+    latest_from P (filter q list) version (each_kept (λ (a : Activation). P a.version) q list (recursion_from_All (λ (a : Activation). P a.version) list all)) is
+
+pub active_listed : (time : Moment) (s : State) (secs version : ℕ) → IsValid time s → active s.activations secs ≡ Some version → IsListed s.masters version
+active_listed time s secs version f is = active_holds (IsListed s.masters) s.activations secs version f.activations is

@@ -17,3 +17,4 @@ pub mod MasterSets
 pub mod Spared
 pub mod OwnNames
 pub mod StringsInForm
+pub mod ChangedLists

@@ -1,7 +1,9 @@
 -- What changes of other principals leave.
 use Rattle.std.proofs.Common.{◌≡◌, ◌≢◌, ℕ, List, refl, sym, ◌∙◌}
 use Rattle.master_keys.specs.First.{master_name}
-use Rattle.kdb_plain.specs.Changes.{PlainOp, PutPrinc, DropPrinc, Rename, PutPolicy, DropPolicy, PutMasters, Spares, drop_princ, effect_on, name_of}
+use Rattle.kdb_plain.specs.Changes.{Spares, drop_princ, effect_on, name_of}
+use Rattle.kdb_plain.specs.declared.changes.PlainOp.{PlainOp}
+use Rattle.kdb_plain.specs.declared.changes.PlainOp.TheVariants.{PutPrinc, DropPrinc, Rename, PutPolicy, DropPolicy, PutMasters}
 use Rattle.kdb_plain.specs.States.{history_name, princ_named}
 use Rattle.kdb_plain.specs.declared.states.State.{State}
 use Rattle.kdb_plain.proofs.Named.{put_other, drop_other}

@@ -1,11 +1,12 @@
 -- Changes of a state by one principal or one policy.
-use Rattle.std.specs.Prelude.{ℕ, ◌≡◌, ◌≢◌, List, length}
-use Rattle.kdb_base.specs.declared.versions.Activation.{Activation}
-use Rattle.kdb_base.specs.declared.versions.Master.{Master}
+use Rattle.std.specs.Prelude.{ℕ, ◌≡◌, ◌≢◌, ◌+◌, ◌≤◌, List, length}
+use Rattle.kdb_base.specs.Limits.{most_rows}
 use Rattle.master_keys.specs.First.{master_name}
 use Rattle.policy_rules.specs.Rules.{Rules}
 use Rattle.princ_rows.specs.Effects.{put_by, drop_by}
 use Rattle.kdb_plain.specs.States.{NeverRise, history_name}
+use Rattle.kdb_plain.specs.declared.changes.PlainOp.{PlainOp}
+use Rattle.kdb_plain.specs.declared.changes.PlainOp.TheVariants.{PutPrinc, DropPrinc, Rename, PutPolicy, DropPolicy, PutMasters}
 use Rattle.kdb_plain.specs.declared.princs.PlainPrinc.{PlainPrinc}
 use Rattle.kdb_plain.specs.declared.states.State.{State}
 
@@ -44,16 +45,6 @@ pub record MayBePut (realm : List ℕ) (q : PlainPrinc) : Type 0 where
 
 -- ---- what a command changes
 
-pub data PlainOp : Type 0 where
-  PutPrinc : PlainPrinc → PlainOp
-  DropPrinc : List ℕ → PlainOp
-  -- the principal of this name goes, and the other stands in its place
-  Rename : List ℕ → PlainPrinc → PlainOp
-  PutPolicy : Rules → PlainOp
-  DropPolicy : List ℕ → PlainOp
-  -- K/M, the master keys that it keeps, and their activations
-  PutMasters : PlainPrinc → List Master → List Activation → PlainOp
-
 unfoldable pub effect_on : PlainOp → State → State
 effect_on (PutPrinc q) s = put_princ q s
 effect_on (DropPrinc name) s = drop_princ name s
@@ -61,6 +52,10 @@ effect_on (Rename old q) s = put_princ q (drop_princ old s)
 effect_on (PutPolicy p) s = put_policy p s
 effect_on (DropPolicy name) s = drop_policy name s
 effect_on (PutMasters q masters activations) s = put_princ q (record s { masters = masters; activations = activations })
+
+-- no more rows than a database may have
+abbrev pub HasRoom : State → Type 0
+HasRoom s = length s.princs + length s.policies ≤ most_rows
 
 -- the change is of a principal other than K/M and kadmin/history, or of a policy
 abbrev pub Spares : List ℕ → PlainOp → Type 0

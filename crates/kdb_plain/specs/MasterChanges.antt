@@ -5,7 +5,8 @@ use Rattle.kdb_base.specs.declared.keys.Salt.TheVariants.{Normal}
 use Rattle.kdb_base.specs.declared.versions.Activation.{Activation}
 use Rattle.kdb_base.specs.declared.versions.Master.{Master}
 use Rattle.key_activation.specs.Activations.{with_activation}
-use Rattle.kdb_plain.specs.Changes.{PlainOp, PutMasters}
+use Rattle.kdb_plain.specs.declared.changes.PlainOp.{PlainOp}
+use Rattle.kdb_plain.specs.declared.changes.PlainOp.TheVariants.{PutMasters}
 use Rattle.kdb_plain.specs.Versions.{serves, serving_masters}
 use Rattle.kdb_plain.specs.declared.items.PlainItem.{PlainItem}
 use Rattle.kdb_plain.specs.declared.princs.PlainPrinc.{PlainPrinc}

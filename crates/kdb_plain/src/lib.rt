@@ -3,6 +3,7 @@
 //! serve, and which states are valid.
 #![tactic(auto)]
 
+pub mod changes;
 mod copies;
 mod heads;
 pub mod items;
@@ -18,6 +19,7 @@ pub mod serving;
 pub mod states;
 mod strings;
 
+pub use changes::{PlainOp, apply};
 pub use copies::{copy_princ, copy_state};
 pub use heads::{plain_head, plain_of};
 pub use items::{PlainItem, PlainItems, PlainKeys, PlainSet, PlainSets};

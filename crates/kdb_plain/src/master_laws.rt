@@ -6,10 +6,11 @@ ghost use Rattle.kdb_base.specs.declared.versions.Master.{Master};
 ghost use Rattle.key_activation.specs.Activations.{active, with_activation};
 ghost use Rattle.master_keys.specs.First.{master_name};
 ghost use Rattle.master_keys.specs.Versions.{last_version};
-ghost use Rattle.kdb_plain.specs.Changes.{PlainOp, Spares, effect_on};
+ghost use Rattle.kdb_plain.specs.Changes.{Spares, effect_on};
 ghost use Rattle.kdb_plain.specs.MasterChanges.{adds_master, purges_masters, serving_activations, uses_version};
 ghost use Rattle.kdb_plain.specs.States.{IsListed, IsValid, history_name, princ_named};
 ghost use Rattle.kdb_plain.specs.Versions.{serves, serving_masters};
+ghost use Rattle.kdb_plain.specs.declared.changes.PlainOp.{PlainOp};
 ghost use Rattle.kdb_plain.specs.declared.princs.PlainPrinc.{PlainPrinc};
 ghost use Rattle.kdb_plain.specs.declared.states.State.{State};
 
@@ -33,4 +34,9 @@ pub fn spared_keys_stay()
     ensures history { (s : State) (op : PlainOp) → Spares s.realm op → princ_named (history_name s.realm) (effect_on op s).princs ≡ princ_named (history_name s.realm) s.princs }
     ensures masters { (s : State) (op : PlainOp) → Spares s.realm op → (effect_on op s).masters ≡ s.masters }
     ensures activations { (s : State) (op : PlainOp) → Spares s.realm op → (effect_on op s).activations ≡ s.activations }
+{}
+
+/// The version that is active is listed.
+pub fn active_version_is_listed()
+    ensures { (time : Moment) (s : State) (secs version : ℕ) → IsValid time s → active s.activations secs ≡ Some version → IsListed s.masters version }
 {}
