@@ -3,9 +3,9 @@ use Rattle.std.specs.Prelude.{ℕ, ◌≡◌, ◌≢◌, ◌<◌, ◌^◌, Bool,
 use Rattle.std.specs.List.{All}
 use Rattle.kadm_values.specs.declared.flags.FlagChange.{FlagChange}
 use Rattle.kdb_base.specs.declared.keys.Etype.{Etype}
-use Rattle.kdb_plain.specs.Keys.{AreOnce}
-use Rattle.kdb_plain.specs.declared.new_keys.NewKeys.{NewKeys}
-use Rattle.kdb_plain.specs.declared.new_keys.NewKeys.TheVariants.{Random, Password}
+use Rattle.plain_keys.specs.Keys.{AreOnce}
+use Rattle.plain_keys.specs.declared.new_keys.NewKeys.{NewKeys}
+use Rattle.plain_keys.specs.declared.new_keys.NewKeys.TheVariants.{Random, Password}
 use Rattle.policy_rules.specs.Names.{is_policy_name}
 use Rattle.policy_rules.specs.Ranges.{is_min_length, is_min_classes, is_history}
 use Rattle.princ_name.specs.Names.{NameParts, IsName}

@@ -3,7 +3,7 @@
 use crate::options::PrincOptions;
 use crate::policies::{ModPolicy, PolicyChoice};
 use kdb_base::{Blob, Etype};
-use kdb_plain::NewKeys;
+use plain_keys::NewKeys;
 use policy_rules::Policy;
 use princ_name::Name;
 

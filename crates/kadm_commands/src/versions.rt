@@ -6,7 +6,7 @@ ghost use Rattle.kadm_commands.specs.declared.versions.MasterRow.{MasterRow};
 ghost use Rattle.kadm_commands.specs.declared.versions.PurgeRow.{PurgeRow};
 
 use kdb_base::Etype;
-use kdb_plain::Cause;
+use serving_versions::Cause;
 use std::marker::Model;
 
 /// A master key as `list_mkeys` shows it.

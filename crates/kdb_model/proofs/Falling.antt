@@ -4,9 +4,9 @@ use Rattle.std.specs.Prelude.{filter, nat_le}
 use Rattle.std.specs.List.{list_all}
 use Rattle.std.proofs.lemmas.Bool.{and_from, and_parts, le-leb, leb-true}
 use Rattle.kdb_base.specs.Key.{Key}
-use Rattle.kdb_plain.specs.Keys.{item_of, items_of, keys_from, kept_keys, newest_kvno, settled_item, settled_items, is_from}
+use Rattle.plain_keys.specs.Keys.{item_of, items_of, keys_from, kept_keys, newest_kvno, settled_item, settled_items, is_from}
 use Rattle.kdb_plain.specs.States.{may_follow, never_rise}
-use Rattle.kdb_plain.specs.declared.items.PlainItem.{PlainItem}
+use Rattle.plain_keys.specs.declared.items.PlainItem.{PlainItem}
 use Rattle.princ_name.specs.Names.{NameParts}
 use Rattle.kdb_model.proofs.Stepping.{truth}
 

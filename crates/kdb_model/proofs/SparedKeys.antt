@@ -18,8 +18,8 @@ use Rattle.kdb_plain.specs.declared.changes.PlainOp.{PlainOp}
 use Rattle.kdb_plain.specs.declared.changes.PlainOp.TheVariants.{PutPrinc, DropPrinc, Rename, PutPolicy, DropPolicy, PutMasters}
 use Rattle.kdb_plain.specs.declared.princs.PlainPrinc.{PlainPrinc}
 use Rattle.kdb_plain.specs.declared.states.State.{State}
-use Rattle.kdb_plain.proofs.MasterSets.{is_there}
-use Rattle.kdb_plain.proofs.Places.{named_so}
+use Rattle.serving_versions.proofs.MasterSets.{is_there}
+use Rattle.serving_versions.proofs.Places.{named_so}
 use Rattle.policy_rules.specs.Rules.{Rules}
 use Rattle.princ_name.specs.Names.{NameParts, printed}
 use Rattle.kdb_model.proofs.Accepted.{IsAccepted, accepted, mapped, not_own, one_name, two_names}

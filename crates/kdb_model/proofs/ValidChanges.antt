@@ -26,19 +26,19 @@ use Rattle.kdb_model.specs.Masters.{new_etype, new_master, on_master, use_secs, 
 use Rattle.kdb_model.specs.Records.{active_in, added, added_keys, added_life, changed_policy, modified, numbers_for, purged, rekeyed, renamed, restrung}
 use Rattle.kdb_model.specs.Refusals.{is_missing, is_protected, names_missing}
 use Rattle.kdb_plain.specs.Changes.{IsOrdinary, drop_princ, effect_on, name_of, policy_name}
-use Rattle.kdb_plain.specs.Keys.{items_of, kept_keys, least_kvno, made_keys, newest_kvno}
-use Rattle.kdb_plain.specs.MasterChanges.{adds_master, purges_masters, uses_version}
+use Rattle.plain_keys.specs.Keys.{items_of, kept_keys, least_kvno, made_keys, newest_kvno}
+use Rattle.serving_versions.specs.MasterChanges.{adds_master, purges_masters, uses_version}
 use Rattle.kdb_plain.specs.States.{HasItsPolicy, IsListed, IsValid, NeverRise, has_policy, is_named, is_policy_named, master_of, never_rise, policy_named, princ_named, users_of}
-use Rattle.kdb_plain.specs.Versions.{dead_versions}
+use Rattle.serving_versions.specs.Versions.{dead_versions}
 use Rattle.kdb_plain.specs.declared.changes.PlainOp.{PlainOp}
 use Rattle.kdb_plain.specs.declared.changes.PlainOp.TheVariants.{PutPrinc, DropPrinc, Rename, PutPolicy, DropPolicy, PutMasters}
-use Rattle.kdb_plain.specs.declared.items.PlainItem.{PlainItem}
-use Rattle.kdb_plain.specs.declared.new_keys.NewKeys.{NewKeys}
+use Rattle.plain_keys.specs.declared.items.PlainItem.{PlainItem}
+use Rattle.plain_keys.specs.declared.new_keys.NewKeys.{NewKeys}
 use Rattle.kdb_plain.specs.declared.princs.PlainPrinc.{PlainPrinc}
 use Rattle.kdb_plain.specs.declared.states.State.{State}
-use Rattle.kdb_plain.proofs.LatestKept.{active_listed}
-use Rattle.kdb_plain.proofs.MasterSets.{add_valid, is_there, purge_valid, use_valid}
-use Rattle.kdb_plain.proofs.Places.{drop_one, named_holds, named_so, put_same}
+use Rattle.serving_versions.proofs.LatestKept.{active_listed}
+use Rattle.serving_versions.proofs.MasterSets.{add_valid, is_there, purge_valid, use_valid}
+use Rattle.serving_versions.proofs.Places.{drop_one, named_holds, named_so, put_same}
 use Rattle.kdb_plain.proofs.Valid.{drop_policy_valid, drop_valid, put_policy_valid, put_valid}
 use Rattle.key_activation.specs.Activations.{active}
 use Rattle.master_keys.specs.Adding.{next_version}

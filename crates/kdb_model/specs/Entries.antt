@@ -8,10 +8,10 @@ use Rattle.kdb_model.specs.Masters.{on_master, new_etype, new_master, use_secs}
 use Rattle.kdb_model.specs.Records.{added, modified, rekeyed, renamed, purged, restrung, changed_policy}
 use Rattle.kdb_plain.specs.declared.changes.PlainOp.{PlainOp}
 use Rattle.kdb_plain.specs.declared.changes.PlainOp.TheVariants.{PutPrinc, DropPrinc, Rename, PutPolicy, DropPolicy}
-use Rattle.kdb_plain.specs.MasterChanges.{adds_master, purges_masters, uses_version}
+use Rattle.serving_versions.specs.MasterChanges.{adds_master, purges_masters, uses_version}
 use Rattle.kdb_plain.specs.States.{princ_named, policy_named}
 use Rattle.kdb_plain.specs.Strings.{with_string, without_string}
-use Rattle.kdb_plain.specs.Versions.{dead_versions}
+use Rattle.serving_versions.specs.Versions.{dead_versions}
 use Rattle.kdb_plain.specs.declared.princs.PlainPrinc.{PlainPrinc}
 use Rattle.kdb_plain.specs.declared.states.State.{State}
 use Rattle.princ_name.specs.Names.{NameParts, printed}

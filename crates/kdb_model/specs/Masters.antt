@@ -10,7 +10,7 @@ use Rattle.kdb_base.specs.declared.versions.Master.{Master}
 use Rattle.kdb_model.specs.Calls.{Call, secs_of}
 use Rattle.kdb_plain.specs.declared.changes.PlainOp.{PlainOp}
 use Rattle.kdb_plain.specs.States.{princ_named}
-use Rattle.kdb_plain.specs.Versions.{cause_of, is_active_at}
+use Rattle.serving_versions.specs.Versions.{cause_of, is_active_at}
 use Rattle.kdb_plain.specs.declared.princs.PlainPrinc.{PlainPrinc}
 use Rattle.kdb_plain.specs.declared.states.State.{State}
 use Rattle.key_activation.specs.Activations.{activation_of, with_activation}

@@ -11,10 +11,10 @@ use Rattle.kdb_model.specs.Access.{adding, modifying, limits_for}
 use Rattle.kdb_model.specs.Calls.{Call, secs_of}
 use Rattle.kdb_model.specs.Fields.{By, marked, chosen, forced, added_head, modified_head, rekeyed_head, renamed_head}
 use Rattle.kdb_plain.specs.Heads.{plain_head, plain_of}
-use Rattle.kdb_plain.specs.Keys.{newest_kvno, made_keys, items_of, is_password, kept_keys, keys_from, least_kvno, remembered, settled_items}
+use Rattle.plain_keys.specs.Keys.{newest_kvno, made_keys, items_of, is_password, kept_keys, keys_from, least_kvno, remembered, settled_items}
 use Rattle.kdb_plain.specs.States.{has_policy, policy_named}
-use Rattle.kdb_plain.specs.declared.items.PlainItem.{PlainItem}
-use Rattle.kdb_plain.specs.declared.new_keys.NewKeys.{NewKeys}
+use Rattle.plain_keys.specs.declared.items.PlainItem.{PlainItem}
+use Rattle.plain_keys.specs.declared.new_keys.NewKeys.{NewKeys}
 use Rattle.kdb_plain.specs.declared.princs.PlainPrinc.{PlainPrinc}
 use Rattle.kdb_plain.specs.declared.states.State.{State}
 use Rattle.key_activation.specs.Activations.{active}

@@ -21,12 +21,12 @@ use Rattle.kdb_model.specs.Masters.{used_activations}
 use Rattle.kdb_model.specs.Records.{added_policy, numbers_for}
 use Rattle.kdb_plain.specs.declared.changes.PlainOp.{PlainOp}
 use Rattle.kdb_plain.specs.declared.changes.PlainOp.TheVariants.{PutPrinc, DropPrinc, Rename, PutPolicy, DropPolicy, PutMasters}
-use Rattle.kdb_plain.specs.Keys.{is_password, is_reused, made_keys, newest_kvno}
+use Rattle.plain_keys.specs.Keys.{is_password, is_reused, made_keys, newest_kvno}
 use Rattle.kdb_plain.specs.Lengths.{chain_len, in_64_bits, row_len}
 use Rattle.kdb_plain.specs.States.{has_policy, history_key, history_name, master_of, princ_named, users_of}
 use Rattle.kdb_plain.specs.Strings.{has_room_for, has_string}
-use Rattle.kdb_plain.specs.declared.new_keys.NewKeys.{NewKeys}
-use Rattle.kdb_plain.specs.declared.new_keys.NewKeys.TheVariants.{Random, Password}
+use Rattle.plain_keys.specs.declared.new_keys.NewKeys.{NewKeys}
+use Rattle.plain_keys.specs.declared.new_keys.NewKeys.TheVariants.{Random, Password}
 use Rattle.kdb_plain.specs.declared.princs.PlainPrinc.{PlainPrinc}
 use Rattle.kdb_plain.specs.declared.states.State.{State}
 use Rattle.key_activation.specs.Activations.{active}

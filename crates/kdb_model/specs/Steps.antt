@@ -19,10 +19,10 @@ use Rattle.kdb_model.specs.Masters.{master_rows, purge_rows, use_secs}
 use Rattle.kdb_model.specs.Refusals.{refusal, target}
 use Rattle.kdb_plain.specs.Changes.{effect_on}
 use Rattle.kdb_plain.specs.declared.changes.PlainOp.{PlainOp}
-use Rattle.kdb_plain.specs.Keys.{extracts}
+use Rattle.plain_keys.specs.Keys.{extracts}
 use Rattle.kdb_plain.specs.Lists.{princ_names}
 use Rattle.kdb_plain.specs.States.{policy_named}
-use Rattle.kdb_plain.specs.declared.items.PlainItem.{PlainItem}
+use Rattle.plain_keys.specs.declared.items.PlainItem.{PlainItem}
 use Rattle.kdb_plain.specs.declared.princs.PlainPrinc.{PlainPrinc}
 use Rattle.kdb_plain.specs.declared.states.State.{State}
 use Rattle.master_keys.specs.Adding.{next_version}

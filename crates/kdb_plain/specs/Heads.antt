@@ -2,8 +2,8 @@
 -- ones.
 use Rattle.std.specs.Prelude.{List, [], None}
 use Rattle.princ_record.specs.declared.princs.Princ.{Princ}
-use Rattle.kdb_plain.specs.declared.items.PlainItem.{PlainItem}
-use Rattle.kdb_plain.specs.declared.items.PlainSet.{PlainSet}
+use Rattle.plain_keys.specs.declared.items.PlainItem.{PlainItem}
+use Rattle.plain_keys.specs.declared.items.PlainSet.{PlainSet}
 use Rattle.kdb_plain.specs.declared.princs.PlainPrinc.{PlainPrinc}
 
 -- of a record as it is kept

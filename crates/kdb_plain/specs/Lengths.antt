@@ -9,8 +9,8 @@ use Rattle.master_keys.specs.Wrapping.{wrapped_len}
 use Rattle.princ_keys.specs.Keys.{salt_bytes}
 use Rattle.princ_record.specs.Princs.{princ}
 use Rattle.kdb_plain.specs.Heads.{plain_head}
-use Rattle.kdb_plain.specs.declared.items.PlainItem.{PlainItem}
-use Rattle.kdb_plain.specs.declared.items.PlainSet.{PlainSet}
+use Rattle.plain_keys.specs.declared.items.PlainItem.{PlainItem}
+use Rattle.plain_keys.specs.declared.items.PlainSet.{PlainSet}
 use Rattle.kdb_plain.specs.declared.princs.PlainPrinc.{PlainPrinc}
 
 -- a number as it is told in 64 bits: what is greater is told as the greatest

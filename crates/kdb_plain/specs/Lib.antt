@@ -1,9 +1,6 @@
 pub mod Changes
 pub mod Heads
-pub mod Keys
 pub mod Lengths
 pub mod Lists
-pub mod MasterChanges
 pub mod States
 pub mod Strings
-pub mod Versions

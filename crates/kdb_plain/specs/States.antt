@@ -15,7 +15,7 @@ use Rattle.princ_name.specs.Realms.{IsRealm}
 use Rattle.princ_record.specs.Policies.{IsPolicy}
 use Rattle.princ_rows.specs.Rows.{AreInOrder, policy_keys}
 use Rattle.kdb_plain.specs.Lists.{princ_names}
-use Rattle.kdb_plain.specs.declared.items.PlainItem.{PlainItem}
+use Rattle.plain_keys.specs.declared.items.PlainItem.{PlainItem}
 use Rattle.kdb_plain.specs.declared.princs.PlainPrinc.{PlainPrinc}
 use Rattle.kdb_plain.specs.declared.states.State.{State}
 

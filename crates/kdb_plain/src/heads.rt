@@ -3,12 +3,13 @@
 ghost use Rattle.std.specs.Prelude.{◌≡◌, IfOk};
 ghost use Rattle.kdb_plain.specs.Heads.{plain_head, plain_of};
 
-use crate::copies::{copy_blob, copy_name, copy_strings};
-use crate::items::{PlainItems, PlainSets};
+use crate::copies::copy_name;
 use crate::princs::PlainPrinc;
 use kdb_base::MemoryOut;
 use princ_record::{Keys, OldSets, Princ};
+use plain_keys::{PlainItems, PlainSets};
 use std::alloc::Global;
+use tagged_data::Copied;
 
 /// The fields of a principal as a record without keys, remembered keys and a chain.
 ///
@@ -18,10 +19,10 @@ use std::alloc::Global;
 pub fn plain_head(alloc: Global, princ: &PlainPrinc) -> Result<Princ, MemoryOut>
     ensures { IfOk result (λ head. head ≡ plain_head princ.now) }
 {
-    let name = copy_blob(alloc, &princ.name)?;
-    let modifier = copy_blob(alloc, &princ.modifier)?;
+    let name = princ.name.copied(alloc)?;
+    let modifier = princ.modifier.copied(alloc)?;
     let policy = copy_name(alloc, &princ.policy)?;
-    let strings = copy_strings(alloc, &princ.strings)?;
+    let strings = princ.strings.copied(alloc)?;
     Ok(Princ {
         name,
         attributes: princ.attributes,

@@ -1,27 +1,20 @@
 //! Laws of plain states. They do no work.
 
 ghost use Rattle.std.specs.Prelude.{◌≡◌, ◌≢◌, ◌+◌, ◌≤◌, ◌↔◌, ℕ, List, [], ◌∷◌, Some, None, true, IsTrue, codes, length, map};
-ghost use Rattle.std.specs.List.{sum_by};
 ghost use Rattle.kdb_base.specs.Limits.{most_rows};
 ghost use Rattle.kdb_base.specs.Moment.{Moment};
-ghost use Rattle.kdb_base.specs.Versions.{AreRising};
-ghost use Rattle.kdb_base.specs.declared.keys.Etype.{Etype};
 ghost use Rattle.kdb_base.specs.declared.moments.Point.{Point};
-ghost use Rattle.kdb_base.specs.declared.versions.Master.{Master};
 ghost use Rattle.master_keys.specs.First.{master_name};
-ghost use Rattle.master_keys.specs.Purging.{live_masters};
-ghost use Rattle.master_keys.specs.Versions.{last_version};
 ghost use Rattle.policy_rules.specs.Rules.{Rules};
 ghost use Rattle.princ_name.specs.Names.{printed};
 ghost use Rattle.princ_name.specs.RealmNames.{name_in};
 ghost use Rattle.princ_name.specs.Realms.{IsRealm};
 ghost use Rattle.princ_record.specs.Policies.{IsPolicy};
 ghost use Rattle.princ_name.specs.Printed.{IsPrinted};
-ghost use Rattle.kdb_plain.specs.Changes.{IsOrdinary, MayBePut, drop_policy, drop_princ, put_policy, put_princ};
-ghost use Rattle.kdb_plain.specs.Keys.{AreOnce, drawn_len};
+ghost use Rattle.kdb_plain.specs.Changes.{IsOrdinary, MayBePut, Spares, drop_policy, drop_princ, effect_on, put_policy, put_princ};
 ghost use Rattle.kdb_plain.specs.States.{HasItsPolicy, IsListed, IsValid, history_name, policy_named, princ_named, users_of};
 ghost use Rattle.kdb_plain.specs.Strings.{has_room_for, with_string, without_string};
-ghost use Rattle.kdb_plain.specs.Versions.{HasCause, dead_versions, serves, serving_masters};
+ghost use Rattle.kdb_plain.specs.declared.changes.PlainOp.{PlainOp};
 ghost use Rattle.kdb_plain.specs.declared.princs.PlainPrinc.{PlainPrinc};
 ghost use Rattle.kdb_plain.specs.declared.states.State.{State};
 ghost use Rattle.tagged_data.specs.Strings.{AreStrings, is_string_key, is_string_value};
@@ -62,21 +55,6 @@ pub fn policies_keep_states_valid()
     ensures drop { (time : Moment) (s : State) (name : List ℕ) → IsValid time s → users_of name s.princs ≡ 0 → IsValid time (drop_policy name s) }
 {}
 
-/// A version serves where it protects a principal other than K/M, is active, is the newest, or is yet to become active,
-/// and nowhere else. The newest master key serves always, and a purge of the versions that do not serve leaves the
-/// master keys that do. Those that do not serve are told by rising versions.
-pub fn serving_versions_stay()
-    ensures causes { (s : State) (secs version : ℕ) → (serves s secs version ≡ true) ↔ HasCause s secs version }
-    ensures newest { (s : State) (secs : ℕ) → serves s secs (last_version s.masters) ≡ true }
-    ensures rising { (s : State) (secs : ℕ) → AreRising (map (λ (m : Master). m.version) s.masters) → AreRising (dead_versions s secs) }
-    ensures purged { (s : State) (secs : ℕ) → live_masters (dead_versions s secs) s.masters ≡ serving_masters s secs }
-{}
-
-/// Random keys of distinct encryption types want at most 160 bytes of a random block, each with the 16 behind it.
-pub fn distinct_types_want_little()
-    ensures { (etypes : List Etype) → AreOnce etypes → sum_by drawn_len etypes ≤ 160 }
-{}
-
 /// The names of the principals that hold the database's own keys are the printed forms of K/M and of kadmin/history
 /// in the realm.
 pub fn own_names_are_printed()
@@ -89,4 +67,12 @@ pub fn own_names_are_printed()
 pub fn strings_stay_in_form()
     ensures set { (key value : List ℕ) (strings : List StringAttribute) → AreStrings strings → IsTrue (is_string_key key) → IsTrue (is_string_value value) → has_room_for key strings ≡ true → AreStrings (with_string key value strings) }
     ensures taken { (key : List ℕ) (strings : List StringAttribute) → AreStrings strings → AreStrings (without_string key strings) }
+{}
+
+/// A change that spares K/M and kadmin/history leaves both as they are, and the master keys and their activations.
+pub fn spared_keys_stay()
+    ensures master { (s : State) (op : PlainOp) → Spares s.realm op → princ_named (master_name s.realm) (effect_on op s).princs ≡ princ_named (master_name s.realm) s.princs }
+    ensures history { (s : State) (op : PlainOp) → Spares s.realm op → princ_named (history_name s.realm) (effect_on op s).princs ≡ princ_named (history_name s.realm) s.princs }
+    ensures masters { (s : State) (op : PlainOp) → Spares s.realm op → (effect_on op s).masters ≡ s.masters }
+    ensures activations { (s : State) (op : PlainOp) → Spares s.realm op → (effect_on op s).activations ≡ s.activations }
 {}

@@ -6,7 +6,7 @@ ghost use Rattle.kdb_base.specs.Limits.{most_rows};
 ghost use Rattle.master_keys.specs.First.{master_name};
 ghost use Rattle.kdb_plain.specs.States.{first_key, has_policy, history_key, history_name, is_version, master_of, policy_named, princ_named, users_of, uses};
 
-use crate::items::PlainItem;
+use plain_keys::PlainItem;
 use crate::lists::{PlainPrincs, PolicyList};
 use crate::princs::PlainPrinc;
 use crate::states::State;

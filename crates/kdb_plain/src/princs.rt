@@ -1,4 +1,4 @@
-use crate::items::{PlainItems, PlainSets};
+use plain_keys::{PlainItems, PlainSets};
 use kdb_base::Blob;
 use princ_rows::Keyed;
 use tagged_data::StringAttributes;

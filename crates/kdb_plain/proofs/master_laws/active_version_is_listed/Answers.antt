@@ -1,5 +1,0 @@
-use Rattle.kdb_plain.proofs.LatestKept.{active_listed}
-use Rattle.kdb_plain.proofs.master_laws.active_version_is_listed.Goals as goal
-
-pub returns : goal.returns
-returns c = active_listed

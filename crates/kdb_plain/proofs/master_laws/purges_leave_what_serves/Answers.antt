@@ -1,9 +1,0 @@
-use Rattle.kdb_plain.proofs.LatestKept.{still_active}
-use Rattle.kdb_plain.proofs.MasterSets.{serving_listed}
-use Rattle.kdb_plain.proofs.master_laws.purges_leave_what_serves.Goals as goal
-
-pub returns-clause-listed : goal.returns-clause-listed
-returns-clause-listed c = serving_listed
-
-pub returns-clause-active : goal.returns-clause-active
-returns-clause-active c = still_active

@@ -1,6 +1,0 @@
-use Rattle.std.proofs.Common.{◌≡◌, ◌++◌, take}
-use Rattle.std.specs.List.{flat_map}
-use Rattle.kdb_plain.proofs.new_keys.normal_salt.Given as goal
-
-abbrev pub invariant-loop-part : goal.invariant-loop-part
-invariant-loop-part l = l.salt.items ≡ l.initial.salt.items ++ flat_map (λ part. part) (take l.part-index l.fn.name.parts)

@@ -1,7 +1,0 @@
-use Rattle.std.proofs.Common.{◌∙◌}
-use Rattle.policy_rules.specs.Reuse.{is_same_key}
-use Rattle.kdb_plain.proofs.Used.{any_flat}
-use Rattle.kdb_plain.proofs.remembering.is_remembered.Goals as goal
-
-pub returns : goal.returns
-returns c = c.any_set.ensures ∙ any_flat (λ other. is_same_key other c.args.key.now) (λ set. set.keys) c.args.sets.now

@@ -1,0 +1,13 @@
+//! The versions of the master key that serve, and what becomes of a state where versions are added, made active and
+//! purged.
+#![tactic(auto)]
+
+pub mod laws;
+pub mod master_laws;
+pub mod serving;
+#[cfg(test)]
+mod tests;
+
+pub use serving::{
+    Cause, cause_from, cause_of, dead_versions, protected_by, serves, serving_masters,
+};
