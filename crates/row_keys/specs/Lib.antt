@@ -1,0 +1,10 @@
+pub mod Sides
+pub mod Lookups
+pub mod Shows
+pub mod Wraps
+pub mod Remembering
+pub mod KeptKeys
+pub mod Formed
+pub mod ShownChanges
+pub mod Sound
+pub mod Judging
