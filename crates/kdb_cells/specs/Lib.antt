@@ -1,7 +1,9 @@
 pub mod Cells
 pub mod CellFields
 pub mod Sheets
+pub mod Keys
 pub mod Changes
 pub mod Leads
 pub mod Indexes
 pub mod CellFiles
+pub mod FileCells

@@ -1,6 +1,6 @@
 //! A file of cells on a disk: a row is put into a unit or taken out of it by one write, so that a
 //! crash leaves one unit torn and no other.
-ghost use Rattle.std.specs.Prelude.{◌≡◌, ◌≤◌, ◌<◌, ◌+◌, ◌*◌, ◌^◌, ℕ, List, Some, None, length, IfOk, OnOk, OnErr, IsErr};
+ghost use Rattle.std.specs.Prelude.{◌≡◌, ◌≤◌, ◌<◌, ◌+◌, ◌*◌, ◌^◌, ℕ, true, List, Some, None, length, IfOk, OnOk, OnErr, IsErr};
 ghost use Rattle.kdb_base.specs.Limits.{most_rows};
 ghost use Rattle.kdb_disk.specs.View.{View};
 ghost use Rattle.kdb_disk.specs.Frames.{IsCall};
@@ -8,7 +8,9 @@ ghost use Rattle.kdb_disk.specs.Moments.{LeavesTorn, Stands};
 ghost use Rattle.kdb_format.specs.Spellings.{zeros as zeros_of};
 ghost use Rattle.kdb_cells.specs.Cells.{unit_size as size_of_unit, unit_text, unit_with, IsRowText};
 ghost use Rattle.kdb_cells.specs.Leads.{IsFree, IsLeastFree, no_units, giving, freed, leading};
-ghost use Rattle.kdb_cells.specs.CellFiles.{units, count, place_of, unit_len};
+ghost use Rattle.kdb_cells.specs.CellFiles.{is_image, is_format, units, count, place_of, unit_len};
+ghost use Rattle.kdb_cells.specs.FileCells.{IsFileOf, with_cell};
+ghost use Rattle.kdb_cells.specs.Sheets.{Sheet};
 ghost use Rattle.kdb_cells.specs.declared.units.StoredRow.{StoredRow as Stored};
 
 use crate::index::UnitIndex;
@@ -86,8 +88,11 @@ fn clear_page(page: &mut Vec<u8>)
 
 impl Cells {
     /// The cells of a file that has its first unit alone, in which no row stands.
+    ///
+    /// `file` is 1 or 2, and `format` 1 or 2.
     pub fn new(alloc: Global, file: u8, format: u16) -> Result<Cells, MemoryOut>
-        requires { file < 7 }
+        requires image { is_image file ≡ true }
+        requires format { is_format format ≡ true }
         ensures file { IfOk result (λ cells. cells.file ≡ file) }
         ensures format { IfOk result (λ cells. cells.format ≡ format) }
         ensures units { IfOk result (λ cells. units cells ≡ no_units) }
@@ -163,6 +168,8 @@ impl Cells {
         ensures units { OnOk result (units self.new ≡ leading key cell (units self.old)) }
         ensures more { IsFree cell (units self.old) → OnOk result (count self.new ≡ count self.old + 1) }
         ensures as_many { (k : List ℕ) → (units self.old).of k ≡ Some cell → OnOk result (count self.new ≡ count self.old) }
+        // What the index says stays so of the file, which holds the row in place of what the unit held.
+        ensures keeps { (r : Stored) (sheet : Sheet) → IsRowText self.old.format kind key row.now r → 1 ≤ cell → D.tells → IsFileOf self.old sheet ((D.view disk.old).seen self.old.file) → OnOk result (IsFileOf self.new (with_cell cell (Some r) sheet) ((D.view disk.new).seen self.old.file)) }
         ensures err { OnErr result (self.new ≡ self.old) }
         ensures file { self.new.file ≡ self.old.file }
         ensures format { self.new.format ≡ self.old.format }
@@ -191,6 +198,8 @@ impl Cells {
         ensures units { OnOk result (units self.new ≡ freed cell (units self.old)) }
         ensures as_many { IsFree cell (units self.old) → OnOk result (count self.new ≡ count self.old) }
         ensures fewer { (k : List ℕ) → (units self.old).of k ≡ Some cell → OnOk result (count self.new + 1 ≡ count self.old) }
+        // What the index says stays so of the file, in which the unit is free.
+        ensures keeps { (sheet : Sheet) → 1 ≤ cell → D.tells → IsFileOf self.old sheet ((D.view disk.old).seen self.old.file) → OnOk result (IsFileOf self.new (with_cell cell None sheet) ((D.view disk.new).seen self.old.file)) }
         ensures err { OnErr result (self.new ≡ self.old) }
         ensures file { self.new.file ≡ self.old.file }
         ensures format { self.new.format ≡ self.old.format }

@@ -3,6 +3,7 @@
 
 pub mod cells;
 pub mod index;
+pub mod laws;
 pub mod units;
 
 pub use cells::{Cells, unit_size};

@@ -1,13 +1,12 @@
 -- The entries that stand in the slots of a log file, by its bytes.
-use Rattle.std.proofs.Common.{◌≡◌, ◌≢◌, ℕ, ◌+◌, ◌-◌, ◌*◌, ◌<◌, ◌≤◌, ◌⊎◌, inl, inr, ⊎_elim, Bool, true, false, ◌&&◌, ◌||◌, not, leb, ltb, eqb, cond, List, [], ◌∷◌, ◌++◌, length, get_or, take, drop, Option, Some, None, refl, sym, ◌∙◌, ap, subst, arith, length-drop}
+use Rattle.std.proofs.Common.{◌≡◌, ◌≢◌, ℕ, ◌-◌, ◌<◌, ◌≤◌, ⊎_elim, Bool, true, false, ltb, eqb, cond, List, [], length, take, drop, Option, Some, None, refl, sym, ◌∙◌, ap, subst, arith, length-drop}
 use Rattle.std.specs.Prelude.{option_map, option_and_then}
-use Rattle.std.specs.List.{All}
-use Rattle.std.proofs.lemmas.Bool.{cases_eq, cases_Bool, and_parts, and_from, eqb-true, eqb-false, eq-eqb, ne_eqb, leb-true, le-leb, ltb-true, lt-ltb, cond-true, cond-false, false_from_ne_true, true≢false}
+use Rattle.std.proofs.lemmas.Bool.{cases_eq, and_parts, and_from, eqb-true, eq-eqb, ne_eqb, leb-true, le-leb, ltb-true, lt-ltb, cond-true, cond-false, false_from_ne_true, true≢false}
 use Rattle.std.proofs.lemmas.Option.{same_Some, cond_some, some_pair_parts}
 use Rattle.std.proofs.lemmas.List.{drop_all}
 use Rattle.kdb_base.specs.Moment.{Moment}
 use Rattle.kdb_base.specs.declared.moments.Point.{Point}
-use Rattle.kdb_format.specs.Readings.{padded, bytes_at, known}
+use Rattle.kdb_format.specs.Readings.{padded, bytes_at}
 use Rattle.kdb_format.specs.Laws.{bind_some, guard_some}
 use Rattle.princ_entries.specs.Entries.{logged_at, kind_of}
 use Rattle.princ_entries.specs.declared.entries.Op.{Op}

@@ -10,3 +10,4 @@ pub mod Entries
 pub mod Readings
 pub mod Backward
 pub mod Scans
+pub mod ReadSlots

@@ -1,17 +1,17 @@
 -- What a log holds is what its bytes are read as.
-use Rattle.std.proofs.Common.{◌≡◌, ◌≢◌, ℕ, zero, suc, ◌+◌, ◌-◌, ◌*◌, ◌<◌, ◌≤◌, ◌⊎◌, inl, inr, ⊎_elim, true, false, cond, ltb, List, [], ◌∷◌, ◌++◌, length, get_or, take, drop, Option, Some, None, refl, sym, ◌∙◌, ap, subst, arith, length-append, length-drop, take-suc, take_all}
+use Rattle.std.proofs.Common.{◌≡◌, ◌≢◌, ℕ, zero, suc, ◌+◌, ◌-◌, ◌<◌, ◌≤◌, ◌⊎◌, inl, inr, ⊎_elim, true, false, ltb, List, [], ◌∷◌, ◌++◌, length, get_or, take, drop, Option, Some, None, refl, sym, ◌∙◌, ap, subst, arith, take-suc, take_all}
 use Rattle.std.specs.Prelude.{Ok}
 use Rattle.std.specs.List.{All}
 use Rattle.std.proofs.lemmas.Bool.{cases_eq, cases_lt, cond-true, cond-false, and_from, and_left, eq-eqb, ne_eqb, le-leb, lt-leb, lt-ltb, le-ltb}
 use Rattle.kdb_base.specs.declared.moments.Point.{Point}
 use Rattle.kdb_base.specs.Moments.{micros}
 use Rattle.princ_entries.specs.declared.entries.Logged.{Logged}
-use Rattle.update_log.specs.Slots.{slot_of, slot_bytes, IsClosed, Stands}
-use Rattle.update_log.specs.Logs.{IsMarked, IsRun, IsLog, HoldsIn, newest, marker_of}
+use Rattle.update_log.specs.Slots.{slot_of, slot_bytes}
+use Rattle.update_log.specs.Logs.{IsRun, IsLog, HoldsIn, newest, marker_of}
 use Rattle.update_log.specs.Runs.{stands_in, goes_before, if_before, before, back, is_left, slot_in, entry_in, is_wrong, if_whole, run_in, if_right, last_upto, first_of, log_in}
 use Rattle.update_log.proofs.Rounds.{slot_low}
 use Rattle.update_log.proofs.Firsts.{Below, first_none, last_found}
-use Rattle.update_log.proofs.Entries.{Belongs, slot_there, slot_closed, entry_there, right_there}
+use Rattle.update_log.proofs.Entries.{slot_there, slot_closed, entry_there, right_there}
 
 -- ---- a run that stands in the slots
 

@@ -1,18 +1,17 @@
 -- What the bytes of a log are read as is what the log holds.
-use Rattle.std.proofs.Common.{◌≡◌, ◌≢◌, ℕ, zero, suc, ◌+◌, ◌-◌, ◌*◌, ◌<◌, ◌≤◌, ◌⊎◌, inl, inr, ⊎_elim, true, false, leb, List, [], ◌∷◌, ◌++◌, length, get_or, take, drop, Option, Some, None, refl, sym, ◌∙◌, ap, subst, arith}
-use Rattle.std.specs.Prelude.{Result, Ok, Err}
+use Rattle.std.proofs.Common.{◌≡◌, ◌≢◌, ℕ, suc, ◌+◌, ◌-◌, ◌<◌, ◌≤◌, false, List, length, get_or, Option, Some, None, refl, ◌∙◌, ap, subst, arith}
+use Rattle.std.specs.Prelude.{Result, Ok}
 use Rattle.std.specs.List.{All}
-use Rattle.std.proofs.lemmas.Bool.{cases_lt, leb-false, le-leb, true≢false}
-use Rattle.std.proofs.lemmas.Option.{same_Some}
+use Rattle.std.proofs.lemmas.Bool.{leb-false}
 use Rattle.kdb_base.specs.declared.moments.Point.{Point}
 use Rattle.princ_entries.specs.declared.entries.Logged.{Logged}
 use Rattle.update_log.specs.Slots.{slot_of, slot_bytes, IsClosed, Stands}
-use Rattle.update_log.specs.Logs.{IsMarked, IsRun, IsLog, HoldsIn, newest, marker_of}
-use Rattle.update_log.specs.Runs.{back, is_left, slot_in, entry_in, is_wrong, if_whole, run_in, if_right, last_upto, first_of, log_in}
+use Rattle.update_log.specs.Logs.{IsLog, HoldsIn, newest, marker_of}
+use Rattle.update_log.specs.Runs.{back, is_left, entry_in, is_wrong, if_whole, run_in, if_right, last_upto, first_of, log_in}
 use Rattle.update_log.proofs.Journals.{newest_holds}
 use Rattle.update_log.proofs.Firsts.{LastIs, IsLast, last_is, none_first}
-use Rattle.update_log.proofs.Entries.{Holding, Belongs, slot_holds, slot_shut, there_entry, nothing_there}
-use Rattle.update_log.proofs.Backward.{AreSlots, IsAt, RunsTo, runs_back, back_few, last_at}
+use Rattle.update_log.proofs.Entries.{slot_holds, slot_shut, there_entry, nothing_there}
+use Rattle.update_log.proofs.Backward.{AreSlots, RunsTo, runs_back, back_few, last_at}
 
 -- ---- a reading that gives entries
 

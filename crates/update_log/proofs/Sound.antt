@@ -1,12 +1,12 @@
 -- What is kept in memory of a log stays in its ranges.
-use Rattle.std.proofs.Common.{◌≡◌, ℕ, ◌+◌, ◌-◌, ◌<◌, ◌≤◌, List, [], ◌∷◌, ◌++◌, length, take, drop, refl, sym, ◌∙◌, ap, subst, arith, length-append, length-take, length-drop, take-append-drop, Option, Some, None}
+use Rattle.std.proofs.Common.{◌≡◌, ℕ, ◌+◌, ◌-◌, ◌≤◌, List, ◌++◌, length, take, drop, refl, sym, ◌∙◌, ap, subst, arith, length-append, length-drop, take-append-drop, Option, Some, None}
 use Rattle.std.specs.Prelude.{option_to_list}
 use Rattle.std.specs.List.{All}
 use Rattle.std.proofs.lemmas.List.{append-nil}
 use Rattle.kdb_base.specs.declared.moments.Point.{Point}
 use Rattle.princ_entries.specs.declared.entries.Logged.{Logged}
 use Rattle.update_log.specs.Slots.{IsSpelled}
-use Rattle.update_log.specs.Logs.{IsMarked, IsRun, ComesNext, Journal, IsJournal, HasRoom, newest, begun, marker_of}
+use Rattle.update_log.specs.Logs.{IsMarked, IsRun, Journal, IsJournal, HasRoom, newest, begun, marker_of}
 use Rattle.update_log.proofs.Journals.{all_behind, all_more, run_behind, run_more, next_serial, next_marked, one_only, one_run, base_marked}
 
 -- Entries that run on from a serial, with what holds of each.

@@ -2,3 +2,4 @@ pub mod Slots
 pub mod Logs
 pub mod Moments
 pub mod Runs
+pub mod Scanning

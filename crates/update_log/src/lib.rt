@@ -5,6 +5,9 @@
 mod bodies;
 pub mod laws;
 pub mod log;
+mod reading;
+mod running;
+mod scanning;
 mod slots;
 mod writes;
 

@@ -1,19 +1,24 @@
 ghost use Rattle.std.specs.Prelude.{◌≡◌, ◌≢◌, ◌≤◌, ◌<◌, ◌-◌, ◌+◌, ◌*◌, ◌^◌, ◌∷◌, ◌++◌, All, Contains, length, map, slice_index_or, IfSome, IfOk, OnOk, OnErr, IsErr, IsErrOf, IsTrue, option_to_list, None, Some, Err, [], ℕ};
 ghost use Rattle.kdb_base.specs.declared.outcomes.Halt.TheVariants.{MemoryOut as IsMemoryOut, DiskFault as IsDiskFault};
 ghost use Rattle.kdb_disk.specs.View.{View, IsAfter};
-ghost use Rattle.kdb_disk.specs.Moments.{Differs};
+ghost use Rattle.kdb_base.specs.declared.outcomes.Stop.TheVariants.{Halt as Halts};
+ghost use Rattle.kdb_disk.specs.Moments.{Differs, Keeps};
 ghost use Rattle.kdb_disk.specs.Frames.{IsCall, IsCrashSafe};
 ghost use Rattle.princ_entries.specs.declared.entries.Logged.{Logged};
 ghost use Rattle.std.specs.VecDeque.{deque_len, deque_capacity};
 ghost use Rattle.princ_entries.specs.Entries.{IsOp, logged};
 ghost use Rattle.update_log.specs.Slots.{slot_of, Spells, IsSpelled};
-ghost use Rattle.update_log.specs.Logs.{IsJournal, ComesNext, entry_of, marker_of, with_prepared, log_committed, newest, begun};
+ghost use Rattle.update_log.specs.Logs.{IsJournal, ComesNext, entry_of, log_of, marker_of, with_prepared, log_committed, newest, begun};
 ghost use Rattle.update_log.specs.Moments.{HasLog, HasPrepared, IsDurable, LeavesLog, LeavesEither, ReadsOthers};
+ghost use Rattle.update_log.specs.Scanning.{scanned, Scans};
 
 use crate::bodies::{holds_entry, write_body};
+use crate::running::{hold, holds_ranges};
+use crate::scanning::read_slots;
 use crate::slots::place_of;
 use crate::writes::{write_first, write_next};
-use kdb_base::{Halt, MemoryOut, Point};
+use kdb_base::{Halt, MemoryOut, Point, Stop};
+use kdb_control::Control;
 use kdb_disk::{Disk, DiskFailed, open_gate};
 use princ_rows::laws::entries_have_their_lengths;
 use princ_rows::{Entry, Logged, Op, copy_entry};
@@ -91,6 +96,23 @@ fn queue_of(alloc: Global, base: &Point, with_next: bool) -> Result<VecDeque<Log
     let mut held = VecDeque::with_capacity(alloc, room)?;
     held.push_back(marker_of(base))?;
     Ok(held)
+}
+
+// The log of these entries.
+#[tactic(auto, unfolding(kdb_control::specs::Choice::in_ranges))]
+fn log_under(control: &Control, held: VecDeque<Logged>) -> Log
+    requires len { deque_len held ≡ length held.items }
+    requires journal { IsJournal (log_of control.now.log control.now.base control.now.size control.now.block held.items) }
+    ensures { result ≡ log_of control.now.log control.now.base control.now.size control.now.block held.items }
+{
+    Log {
+        file: control.log,
+        base: control.base,
+        size: control.size,
+        block: control.block,
+        held,
+        prepared: None,
+    }
 }
 
 // The log of the base marker alone.
@@ -195,6 +217,28 @@ impl Log {
         match write_first(disk, file, &body) {
             Ok(()) => Ok(log_of(file, base, size, block, held)),
             Err(_) => Err(Halt::DiskFault),
+        }
+    }
+
+    /// The log of a database whose control file has this in force, read from its file. Refused as damaged
+    /// where a slot is open and no entry of its own stands in it, or one that doesn't run on to the
+    /// last entry, or where no slot is open: at the place of the first such slot.
+    ///
+    /// The file is read once, in pieces, and its entries are kept in memory.
+    pub fn scan<D: Disk>(alloc: Global, disk: &mut D, control: &Control) -> Result<Log, Stop>
+        ensures answer { D.tells → Scans result (scanned control.now ((D.view disk.old).seen control.now.log)) }
+        ensures log { D.tells → IsDurable control.now.log (D.view disk.old) → IfOk result (λ log. HasLog log (D.view disk.new)) }
+        ensures keeps { D.tells → Keeps (D.view disk.old) (D.view disk.new) }
+        ensures call { IsCall D.Disk disk.old disk.new (result ≡ Err (Halts IsDiskFault)) }
+    {
+        holds_ranges(control);
+        let slots = match read_slots(alloc, disk, control) {
+            Ok(slots) => slots,
+            Err(stop) => return Err(stop),
+        };
+        match hold(alloc, control, slots) {
+            Ok(held) => Ok(log_under(control, held)),
+            Err(stop) => Err(stop),
         }
     }
 

@@ -1,4 +1,4 @@
-use Rattle.std.proofs.Common.{List, ◌∙◌, ap, length, sym, subst, refl, None}
+use Rattle.std.proofs.Common.{List, ◌∙◌, ap, length, sym, subst, refl}
 use Rattle.std.specs.VecDeque.{deque_len, deque_capacity}
 use Rattle.princ_entries.specs.declared.entries.Logged.{Logged}
 use Rattle.update_log.specs.Logs.{IsJournal, log_of}
