@@ -3,6 +3,7 @@ use Rattle.std.proofs.Common.{◌≡◌, ℕ, ◌≤◌, ◌<◌, Bool, true, fa
 use Rattle.std.specs.List.{flat_map, list_all}
 use Rattle.std.proofs.lemmas.Bool.Decides.{nat_tests}
 use Rattle.std.proofs.lemmas.Bool.{and_parts}
+use Rattle.kdb_base.specs.Limits.{longest_line}
 use Rattle.kadm_options.specs.OptionValues.{IsFirstBad}
 use Rattle.kadm_options.specs.Options.{SpellsOptions, value_words}
 use Rattle.kadm_options.specs.declared.options.Given.{Given}
@@ -131,7 +132,7 @@ name_refused realm word shape r refusal named others is h =
 
 -- ---- words are no longer than their line
 
-pub short_word : (word : List ℕ) (words : List (List ℕ)) → words ≡ word ∷ [] → AreShort words → length word ≤ 65536
+pub short_word : (word : List ℕ) (words : List (List ℕ)) → words ≡ word ∷ [] → AreShort words → length word ≤ longest_line
 unfolding AreShort
 short_word word words e short = (rw e at short).0
 
@@ -150,7 +151,7 @@ word_short : (word text : List ℕ) → SpellsPlain word text ⊎ SpellsQuoted w
 word_short word text (inl plain) = let e = ap length plain.text_is in omega arith
 word_short word text (inr quotes) = omega (arith, ap length quotes.text_is, length-append (quoted word) (34 ∷ []), length-quoted word)
 
-pub words_short : (words : List (List ℕ)) (line : List ℕ) → SpellsWords words line → length line ≤ 65536 → AreShort words
+pub words_short : (words : List (List ℕ)) (line : List ℕ) → SpellsWords words line → length line ≤ longest_line → AreShort words
 unfolding SpellsWords AreShort
 words_short [] line s fits = tt
 words_short (word ∷ words) line led fits =
@@ -189,28 +190,28 @@ shape_short shape words s short =
 
 -- ---- lines
 
-pub too_long : (line realm : List ℕ) → 65536 < length line → IsReading line realm (Refuses LineTooLong)
+pub too_long : (line realm : List ℕ) → longest_line < length line → IsReading line realm (Refuses LineTooLong)
 unfolding IsReading
 too_long line realm long = long
 
-pub comment_skipped : (line realm : List ℕ) → length line ≤ 65536 → IsComment line → IsReading line realm Skipped
+pub comment_skipped : (line realm : List ℕ) → length line ≤ longest_line → IsComment line → IsReading line realm Skipped
 unfolding IsReading
 comment_skipped line realm short comment = record { short = short; skipped = inl comment }
 
-pub empty_skipped : (line realm : List ℕ) (words : List (List ℕ)) → length line ≤ 65536 → SpellsWords words line → words ≡ [] → IsReading line realm Skipped
+pub empty_skipped : (line realm : List ℕ) (words : List (List ℕ)) → length line ≤ longest_line → SpellsWords words line → words ≡ [] → IsReading line realm Skipped
 unfolding IsReading
 empty_skipped line realm words short s e =
     let P : List (List ℕ) → Type 0 = λ ws. SpellsWords ws line in
     record { short = short; skipped = inr (subst P e s) }
 
-words_line : (line : List ℕ) (words : List (List ℕ)) → length line ≤ 65536 → (IsComment line → ⊥) → SpellsWords words line → (words ≡ [] → ⊥) → IsLine line
+words_line : (line : List ℕ) (words : List (List ℕ)) → length line ≤ longest_line → (IsComment line → ⊥) → SpellsWords words line → (words ≡ [] → ⊥) → IsLine line
 words_line line words short said s some = record {
   short = short;
   said = λ skipped. elim skipped [ inl comment ↦ said comment | inr empty ↦ some (one_split line words [] s empty) ];
 }
 
 -- a line that no words spell
-pub unspelled_bad : (line realm : List ℕ) → length line ≤ 65536 → (IsComment line → ⊥) → ((words : List (List ℕ)) → SpellsWords words line → ⊥)
+pub unspelled_bad : (line realm : List ℕ) → length line ≤ longest_line → (IsComment line → ⊥) → ((words : List (List ℕ)) → SpellsWords words line → ⊥)
     → IsReading line realm (Refuses BadLine)
 unfolding IsReading
 unspelled_bad line realm short said none = record {
@@ -249,7 +250,7 @@ words_then_line : (line realm : List ℕ) (words : List (List ℕ)) (reading : R
 words_then_line line realm words reading is s (inl w) = line_gives line realm words reading is s w
 words_then_line line realm words reading is s (inr b) = broken_bad line realm words reading is s b
 
-pub line_read : {E : Type 0} (line realm : List ℕ) (words : List (List ℕ)) (r : Result Reading E) → length line ≤ 65536 → (IsComment line → ⊥) → SpellsWords words line
+pub line_read : {E : Type 0} (line realm : List ℕ) (words : List (List ℕ)) (r : Result Reading E) → length line ≤ longest_line → (IsComment line → ⊥) → SpellsWords words line
     → (words ≡ [] → ⊥) → IfOk r (λ x. IsWordsRead realm words x) → IfOk r (λ x. IsReading line realm x)
 line_read line realm words (Err e) short said s some h = h
 line_read line realm words (Ok reading) short said s some h = words_then_line line realm words reading (words_line line words short said s some) s h

@@ -2,10 +2,11 @@
 use Rattle.std.proofs.Common.{◌≡◌, ℕ, ◌≤◌, ◌<◌, Bool, true, false, nat_lt, Option, Some, None, option_map, Ok, List, [], ◌∷◌, length, inl, inr, refl, sym, ap, subst, ◌∙◌, arith, if◌then◌else◌}
 use Rattle.std.proofs.lemmas.Bool.{cases_Bool}
 use Rattle.std.proofs.lemmas.Bool.Decides.{nat_tests}
+use Rattle.kdb_base.specs.Limits.{longest_line}
 use Rattle.kadm_options.specs.Options.{options_from}
 use Rattle.kadm_wire.specs.Arguments.{Shape, SpellsShape, named_by, verb_named, is_whole}
 use Rattle.kadm_wire.specs.LineReadings.{command_reading, shape_by, shape_in, shape_reading, words_reading, is_comment, line_reading, answer, reading}
-use Rattle.kadm_wire.specs.Lines.{longest_line, IsComment, SpellsLine, IsLine, ReadsCommand, IsBadLine, IsPassedOver, IsReading}
+use Rattle.kadm_wire.specs.Lines.{IsComment, SpellsLine, IsLine, ReadsCommand, IsBadLine, IsPassedOver, IsReading}
 use Rattle.kadm_wire.specs.Reads.{IsWordsRead}
 use Rattle.kadm_wire.specs.Splitting.{words_from}
 use Rattle.kadm_wire.specs.Steps.{IsRead}
@@ -60,7 +61,7 @@ shape_said : (realm : List ℕ) (words : List (List ℕ)) (r : Option Shape) →
 shape_said realm words None none = none_whole realm words none
 shape_said realm words (Some shape) s = whole_read realm words shape (is_whole shape) s refl
 
-words_said : (realm line : List ℕ) (r : Option (List (List ℕ))) → length line ≤ 65536 → (IsComment line → ⊥) → words_from Between line ≡ r
+words_said : (realm line : List ℕ) (r : Option (List (List ℕ))) → length line ≤ longest_line → (IsComment line → ⊥) → words_from Between line ≡ r
     → IsReading line realm (words_reading realm r)
 unfolding words_reading
 words_said realm line None short said e = unspelled_bad line realm short said (split_is line None e)
@@ -69,7 +70,7 @@ words_said realm line (Some (word ∷ words)) short said e =
     line_read {E = ℕ} line realm (word ∷ words) (Ok (shape_reading realm (shape_in (word ∷ words)))) short said (words_spelled line (word ∷ words) e) (λ none. (cc))
     (shape_said realm (word ∷ words) (shape_in (word ∷ words)) (shape_is_read word words))
 
-comment_said : (realm line : List ℕ) (comment : Bool) → length line ≤ 65536 → is_comment line ≡ comment
+comment_said : (realm line : List ℕ) (comment : Bool) → length line ≤ longest_line → is_comment line ≡ comment
     → IsReading line realm (if comment then Skipped else words_reading realm (words_from Between line))
 comment_said realm line true short is = comment_skipped line realm short (tested_comment line is)
 comment_said realm line false short is =

@@ -1,11 +1,12 @@
 -- What a line says, as a function of its bytes.
 use Rattle.std.specs.Prelude.{ℕ, Bool, false, ◌==◌, nat_lt, if◌then◌else◌, List, [], ◌∷◌, length, Option, Some, None, Result, Ok, Err}
 use Rattle.std.specs.List.{filter_map}
+use Rattle.kdb_base.specs.Limits.{longest_line}
 use Rattle.kadm_options.specs.OptionValues.{first_bad_in, flag_of, seconds_given}
 use Rattle.kadm_options.specs.declared.options.Given.{Given}
 use Rattle.kadm_options.specs.declared.options.OptionName.TheVariants.{Expire, PwExpire, MaxLife, MaxRenewLife}
 use Rattle.kadm_wire.specs.Arguments.{Shape, verb_named, is_whole, shape_behind}
-use Rattle.kadm_wire.specs.Lines.{longest_line, is_glob_word, whole_glob}
+use Rattle.kadm_wire.specs.Lines.{is_glob_word, whole_glob}
 use Rattle.kadm_wire.specs.Splitting.{words_from}
 use Rattle.kadm_wire.specs.declared.lines.Reading.{Reading}
 use Rattle.kadm_wire.specs.declared.lines.Reading.TheVariants.{Skipped, Says, Refuses}

@@ -1,6 +1,7 @@
 -- Lines of administrators, and what they say.
 use Rattle.std.specs.Prelude.{ℕ, ◌≡◌, ◌<◌, ◌≤◌, ◌⊎◌, Bool, true, false, not, ◌==◌, List, [], ◌∷◌, ◌++◌, length, Option, Some, None, if◌then◌else◌}
 use Rattle.std.specs.List.{list_any, list_all}
+use Rattle.kdb_base.specs.Limits.{longest_line}
 use Rattle.kadm_wire.specs.Arguments.{Shape, SpellsShape, has_fields, is_whole}
 use Rattle.kadm_options.specs.OptionValues.{IsFirstBad}
 use Rattle.kadm_wire.specs.Values.{SpellsFields}
@@ -17,10 +18,6 @@ use Rattle.kdb_model.specs.declared.commands.Command.TheVariants.{AddPrinc, ModP
 use Rattle.princ_name.specs.Answers.{IsRefusedAt}
 use Rattle.princ_name.specs.Names.{NameParts, IsName}
 use Rattle.princ_name.specs.Spelling.{Spells}
-
--- the most bytes of a line
-abbrev pub longest_line : ℕ
-longest_line = 65536
 
 -- a line that begins with #
 pub record IsComment (line : List ℕ) : Type 0 where

@@ -1,5 +1,6 @@
 -- What is read from parts of a line.
 use Rattle.std.specs.Prelude.{ℕ, ◌≡◌, ◌≤◌, ◌⊎◌, true, List, [], ◌∷◌, length, Result, Ok, Err}
+use Rattle.kdb_base.specs.Limits.{longest_line}
 use Rattle.kadm_wire.specs.Arguments.{Shape, SpellsShape, is_whole}
 use Rattle.kadm_wire.specs.Lines.{SpellsOwnName, Gives}
 use Rattle.kadm_wire.specs.declared.lines.Reading.{Reading}
@@ -32,4 +33,4 @@ IsWordsRead realm words reading = WordsGive realm words reading ⊎ WordsBreak w
 -- words of a line that is no longer than lines may be
 unfoldable pub AreShort : List (List ℕ) → Type 0
 AreShort [] = Unit {0}
-AreShort (word ∷ words) = (length word ≤ 65536) × AreShort words
+AreShort (word ∷ words) = (length word ≤ longest_line) × AreShort words

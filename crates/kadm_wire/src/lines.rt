@@ -2,6 +2,7 @@
 
 ghost use Rattle.std.specs.Prelude.{List, ℕ, ◌≡◌, ◌≤◌, ◌==◌, [], ◌∷◌, true, false, Ok, Err, IfOk, IfSome, None, Some, length};
 ghost use Rattle.std.specs.List.{list_any};
+ghost use Rattle.kdb_base.specs.Limits.{longest_line};
 ghost use Rattle.kadm_wire.specs.Arguments.{Shape, has_fields, is_whole};
 ghost use Rattle.kadm_wire.specs.LineReadings.{reading};
 ghost use Rattle.kadm_wire.specs.Lines.{Gives, IsComment, IsOn, IsReading, has_name, whole_glob};
@@ -16,13 +17,11 @@ use crate::arguments::{Arguments, is_whole, read_arguments};
 use crate::values::read_fields;
 use crate::verbs::Verb;
 use crate::words::split_words;
+use kdb_base::limits::MAX_LINE_LEN;
 use kdb_base::{Blob, Field, Halt, MemoryOut, Refusal, Stop};
 use kdb_model::{AddPrinc, Command, ModPrinc, PrincOptions, is_glob};
 use princ_name::{Name, NameFault, parse_own_name};
 use std::alloc::Global;
-
-/// The most bytes of a line.
-const LONGEST_LINE: usize = 65_536;
 
 /// What is read from a line.
 #[derive(Debug, Drop)]
@@ -37,7 +36,7 @@ pub enum Reading {
 
 // The name of this realm that a word spells, or why it spells none.
 fn read_name(alloc: Global, word: &[u8], realm: &[u8]) -> Result<Result<Name, Refusal>, MemoryOut>
-    requires { length word.now ≤ 65536 }
+    requires { length word.now ≤ longest_line }
     ensures { IfOk result (λ name. IsNameRead word.now realm.now name) }
 {
     match parse_own_name(alloc, word, realm) {
@@ -86,7 +85,7 @@ fn read_on_name(
 ) -> Result<Reading, MemoryOut>
     requires named { has_name arguments.now.verb ≡ true }
     requires one { arguments.now.others.items ≡ word.now ∷ [] }
-    requires short { length word.now ≤ 65536 }
+    requires short { length word.now ≤ longest_line }
     ensures { IfOk result (λ r. Gives realm.now (shape_of arguments.now) r) }
 {
     match read_name(alloc, word, realm)? {
@@ -146,7 +145,7 @@ fn read_with_word(
     realm: &[u8],
 ) -> Result<Reading, MemoryOut>
     requires one { arguments.now.others.items ≡ word.now ∷ [] }
-    requires short { length word.now ≤ 65536 }
+    requires short { length word.now ≤ longest_line }
     ensures { IfOk result (λ r. Gives realm.now (shape_of arguments.now) r) }
 {
     match arguments.verb {
@@ -194,7 +193,7 @@ fn is_comment(line: &[u8]) -> bool
 
 // What a line of at most so many bytes says that is no comment.
 fn read_said(alloc: Global, line: &[u8], realm: &[u8]) -> Result<Reading, MemoryOut>
-    requires short { length line.now ≤ 65536 }
+    requires short { length line.now ≤ longest_line }
     requires said { IsComment line.now → ⊥ }
     ensures { IfOk result (λ r. IsReading line.now realm.now r) }
 {
@@ -214,7 +213,7 @@ fn read_said(alloc: Global, line: &[u8], realm: &[u8]) -> Result<Reading, Memory
 pub fn read_line(alloc: Global, line: &[u8], realm: &[u8]) -> Result<Reading, MemoryOut>
     ensures { IfOk result (λ r. IsReading line.now realm.now r) }
 {
-    if line.len() > LONGEST_LINE {
+    if line.len() > MAX_LINE_LEN {
         return Ok(Reading::Refuses(Refusal::LineTooLong));
     }
     if is_comment(line) {
