@@ -12,6 +12,7 @@ ghost use Rattle.dump_text.specs.Parts.{Holds};
 
 use crate::lines::{push_end, push_head, push_policy, push_princ};
 use crate::stops::{DumpStop, WriteStop};
+use kdb_base::limits::MAX_ROW_LEN;
 use kdb_base::{MemoryOut, Point};
 use kdb_ports::{Sink, WriteFailed, write_whole};
 use policy_rules::Policy;
@@ -22,8 +23,8 @@ use std::alloc::Global;
 /// So many bytes are written at once, but for the last ones.
 const PAGE: usize = 65536;
 
-/// What the buffer holds at most: a page, and a line behind it.
-const ROOM: usize = 97600;
+/// What the buffer holds at most: a page, and behind it a line, which spells a row in hexadecimal behind a word.
+const ROOM: usize = PAGE + 2 * MAX_ROW_LEN + 64;
 
 /// Writes what is held, once it is a page.
 fn pass_on<K: Sink>(sink: &mut K, out: &mut Vec<u8>) -> Result<(), WriteFailed>

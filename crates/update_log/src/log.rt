@@ -20,7 +20,7 @@ use crate::writes::{write_first, write_next};
 use kdb_base::{Halt, MemoryOut, Point, Stop};
 use kdb_control::Control;
 use kdb_disk::{Disk, DiskFailed, open_gate};
-use princ_rows::laws::entries_have_their_lengths;
+use princ_entries::laws::entries_have_their_lengths;
 use princ_rows::{Entry, Logged, Op, copy_entry};
 use std::alloc::Global;
 use std::collections::VecDeque;
