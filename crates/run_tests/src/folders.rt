@@ -20,7 +20,7 @@ fn new_folder(rt: &HostRuntime) -> Result<String, Fail> {
     let alloc = rt.alloc();
     let place = std::env::temp_dir(rt)?;
     for number in 0..10_000 {
-        let path = format!(in alloc; "{}/kdb_rows-{number}", place.as_str())?;
+        let path = format!(in alloc; "{}/run_tests-{number}", place.as_str())?;
         if fs::create_dir(rt, path.as_str()).is_ok() {
             return Ok(path);
         }
