@@ -149,7 +149,7 @@ pub fn is_reused(
     ensures reused { (plain : List PlainSet) → AllZip (ShowsSet history.now) old.now plain → MatchResult result (λ reused. reused ≡ is_reused fresh.now keys.now plain) (λ fault. fault ≡ Unopened.MemoryOut) }
 {
     match open_sets(alloc, history, old) {
-        Ok(sets) => Ok(kdb_plain::is_reused(fresh, keys, sets.as_slice())),
+        Ok(sets) => Ok(plain_keys::is_reused(fresh, keys, sets.as_slice())),
         Err(fault) => Err(fault),
     }
 }
