@@ -4,7 +4,7 @@ use Rattle.std.specs.List.{All, AllZip}
 use Rattle.kdb_base.specs.Key.{Key}
 use Rattle.kdb_base.specs.Limits.{most_keys}
 use Rattle.kdb_base.specs.declared.versions.Master.{Master}
-use Rattle.kdb_model.specs.Rekeying.{Taking, Work, may_settle, other_record, other_version}
+use Rattle.kdb_model.specs.Rekeying.{Take, Ready, TakenAlready, Taking, Work, may_settle, other_record, other_version}
 use Rattle.kdb_plain.specs.States.{master_of}
 use Rattle.master_keys.specs.Rewrapping.{Holds, HoldsOne}
 use Rattle.princ_record.specs.Princs.{IsPrinc}
@@ -43,6 +43,11 @@ pub record IsOpenedBy (masters : List Master) (p : Princ) : Type 0 where
   pub master : Key
   pub listed : master_of masters p.mkvno ≡ Some master
   pub opens : All (HoldsOne master) p.keys
+
+-- what is taken, as the model has it
+abbrev pub taken_as : Option Taking → Take
+taken_as None = TakenAlready
+taken_as (Some t) = Ready t
 
 -- what becomes of work that comes back to the record that stands by the name now, under these master keys and this active version
 unfoldable pub settled_with : Option Princ → List Master → ℕ → Work → Settled

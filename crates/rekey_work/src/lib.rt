@@ -5,6 +5,8 @@
 pub mod rewrapping;
 pub mod settling;
 pub mod taking;
+#[cfg(test)]
+mod tests;
 pub mod works;
 
 pub use rewrapping::rewrap_outside;

@@ -14,6 +14,7 @@ use std::alloc::Global;
 /// # Errors
 ///
 /// What was taken, and `MemoryOut`, where memory is wanted and not given.
+#[tactic(auto, using(crate::proofs::ItemLemmas::work_of))]
 pub fn rewrap_outside(
     alloc: Global,
     taken: Taken,
@@ -24,7 +25,14 @@ pub fn rewrap_outside(
     ensures back { IfErr result (λ fault. fault.0 ≡ taken) }
 {
     taken.holds();
-    match rewrap(alloc, taken.princ(), taken.old(), taken.version(), taken.fresh(), random) {
+    match rewrap(
+        alloc,
+        taken.princ(),
+        taken.old(),
+        taken.version(),
+        taken.fresh(),
+        random,
+    ) {
         Ok(made) => Ok(Rewrapped::new(taken, made)),
         Err(_) => Err((taken, MemoryOut)),
     }

@@ -2,6 +2,7 @@
 
 ghost use Rattle.std.specs.Prelude.{◌≡◌, IfOk, IfSome, Some, option_map};
 ghost use Rattle.kdb_model.specs.Rekeying.{has_keys, is_key, is_record, is_version, unless_same};
+ghost use Rattle.kdb_plain.specs.States.{master_of};
 ghost use Rattle.policy_rules.specs.Reuse.{is_same_key};
 ghost use Rattle.princ_record.specs.Princs.{IsPrinc, princ};
 ghost use Rattle.rekey_work.specs.Works.{settled_with};
@@ -80,7 +81,7 @@ pub fn settle(
     active: u16,
     made: Rewrapped,
 ) -> Result<Settled, MemoryOut>
-    requires { IfSome now.entry (λ stored. IsPrinc stored.now) }
+    requires { IfSome now (λ stored. IsPrinc stored.now) }
     ensures { IfOk result (λ s. s ≡ settled_with (option_map (λ stored. stored.now) now.entry) masters.now active made) }
 {
     let Some(stored) = now else {

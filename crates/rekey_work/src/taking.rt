@@ -1,10 +1,11 @@
 //! Taking a record for a rekeying.
 
-ghost use Rattle.std.specs.Prelude.{◌≡◌, ◌≢◌, ◌<◌, ◌≤◌, IfOk, IfSome, None, Ok, Some, length};
+ghost use Rattle.std.specs.Prelude.{◌≡◌, ◌≢◌, ◌<◌, ◌≤◌, IfOk, None, Some, length};
 ghost use Rattle.kdb_base.specs.Limits.{most_keys};
+ghost use Rattle.kdb_model.specs.Rekeying.{take_to};
 ghost use Rattle.kdb_plain.specs.States.{master_of};
 ghost use Rattle.princ_record.specs.Princs.{IsPrinc};
-ghost use Rattle.rekey_work.specs.Works.{IsOpenedBy};
+ghost use Rattle.rekey_work.specs.Works.{IsOpenedBy, taken_as};
 
 use crate::works::Taken;
 use kdb_base::{Masters, MemoryOut};
@@ -13,11 +14,12 @@ use princ_record::{Princ, copy};
 use std::alloc::Global;
 
 /// What a worker is given to move the keys of a record under the active version of the master key. None exactly where it
-/// is under that version.
+/// is under that version already.
 ///
 /// # Errors
 ///
 /// `MemoryOut` where memory is wanted and not given.
+#[tactic(auto, unfolding(kdb_model::specs::Rekeying::take_to, kdb_model::specs::Rekeying::ready))]
 pub fn take(
     alloc: Global,
     princ: &Princ,
@@ -30,18 +32,15 @@ pub fn take(
     requires opened { IsOpenedBy masters.now princ.now }
     requires numbered { 0 < active }
     requires listed { master_of masters.now active ≢ None }
-    ensures there { result ≡ Ok None → active ≡ princ.now.mkvno }
-    ensures princ { IfOk result (λ found. IfSome found (λ t. t.princ ≡ princ.now)) }
-    ensures version { IfOk result (λ found. IfSome found (λ t. t.version ≡ active)) }
-    ensures old { IfOk result (λ found. IfSome found (λ t. master_of masters.now princ.now.mkvno ≡ Some t.old)) }
-    ensures fresh { IfOk result (λ found. IfSome found (λ t. master_of masters.now active ≡ Some t.fresh)) }
+    ensures { IfOk result (λ found. taken_as found ≡ take_to masters.now princ.now (Some active)) }
 {
     if active == princ.mkvno {
         return Ok(None);
     }
+    let (Some(old), Some(fresh)) = (master_of(masters, princ.mkvno), master_of(masters, active))
+    else {
+        return Ok(None);
+    };
     let princ = copy(alloc, princ)?;
-    match (master_of(masters, princ.mkvno), master_of(masters, active)) {
-        (Some(old), Some(fresh)) => Ok(Some(Taken::new(princ, active, old, fresh))),
-        _ => Ok(None),
-    }
+    Ok(Some(Taken::new(princ, active, old, fresh)))
 }
