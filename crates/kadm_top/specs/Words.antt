@@ -1,6 +1,7 @@
 -- What the words of a run ask for.
-use Rattle.std.specs.Prelude.{ℕ, List, [], ◌∷◌, Bool, true, false, ◌||◌, codes, Option, Some, None, if◌then◌else◌}
+use Rattle.std.specs.Prelude.{ℕ, List, [], ◌∷◌, Bool, true, false, codes, Option, Some, None, if◌then◌else◌}
 use Rattle.std.specs.Str.{bytes_eq}
+use Rattle.kadm_top.specs.declared.alone.TheConstants.{USAGE, VERSION}
 use Rattle.kadm_top.specs.declared.words.Words.{Words}
 use Rattle.kadm_top.specs.declared.words.Words.TheVariants.{Admin, Create, Destroy}
 
@@ -33,7 +34,7 @@ words_in (word ∷ words) = words_behind word words
 
 -- the text that a word asks for where it stands alone
 abbrev pub text_for : List ℕ → Option (List ℕ)
-text_for word = if bytes_eq word (codes "--help") then Some USAGE else if bytes_eq word (codes "--version") then Some VERSION else None
+text_for word = if bytes_eq word (codes "--help") then Some USAGE.now else if bytes_eq word (codes "--version") then Some VERSION.now else None
 
 -- what the only word asks for
 unfoldable pub alone_text : List (List ℕ) → Option (List ℕ)
