@@ -20,8 +20,8 @@ use crate::clients::local_client;
 use crate::replies::{Printed, print};
 use kdb_base::{Halt, Point, Refusal, Stop, Time};
 use kdb_disk::Disk;
-use keyless_model::{Command, Planned, Reply, plan};
 use kdb_store::Opened;
+use keyless_model::{Command, Planned, Reply, plan};
 use princ_rows::Op;
 use std::alloc::Global;
 

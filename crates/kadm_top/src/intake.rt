@@ -6,10 +6,10 @@ ghost use Rattle.kadm_top.specs.Intake.{coming, Comes, IsValid, HasTaken};
 
 use crate::halts::ReadHalt;
 use kadm_lines::{LineReader, NextLine};
-use keyless_wire::parse_line;
 use kdb_base::{MemoryOut, Refusal, Stop};
-use keyless_model::Command;
 use kdb_ports::Source;
+use keyless_model::Command;
+use keyless_wire::parse_line;
 use std::alloc::Global;
 
 /// What a line of the input asks for.

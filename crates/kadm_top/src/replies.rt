@@ -6,10 +6,10 @@ ghost use Rattle.kdb_ports.specs.Parts.{SaidPart};
 ghost use Rattle.kadm_top.specs.Replies.{ended_text, text_in};
 
 use crate::halts::SayHalt;
-use keyless_wire::print_reply;
 use kdb_base::{Blob, MemoryOut};
-use keyless_model::Reply;
 use kdb_ports::{Sink, WriteFailed, write_whole};
+use keyless_model::Reply;
+use keyless_wire::print_reply;
 use std::alloc::Global;
 
 /// The answer to `destroy`.

@@ -19,9 +19,9 @@ use crate::replies::{Printed, print, write_any};
 use kadm_lines::LineReader;
 use kdb_base::Halt;
 use kdb_disk::Disk;
-use keyless_model::Reply;
 use kdb_ports::{Clock, Sink, Source};
 use kdb_store::Opened;
+use keyless_model::Reply;
 use std::alloc::Global;
 
 /// Whether the reply is a refusal.

@@ -6,8 +6,8 @@ ghost use Rattle.kdb_plain.specs.Heads.{plain_head, plain_of};
 use crate::copies::copy_name;
 use crate::princs::PlainPrinc;
 use kdb_base::MemoryOut;
-use princ_record::{Keys, OldSets, Princ};
 use plain_keys::{PlainItems, PlainSets};
+use princ_record::{Keys, OldSets, Princ};
 use std::alloc::Global;
 use tagged_data::Copied;
 

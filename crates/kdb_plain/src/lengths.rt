@@ -11,9 +11,9 @@ ghost use Rattle.kdb_plain.specs.Heads.{plain_head};
 ghost use Rattle.kdb_plain.specs.Lengths.{aux_len, aux_lens, chain_len, in_64_bits, item_len, old_key_len, older_masters, row_len, set_len};
 ghost use Rattle.tagged_data.specs.StringLaws.{string_len};
 
-use plain_keys::{PlainItem, PlainSet};
 use crate::princs::PlainPrinc;
 use kdb_base::{Activations, Blob, Etype, Master, Masters, PlainKey, Salt};
+use plain_keys::{PlainItem, PlainSet};
 use tagged_data::{StringAttribute, StringAttributes};
 
 /// The sum of two numbers, each told in 64 bits.

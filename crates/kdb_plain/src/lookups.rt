@@ -6,11 +6,11 @@ ghost use Rattle.kdb_base.specs.Limits.{most_rows};
 ghost use Rattle.master_keys.specs.First.{master_name};
 ghost use Rattle.kdb_plain.specs.States.{first_key, has_policy, history_key, history_name, is_version, master_of, policy_named, princ_named, users_of, uses};
 
-use plain_keys::PlainItem;
 use crate::lists::{PlainPrincs, PolicyList};
 use crate::princs::PlainPrinc;
 use crate::states::State;
 use kdb_base::{Blob, Master, Masters, MemoryOut, PlainKey};
+use plain_keys::PlainItem;
 use policy_rules::Policy;
 use princ_rows::sorted::find_row;
 use std::alloc::Global;

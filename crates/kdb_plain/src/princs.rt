@@ -1,5 +1,5 @@
-use plain_keys::{PlainItems, PlainSets};
 use kdb_base::Blob;
+use plain_keys::{PlainItems, PlainSets};
 use princ_rows::Keyed;
 use tagged_data::StringAttributes;
 

@@ -5,8 +5,8 @@ use super::*;
 use kdb_base::{
     Activation, Activations, Blob, Etype, Master, Masters, MemoryOut, PlainKey, Point, Salt, Time,
 };
-use policy_rules::Policy;
 use plain_keys::{PlainItem, PlainItems, PlainSets, items_of};
+use policy_rules::Policy;
 use std::alloc::Global;
 use std::test::Fail;
 use tagged_data::StringAttributes;

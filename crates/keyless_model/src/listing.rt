@@ -6,8 +6,8 @@ ghost use Rattle.keyless_model.specs.States.{princ_names};
 ghost use Rattle.princ_rows.specs.Rows.{princ_keys};
 ghost use Rattle.keyless_model.specs.Steps.{listed};
 
-use kadm_values::glob_matches;
 use crate::replies::NameList;
+use kadm_values::glob_matches;
 use kdb_base::{Blob, MemoryOut};
 use princ_record::Princ;
 use princ_rows::{Boxed, Rows};

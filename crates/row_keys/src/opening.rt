@@ -11,8 +11,8 @@ ghost use Rattle.row_keys.specs.Shows.{ShowsItem, ShowsOldKey, ShowsSet, ShowsUn
 
 use kdb_base::MemoryOut;
 use kdb_plain::{PlainPrinc, plain_of};
-use plain_keys::{PlainItem, PlainItems, PlainKeys, PlainSet, PlainSets};
 use master_keys::{MasterKey, Unopened};
+use plain_keys::{PlainItem, PlainItems, PlainKeys, PlainSet, PlainSets};
 use princ_keys::{KeyItem, OldKey, OldSet, copy_salt};
 use princ_record::{Princ, copy};
 use std::alloc::Global;

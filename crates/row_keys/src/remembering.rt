@@ -9,8 +9,8 @@ ghost use Rattle.row_keys.specs.Shows.{ShowsOldKey, ShowsSet};
 
 use crate::opening::open_sets;
 use kdb_base::{MemoryOut, PlainKey};
-use plain_keys::{PlainItem, newest_keys, newest_kvno};
 use master_keys::{MasterKey, Unopened};
+use plain_keys::{PlainItem, newest_keys, newest_kvno};
 use princ_keys::{OldKey, OldKeys, OldSet, OldSets};
 use std::alloc::Global;
 

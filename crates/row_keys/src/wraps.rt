@@ -6,8 +6,8 @@ ghost use Rattle.row_keys.specs.Shows.{ShowsItem};
 ghost use Rattle.row_keys.specs.Wraps.{confounder_of, front_len, rekeyed_items, taken_len, taken_lens, wrapped_item, wrapped_items};
 
 use kdb_base::MemoryOut;
-use plain_keys::PlainItem;
 use master_keys::MasterKey;
+use plain_keys::PlainItem;
 use princ_keys::{KeyItem, copy_salt};
 use std::alloc::Global;
 

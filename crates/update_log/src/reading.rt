@@ -13,8 +13,8 @@ use kdb_control::Control;
 use kdb_disk::OPEN;
 use kdb_format::format::read_padded;
 use kdb_format::{FormatFault, Reader};
-use princ_record::is_row_1;
 use princ_entries::entries::{LoggedFormat, kind_of};
+use princ_record::is_row_1;
 use princ_rows::{Logged, Op};
 use std::alloc::Global;
 
