@@ -142,10 +142,11 @@ fn limits_of(alloc: Global, options: &[Given]) -> Result<Limits, MemoryOut>
 
 // Whether the options are restrictions: each has its value, and each setting stands at most once.
 #[tactic(auto, unfolding(crate::specs::Restrictions::are_restrictions))]
-fn are_restrictions(options: &[Given]) -> bool
-    ensures { result ≡ are_restrictions options.now }
+fn are_restrictions(alloc: Global, options: &[Given]) -> Result<bool, MemoryOut>
+    ensures { IfOk result (λ are. are ≡ are_restrictions options.now) }
 {
-    are_single(options) && first_bad(options).is_none()
+    let bad = first_bad(alloc, options)?;
+    Ok(are_single(options) && bad.is_none())
 }
 
 // What the options put in force, of which no words are left.
@@ -153,7 +154,8 @@ fn are_restrictions(options: &[Given]) -> bool
 fn limits_by(alloc: Global, options: &[Given], left: usize) -> Result<Option<Limits>, MemoryOut>
     ensures { IfOk result (λ limits. limits ≡ limits_by options.now left) }
 {
-    if left != 0 || !are_restrictions(options) {
+    let whole = are_restrictions(alloc, options)?;
+    if left != 0 || !whole {
         return Ok(None);
     }
     let limits = limits_of(alloc, options)?;

@@ -1,10 +1,13 @@
 -- The values of options.
-use Rattle.std.specs.Prelude.{ℕ, ◌≡◌, ◌⊎◌, Bool, true, List, [], ◌∷◌, Option, Some, None, is_some, if◌then◌else◌}
+use Rattle.std.specs.Prelude.{ℕ, ◌≡◌, ◌≤◌, ◌⊎◌, Bool, true, ◌&&◌, nat_le, List, [], ◌∷◌, Option, Some, None, is_some, if◌then◌else◌}
 use Rattle.std.specs.List.{filter_map, slice_get}
 use Rattle.std.specs.Str.{bytes_eq}
+use Rattle.std.specs.Option.{option_and_then}
 use Rattle.kadm_values.specs.Durations.{SpellsDuration}
+use Rattle.kadm_values.specs.EtypeWords.{SpellsEtype, SpellsEtypes, etype_named, etypes_in}
+use Rattle.kadm_values.specs.Numbers.{SpellsNumber}
 use Rattle.kadm_options.specs.Options.{option_word}
-use Rattle.kadm_values.specs.Readings.{duration_in, time_in}
+use Rattle.kadm_values.specs.Readings.{duration_in, number_in, time_in}
 use Rattle.kadm_values.specs.Times.{SpellsTime}
 use Rattle.kadm_values.specs.declared.flags.FlagChange.{FlagChange}
 use Rattle.kadm_options.specs.declared.options.Given.{Given}
@@ -12,7 +15,8 @@ use Rattle.kadm_options.specs.declared.options.Given.TheVariants.{Flag, Alone, V
 use Rattle.kadm_options.specs.declared.options.OptionName.{OptionName}
 use Rattle.kadm_options.specs.declared.options.OptionName.TheVariants.{Policy, ClearPolicy}
 use Rattle.kadm_options.specs.declared.options.ValueKind.{ValueKind}
-use Rattle.kadm_options.specs.declared.options.ValueKind.TheVariants.{Time, Duration, PolicyName}
+use Rattle.kadm_options.specs.declared.options.ValueKind.TheVariants.{Time, Duration, PolicyName, Word, EtypeList, OneEtype, Number}
+use Rattle.kdb_base.specs.declared.keys.Etype.{Etype}
 use Rattle.kdb_base.specs.declared.outcomes.Field.{Field}
 use Rattle.policy_rules.specs.Names.{is_policy_name}
 
@@ -22,13 +26,23 @@ use Rattle.policy_rules.specs.Names.{is_policy_name}
 abbrev pub SpellsValue : ValueKind → List ℕ → ℕ → Type 0
 SpellsValue Time word secs = SpellsTime word secs
 SpellsValue Duration word secs = SpellsDuration word secs
-SpellsValue PolicyName word secs = ⊥
+SpellsValue _ word secs = ⊥
+
+-- a number from the least one to the greatest one
+pub record SpellsWithin (least most : ℕ) (word : List ℕ) (number : ℕ) : Type 0 where
+  pub spelled : SpellsNumber word number
+  pub from : least ≤ number
+  pub to : number ≤ most
 
 -- the word spells some such value
-abbrev pub HasValue : ValueKind → List ℕ → Type 0
+unfoldable pub HasValue : ValueKind → List ℕ → Type 0
 HasValue Time word = (secs : ℕ) × SpellsTime word secs
 HasValue Duration word = (secs : ℕ) × SpellsDuration word secs
 HasValue PolicyName word = is_policy_name word ≡ true
+HasValue Word word = Unit {0}
+HasValue EtypeList word = (etypes : List Etype) × SpellsEtypes word etypes
+HasValue OneEtype word = (etype : Etype) × SpellsEtype word etype
+HasValue (Number least most) word = (number : ℕ) × SpellsWithin least most word number
 
 -- the option has a value or needs none
 abbrev pub IsReadable : Given → Type 0
@@ -72,12 +86,23 @@ SpellsField option (first ∷ options) found =
 unfoldable pub seconds_of : ValueKind → List ℕ → Option ℕ
 seconds_of Time word = time_in word
 seconds_of Duration word = duration_in word
-seconds_of PolicyName word = None
+seconds_of _ word = None
+
+abbrev pub kept_within : ℕ → ℕ → ℕ → Option ℕ
+kept_within least most number = if nat_le least number && nat_le number most then Some number else None
+
+-- the number of a word, where it is one from the least to the greatest
+unfoldable pub number_within : ℕ → ℕ → List ℕ → Option ℕ
+number_within least most word = option_and_then (kept_within least most) (number_in word)
 
 unfoldable pub is_readable : ValueKind → List ℕ → Bool
 is_readable Time word = is_some (time_in word)
 is_readable Duration word = is_some (duration_in word)
 is_readable PolicyName word = is_policy_name word
+is_readable Word word = true
+is_readable EtypeList word = is_some (etypes_in word)
+is_readable OneEtype word = is_some (etype_named word)
+is_readable (Number least most) word = is_some (number_within least most word)
 
 -- the field of an option whose word spells no value
 abbrev pub bad_in : Given → Option Field
@@ -96,6 +121,29 @@ seconds_by option (Value setting word) = if is_named option setting.option then 
 
 unfoldable pub seconds_given : OptionName → List Given → Option ℕ
 seconds_given option options = slice_get (filter_map (seconds_by option) options) 0
+
+-- ---- words
+
+-- the option has this name and this word
+abbrev pub GivesWord : OptionName → Given → List ℕ → Type 0
+GivesWord option (Flag change) found = ⊥
+GivesWord option (Alone other) found = ⊥
+GivesWord option (Value setting word) found = (is_named option setting.option ≡ true) × (found ≡ word)
+
+-- the word of the first option that has this name and a word
+unfoldable pub SpellsWordOf : OptionName → List Given → Option (List ℕ) → Type 0
+SpellsWordOf option [] found = found ≡ None
+SpellsWordOf option (first ∷ options) found =
+    ((word : List ℕ) × GivesWord option first word × (found ≡ Some word))
+    ⊎ (((word : List ℕ) → GivesWord option first word → ⊥) × SpellsWordOf option options found)
+
+abbrev pub word_by : OptionName → Given → Option (List ℕ)
+word_by option (Flag change) = None
+word_by option (Alone other) = None
+word_by option (Value setting word) = if is_named option setting.option then Some word else None
+
+unfoldable pub word_given : OptionName → List Given → Option (List ℕ)
+word_given option options = slice_get (filter_map (word_by option) options) 0
 
 -- ---- policies and flags
 

@@ -4,7 +4,7 @@ use Rattle.std.specs.List.{list_all, list_any}
 use Rattle.std.specs.Str.{bytes_eq}
 use Rattle.kadm_values.specs.Flags.{flag_change}
 use Rattle.kadm_options.specs.declared.options.OptionName.{OptionName}
-use Rattle.kadm_options.specs.declared.options.OptionName.TheVariants.{NoKey, Force, Policy, ClearPolicy, Expire, PwExpire, MaxLife, MaxRenewLife}
+use Rattle.kadm_options.specs.declared.options.OptionName.TheVariants.{NoKey, RandKey, Password, KeepOld, Enctypes, Force, ShortForce, Policy, ClearPolicy, Expire, PwExpire, MaxLife, MaxRenewLife, MinLife, MinLength, MinClasses, History, KeepKvno}
 use Rattle.kadm_options.specs.declared.options.Setting.{Setting}
 use Rattle.kadm_options.specs.declared.options.Opening.{Opening}
 use Rattle.kadm_options.specs.declared.options.Opening.TheVariants as opening
@@ -15,13 +15,23 @@ use Rattle.kadm_options.specs.declared.options.Given.TheVariants as given
 
 unfoldable pub option_word : OptionName → List ℕ
 option_word NoKey = codes "-nokey"
+option_word RandKey = codes "-randkey"
+option_word Password = codes "-pw"
+option_word KeepOld = codes "-keepold"
+option_word Enctypes = codes "-e"
 option_word Force = codes "-force"
+option_word ShortForce = codes "-f"
 option_word Policy = codes "-policy"
 option_word ClearPolicy = codes "-clearpolicy"
 option_word Expire = codes "-expire"
 option_word PwExpire = codes "-pwexpire"
 option_word MaxLife = codes "-maxlife"
 option_word MaxRenewLife = codes "-maxrenewlife"
+option_word MinLife = codes "-minlife"
+option_word MinLength = codes "-minlength"
+option_word MinClasses = codes "-minclasses"
+option_word History = codes "-history"
+option_word KeepKvno = codes "-keepkvno"
 
 -- flags have words of their own, and more than one for each change
 unfoldable pub opening_word : Opening → List ℕ
@@ -129,19 +139,17 @@ options_in named words = options_from named None words
 
 -- ---- each at most once
 
--- what an option decides: -policy and -clearpolicy decide the same
+-- what an option decides: -nokey, -randkey and -pw decide the same, how keys are made, and so do -policy and -clearpolicy
 unfoldable pub choice_of : OptionName → OptionName
-choice_of NoKey = NoKey
-choice_of Force = Force
-choice_of Policy = Policy
+choice_of RandKey = NoKey
+choice_of Password = NoKey
 choice_of ClearPolicy = Policy
-choice_of Expire = Expire
-choice_of PwExpire = PwExpire
-choice_of MaxLife = MaxLife
-choice_of MaxRenewLife = MaxRenewLife
+choice_of option = option
 
 unfoldable pub choices : List OptionName
-choices = NoKey ∷ Force ∷ Policy ∷ Expire ∷ PwExpire ∷ MaxLife ∷ MaxRenewLife ∷ []
+choices =
+    NoKey ∷ KeepOld ∷ Enctypes ∷ Force ∷ ShortForce ∷ Policy ∷ Expire ∷ PwExpire ∷ MaxLife ∷ MaxRenewLife ∷ MinLife ∷ MinLength ∷ MinClasses ∷ History
+    ∷ KeepKvno ∷ []
 
 abbrev pub choice_given : Given → Option OptionName
 choice_given (given.Flag change) = None
@@ -161,3 +169,12 @@ are_single options = list_all (λ choice. nat_le (count_by (is_of choice) option
 
 unfoldable pub is_chosen : OptionName → List Given → Bool
 is_chosen choice options = list_any (is_of choice) options
+
+abbrev pub is_this : OptionName → Given → Bool
+is_this option (given.Flag change) = false
+is_this option (given.Alone other) = bytes_eq (option_word other) (option_word option)
+is_this option (given.Value setting value) = bytes_eq (option_word setting.option) (option_word option)
+
+-- an option of this name is among the options
+unfoldable pub is_given : OptionName → List Given → Bool
+is_given option options = list_any (is_this option) options

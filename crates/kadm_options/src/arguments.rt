@@ -9,7 +9,7 @@ use kdb_base::{Blob, MemoryOut};
 use std::alloc::Global;
 
 /// The options in front of words.
-#[derive(Debug, Drop)]
+#[derive(Drop)]
 pub struct LeadingOptions {
     /// In the order of the words.
     pub options: Vec<Given>,

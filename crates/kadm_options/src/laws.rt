@@ -1,7 +1,7 @@
 //! Laws of options. They do no work.
 
 ghost use Rattle.std.specs.Prelude.{List, ℕ, ◌≡◌, ◌↔◌, Option, Some, None};
-ghost use Rattle.kadm_options.specs.OptionValues.{AreReadable, IsFirstBad, SpellsField, SpellsValue, first_bad_in, seconds_given};
+ghost use Rattle.kadm_options.specs.OptionValues.{AreReadable, IsFirstBad, SpellsField, SpellsValue, SpellsWithin, SpellsWordOf, first_bad_in, number_within, seconds_given, word_given};
 ghost use Rattle.kadm_options.specs.Options.{OptionParts, SpellsParts, options_in};
 ghost use Rattle.kadm_options.specs.declared.options.Given.{Given};
 ghost use Rattle.kadm_options.specs.declared.options.Opening.{Opening};
@@ -30,4 +30,16 @@ pub fn first_bad_value_is_found()
 pub fn seconds_are_spelled()
     ensures { (option : OptionName) (options : List Given) (found : Option ℕ)
         → (seconds_given option options ≡ found) ↔ SpellsField option options found }
+{}
+
+/// The word of an option is that of the first one of its name.
+pub fn words_are_spelled()
+    ensures { (option : OptionName) (options : List Given) (found : Option (List ℕ))
+        → (word_given option options ≡ found) ↔ SpellsWordOf option options found }
+{}
+
+/// A number is read within its range just where the word spells it.
+pub fn numbers_are_spelled()
+    ensures { (least most : ℕ) (word : List ℕ) (number : ℕ)
+        → (number_within least most word ≡ Some number) ↔ SpellsWithin least most word number }
 {}

@@ -3,7 +3,7 @@
 ghost use Rattle.std.specs.Prelude.{◌≡◌, count_by, find, nat_le};
 ghost use Rattle.std.specs.List.{list_all, list_any};
 ghost use Rattle.std.specs.Str.{bytes_eq};
-ghost use Rattle.kadm_options.specs.Options.{are_single, choice_given, choice_of, choices, ends_options, flag_opening, is_chosen, is_dashes, is_for, is_of, is_signed, opening_word, option_named, option_word};
+ghost use Rattle.kadm_options.specs.Options.{are_single, choice_given, choice_of, choices, ends_options, flag_opening, is_chosen, is_dashes, is_for, is_given, is_of, is_signed, is_this, opening_word, option_named, option_word};
 
 use kadm_values::bytes::is_same;
 use kadm_values::{FlagChange, read_flag};
@@ -14,8 +14,18 @@ use kdb_base::{Blob, Field};
 pub enum OptionName {
     /// `-nokey`.
     NoKey,
+    /// `-randkey`.
+    RandKey,
+    /// `-pw`.
+    Password,
+    /// `-keepold`.
+    KeepOld,
+    /// `-e`.
+    Enctypes,
     /// `-force`.
     Force,
+    /// `-f`.
+    ShortForce,
     /// `-policy`.
     Policy,
     /// `-clearpolicy`.
@@ -28,6 +38,16 @@ pub enum OptionName {
     MaxLife,
     /// `-maxrenewlife`.
     MaxRenewLife,
+    /// `-minlife`.
+    MinLife,
+    /// `-minlength`.
+    MinLength,
+    /// `-minclasses`.
+    MinClasses,
+    /// `-history`.
+    History,
+    /// `-keepkvno`.
+    KeepKvno,
 }
 
 /// What the value of an option is.
@@ -39,6 +59,14 @@ pub enum ValueKind {
     Duration,
     /// The name of a policy.
     PolicyName,
+    /// Any word.
+    Word,
+    /// A list of encryption types.
+    EtypeList,
+    /// The word of one encryption type.
+    OneEtype,
+    /// A number from the one to the other.
+    Number(u16, u16),
 }
 
 /// An option whose value is the next word.
@@ -62,8 +90,8 @@ pub enum Opening {
     Value(Setting),
 }
 
-/// An option as a line gives it.
-#[derive(Debug, Drop)]
+/// An option as a line gives it. It does not print itself: its word may be a password.
+#[derive(Drop)]
 pub enum Given {
     /// `+flag` or `-flag`.
     Flag(FlagChange),
@@ -74,18 +102,26 @@ pub enum Given {
 }
 
 // What lines decide by options that are no flags.
-static CHOICES: [OptionName; 7] = [
+static CHOICES: [OptionName; 15] = [
     OptionName::NoKey,
+    OptionName::KeepOld,
+    OptionName::Enctypes,
     OptionName::Force,
+    OptionName::ShortForce,
     OptionName::Policy,
     OptionName::Expire,
     OptionName::PwExpire,
     OptionName::MaxLife,
     OptionName::MaxRenewLife,
+    OptionName::MinLife,
+    OptionName::MinLength,
+    OptionName::MinClasses,
+    OptionName::History,
+    OptionName::KeepKvno,
 ];
 
 #[tactic(auto, unfolding(crate::specs::Options::choices))]
-fn known_choices() -> &'static [OptionName; 7]
+fn known_choices() -> &'static [OptionName; 15]
     ensures { result.now ≡ choices }
 {
     &CHOICES
@@ -97,13 +133,23 @@ fn option_word(option: OptionName) -> &'static [u8]
 {
     match option {
         OptionName::NoKey => b"-nokey".as_slice(),
+        OptionName::RandKey => b"-randkey".as_slice(),
+        OptionName::Password => b"-pw".as_slice(),
+        OptionName::KeepOld => b"-keepold".as_slice(),
+        OptionName::Enctypes => b"-e".as_slice(),
         OptionName::Force => b"-force".as_slice(),
+        OptionName::ShortForce => b"-f".as_slice(),
         OptionName::Policy => b"-policy".as_slice(),
         OptionName::ClearPolicy => b"-clearpolicy".as_slice(),
         OptionName::Expire => b"-expire".as_slice(),
         OptionName::PwExpire => b"-pwexpire".as_slice(),
         OptionName::MaxLife => b"-maxlife".as_slice(),
         OptionName::MaxRenewLife => b"-maxrenewlife".as_slice(),
+        OptionName::MinLife => b"-minlife".as_slice(),
+        OptionName::MinLength => b"-minlength".as_slice(),
+        OptionName::MinClasses => b"-minclasses".as_slice(),
+        OptionName::History => b"-history".as_slice(),
+        OptionName::KeepKvno => b"-keepkvno".as_slice(),
     }
 }
 
@@ -192,6 +238,8 @@ fn choice_of(option: OptionName) -> OptionName
     ensures { result ≡ choice_of option }
 {
     match option {
+        OptionName::RandKey => OptionName::NoKey,
+        OptionName::Password => OptionName::NoKey,
         OptionName::ClearPolicy => OptionName::Policy,
         _ => option,
     }
@@ -237,7 +285,26 @@ pub fn are_single(options: &[Given]) -> bool
     are_single_among(known_choices(), options)
 }
 
-/// Whether one of the options decides this.
+// Whether the option that is given has this name.
+fn is_this(option: OptionName, given: &Given) -> bool
+    ensures { result ≡ is_this option given.now }
+{
+    match given {
+        Given::Flag(_) => false,
+        Given::Alone(other) => same_option(*other, option),
+        Given::Value(setting, _) => same_option(setting.option, option),
+    }
+}
+
+/// Whether this option is among the options.
+#[tactic(auto, unfolding(crate::specs::Options::is_given))]
+pub fn is_given(option: OptionName, options: &[Given]) -> bool
+    ensures { result ≡ is_given option options.now }
+{
+    options.iter().any(|given| is_this(option, given))
+}
+
+/// Whether one of the options decides this: how keys are made, or the policy, or what its own name says.
 #[tactic(auto, unfolding(crate::specs::Options::is_chosen))]
 pub fn is_chosen(choice: OptionName, options: &[Given]) -> bool
     ensures { result ≡ is_chosen choice options.now }

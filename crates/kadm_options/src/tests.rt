@@ -1,14 +1,30 @@
 use crate::{
     Given, Opening, OptionName, Setting, ValueKind, are_single, find_policy, find_seconds,
-    first_bad, flags_among, is_chosen, is_dashes, read_options,
+    find_word, first_bad, flags_among, is_chosen, is_dashes, is_given, read_options, read_within,
 };
 use kadm_values::FlagChange;
 use kdb_base::{Blob, Field, MemoryOut};
 use std::alloc::Global;
 use std::test::*;
 
-const KNOWN: [Opening; 4] = [
+const KNOWN: [Opening; 8] = [
     Opening::Alone(OptionName::NoKey),
+    Opening::Alone(OptionName::RandKey),
+    Opening::Value(Setting {
+        option: OptionName::Password,
+        kind: ValueKind::Word,
+        field: Field::Value,
+    }),
+    Opening::Value(Setting {
+        option: OptionName::Enctypes,
+        kind: ValueKind::EtypeList,
+        field: Field::Enctypes,
+    }),
+    Opening::Value(Setting {
+        option: OptionName::History,
+        kind: ValueKind::Number(1, 16),
+        field: Field::History,
+    }),
     Opening::Alone(OptionName::ClearPolicy),
     Opening::Value(Setting {
         option: OptionName::Policy,
@@ -74,7 +90,7 @@ fn values(rt: HostRuntime) -> Result<(), Fail> {
         b"+needchange -expire never -policy p.1 -needchange",
     )?;
     assert!(rt; are_single(&options) && !is_chosen(OptionName::NoKey, &options));
-    assert!(rt; first_bad(&options).is_none());
+    assert!(rt; first_bad(rt.alloc(), &options)?.is_none());
     assert_eq!(rt; find_seconds(OptionName::Expire, &options), Some(0));
     assert_eq!(rt; find_seconds(OptionName::MaxLife, &options), None);
     let policy = find_policy(rt.alloc(), &options)?.expect(&rt, "a policy");
@@ -90,6 +106,53 @@ fn values(rt: HostRuntime) -> Result<(), Fail> {
     );
     let options = options_of(rt.alloc(), b"-clearpolicy -policy - -expire 1h")?;
     assert!(rt; !are_single(&options));
-    assert!(rt; first_bad(&options) == Some(Field::Policy));
+    assert!(rt; first_bad(rt.alloc(), &options)? == Some(Field::Policy));
+    Ok(())
+}
+
+/// Words of options with what stands first among the bad ones; an empty word where all are good.
+const JUDGED: [(&[u8], &str); 9] = [
+    (b"-pw -e -e aes256-sha2,aes128-cts:normal -history 16", ""),
+    (b"-e aes256-cts,aes256-sha1", "enctypes"),
+    (b"-e aes256-cts,", "enctypes"),
+    (b"-history 0", "history"),
+    (b"-history 17 -e des", "history"),
+    (b"-history 0000000001", ""),
+    (b"-history 00000000001", "history"),
+    (b"-randkey -e des -history 0", "enctypes"),
+    (b"-pw \xff -history 1x", "history"),
+];
+
+#[test]
+fn kinds(rt: HostRuntime) -> Result<(), Fail> {
+    for (line, expected) in JUDGED.iter() {
+        let options = options_of(rt.alloc(), line)?;
+        let found = first_bad(rt.alloc(), &options)?.map_or("", |field| field.word());
+        assert_eq!(rt; found, *expected, "{line:?}");
+    }
+    let options = options_of(rt.alloc(), b"-pw -nokey -history 3")?;
+    assert!(rt; find_word(OptionName::Password, &options) == Some(b"-nokey".as_slice()));
+    assert!(rt; is_given(OptionName::Password, &options));
+    assert!(rt; is_chosen(OptionName::NoKey, &options));
+    assert!(rt; !is_given(OptionName::NoKey, &options));
+    assert_eq!(rt; read_within(1, 16, b"3"), Some(3));
+    Ok(())
+}
+
+/// Options of which no two may stand together.
+const EXCLUDED: [&[u8]; 5] = [
+    b"-pw x -randkey",
+    b"-nokey -randkey",
+    b"-pw x -nokey",
+    b"-pw x -pw x",
+    b"-e aes256-cts -e aes256-cts",
+];
+
+#[test]
+fn options_exclude_each_other(rt: HostRuntime) -> Result<(), Fail> {
+    for line in EXCLUDED.iter() {
+        let options = options_of(rt.alloc(), line)?;
+        assert!(rt; !are_single(&options), "{line:?}");
+    }
     Ok(())
 }

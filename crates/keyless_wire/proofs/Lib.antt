@@ -6,6 +6,3 @@ pub mod LineReadingLemmas
 pub mod NameLemmas
 pub mod OptionLemmas
 pub mod ReadCommands
-pub mod ReplyLemmas
-pub mod SplittingLemmas
-pub mod WordLemmas

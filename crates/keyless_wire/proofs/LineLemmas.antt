@@ -10,10 +10,10 @@ use Rattle.kadm_options.specs.declared.options.Opening.{Opening}
 use Rattle.keyless_wire.specs.Arguments.{BeginsPlain, Shape, SpellsShape, named_by, is_whole, others_fit, has_fields}
 use Rattle.keyless_wire.specs.Judged.{AreFields}
 use Rattle.keyless_wire.specs.Lines.{IsComment, IsLine, ReadsCommand, IsOn, has_name, SpellsCommand, is_glob_word, whole_glob, Gives, IsReading}
-use Rattle.keyless_wire.specs.Reads.{IsNameRead, WordsGive, WordsBreak, IsWordsRead, AreShort}
+use Rattle.keyless_wire.specs.Reads.{IsNameRead, WordsGive, WordsBreak, IsWordsRead}
 use Rattle.keyless_wire.specs.LineReadings.{fields_in}
 use Rattle.keyless_wire.specs.Values.{SpellsFields}
-use Rattle.keyless_wire.specs.Words.{SpellsWords, SpellsPlain, SpellsQuoted, quoted, quoted_byte}
+use Rattle.kadm_words.specs.Words.{SpellsWords, AreWithin}
 use Rattle.keyless_wire.specs.declared.lines.Reading.{Reading}
 use Rattle.keyless_wire.specs.declared.lines.Reading.TheVariants.{Skipped, Says, Refuses}
 use Rattle.keyless_wire.specs.declared.verbs.Verb.{Verb}
@@ -25,12 +25,13 @@ use Rattle.kdb_base.specs.declared.outcomes.Refusal.TheVariants.{BadLine, BadNam
 use Rattle.keyless_model.specs.declared.commands.Command.TheVariants.{AddPrinc, ModPrinc, DelPrinc, GetPrinc, ListPrincs}
 use Rattle.keyless_model.specs.declared.commands.PrincOptions.{PrincOptions}
 use Rattle.princ_name.specs.Names.{NameParts}
-use Rattle.keyless_wire.specs.Split.{IsSplit}
+use Rattle.kadm_words.specs.Split.{IsSplit}
 use Rattle.keyless_wire.specs.Steps.{shape_of, IsRead}
 use Rattle.keyless_wire.specs.declared.arguments.Arguments.{Arguments}
 use Rattle.keyless_wire.proofs.ArgumentLemmas.{one_shape}
 use Rattle.keyless_wire.proofs.FieldReadings.{fields_are_read}
-use Rattle.keyless_wire.proofs.WordLemmas.{one_split}
+use Rattle.kadm_words.proofs.ShortWords.{short_behind}
+use Rattle.kadm_words.proofs.WordLemmas.{one_split}
 
 -- ---- commands
 
@@ -131,59 +132,29 @@ name_refused realm word shape r refusal named others is h =
 
 -- ---- words are no longer than their line
 
-pub short_word : (word : List ℕ) (words : List (List ℕ)) → words ≡ word ∷ [] → AreShort words → length word ≤ 65536
-unfolding AreShort
+pub short_word : (word : List ℕ) (words : List (List ℕ)) → words ≡ word ∷ [] → AreWithin 65536 words → length word ≤ 65536
+unfolding AreWithin
 short_word word words e short = (rw e at short).0
-
-length-quoted_byte : (quote : Bool) (byte : ℕ) → 1 ≤ length (if quote then 34 ∷ 34 ∷ [] else byte ∷ [])
-length-quoted_byte true byte = omega arith
-length-quoted_byte false byte = omega arith
-
-length-quoted : (word : List ℕ) → length word ≤ length (quoted word)
-unfolding quoted
-length-quoted [] = omega arith
-length-quoted (byte ∷ word) =
-    let rest = length-quoted word in
-    omega (arith, length-append (quoted_byte byte) (flat_map quoted_byte word), length-quoted_byte (byte == 34) byte)
-
-word_short : (word text : List ℕ) → SpellsPlain word text ⊎ SpellsQuoted word text → length word ≤ length text
-word_short word text (inl plain) = let e = ap length plain.text_is in omega arith
-word_short word text (inr quotes) = omega (arith, ap length quotes.text_is, length-append (quoted word) (34 ∷ []), length-quoted word)
-
-pub words_short : (words : List (List ℕ)) (line : List ℕ) → SpellsWords words line → length line ≤ 65536 → AreShort words
-unfolding SpellsWords AreShort
-words_short [] line s fits = tt
-words_short (word ∷ words) line led fits =
-    let all = ap length led.line_is in
-    let whole = length-append led.gap (led.text ++ led.rest) in
-    let rest = length-append led.text led.rest in
-    let mine = word_short word led.text led.spelled in
-    (omega arith, words_short words led.rest led.others (omega arith))
 
 -- ---- other words are words
 
-short_behind : (words more : List (List ℕ)) → AreShort (words ++ more) → AreShort more
-unfolding AreShort
-short_behind [] more short = short
-short_behind (word ∷ words) more short = short_behind words more short.1
-
-options_short : (named : List ℕ → Option Opening) (options : List Given) (rest words : List (List ℕ)) → SpellsOptions named options rest words → AreShort words → AreShort rest
-unfolding SpellsOptions AreShort
+options_short : (named : List ℕ → Option Opening) (options : List Given) (rest words : List (List ℕ)) → SpellsOptions named options rest words → AreWithin 65536 words → AreWithin 65536 rest
+unfolding SpellsOptions AreWithin
 options_short named [] rest words e short = rw e at short
 options_short named (option ∷ options) rest words led short =
-    let P : List (List ℕ) → Type 0 = λ ws. AreShort ws in
+    let P : List (List ℕ) → Type 0 = λ ws. AreWithin 65536 ws in
     let all = subst P led.words_are short in
-    options_short named options rest led.behind led.others (short_behind (value_words option) led.behind all.1)
+    options_short named options rest led.behind led.others (short_behind 65536 (value_words option) led.behind all.1)
 
-others_short : (others rest : List (List ℕ)) → (rest ≡ codes "--" ∷ others) ⊎ ((rest ≡ others) × BeginsPlain others) → AreShort rest → AreShort others
-unfolding AreShort
-others_short others rest (inl e) short = let P : List (List ℕ) → Type 0 = λ ws. AreShort ws in (subst P e short).1
-others_short others rest (inr e) short = let P : List (List ℕ) → Type 0 = λ ws. AreShort ws in subst P e.0 short
+others_short : (others rest : List (List ℕ)) → (rest ≡ codes "--" ∷ others) ⊎ ((rest ≡ others) × BeginsPlain others) → AreWithin 65536 rest → AreWithin 65536 others
+unfolding AreWithin
+others_short others rest (inl e) short = let P : List (List ℕ) → Type 0 = λ ws. AreWithin 65536 ws in (subst P e short).1
+others_short others rest (inr e) short = let P : List (List ℕ) → Type 0 = λ ws. AreWithin 65536 ws in subst P e.0 short
 
-pub shape_short : (shape : Shape) (words : List (List ℕ)) → SpellsShape shape words → AreShort words → AreShort shape.others
-unfolding AreShort
+pub shape_short : (shape : Shape) (words : List (List ℕ)) → SpellsShape shape words → AreWithin 65536 words → AreWithin 65536 shape.others
+unfolding AreWithin
 shape_short shape words s short =
-    let P : List (List ℕ) → Type 0 = λ ws. AreShort ws in
+    let P : List (List ℕ) → Type 0 = λ ws. AreWithin 65536 ws in
     let all = subst P s.words_are short in
     others_short shape.others s.rest s.others (options_short (named_by shape.verb) shape.options s.rest s.arguments s.options all.1)
 

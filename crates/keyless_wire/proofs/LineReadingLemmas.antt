@@ -7,20 +7,19 @@ use Rattle.keyless_wire.specs.Arguments.{Shape, SpellsShape, named_by, verb_name
 use Rattle.keyless_wire.specs.LineReadings.{command_reading, shape_by, shape_in, shape_reading, words_reading, is_comment, line_reading, answer, reading}
 use Rattle.keyless_wire.specs.Lines.{longest_line, IsComment, SpellsLine, IsLine, ReadsCommand, IsBadLine, IsPassedOver, IsReading}
 use Rattle.keyless_wire.specs.Reads.{IsWordsRead}
-use Rattle.keyless_wire.specs.Splitting.{words_from}
+use Rattle.kadm_words.specs.Splitting.{words_in}
 use Rattle.keyless_wire.specs.Steps.{IsRead}
-use Rattle.keyless_wire.specs.Words.{SpellsWords}
+use Rattle.kadm_words.specs.Words.{SpellsWords}
 use Rattle.keyless_wire.specs.declared.lines.Reading.{Reading}
 use Rattle.keyless_wire.specs.declared.lines.Reading.TheVariants.{Skipped, Says, Refuses}
 use Rattle.keyless_wire.specs.declared.verbs.Verb.{Verb}
-use Rattle.keyless_wire.specs.declared.words.Place.TheVariants.{Between}
 use Rattle.kdb_base.specs.declared.outcomes.Refusal.{Refusal}
 use Rattle.kdb_base.specs.declared.outcomes.Refusal.TheVariants.{BadLine, LineTooLong}
 use Rattle.keyless_model.specs.declared.commands.Command.{Command}
 use Rattle.keyless_wire.proofs.ArgumentLemmas.{behind_read, one_shape}
 use Rattle.keyless_wire.proofs.CommandReadings.{command_is_given, given_is_read}
 use Rattle.keyless_wire.proofs.LineLemmas.{too_long, comment_skipped, empty_skipped, unspelled_bad, line_read, none_whole, not_whole, words_give}
-use Rattle.keyless_wire.proofs.WordLemmas.{words_read, words_spelled, split_is}
+use Rattle.kadm_words.proofs.WordLemmas.{words_read, words_spelled, split_is}
 
 -- ---- comments
 
@@ -60,7 +59,7 @@ shape_said : (realm : List ℕ) (words : List (List ℕ)) (r : Option Shape) →
 shape_said realm words None none = none_whole realm words none
 shape_said realm words (Some shape) s = whole_read realm words shape (is_whole shape) s refl
 
-words_said : (realm line : List ℕ) (r : Option (List (List ℕ))) → length line ≤ 65536 → (IsComment line → ⊥) → words_from Between line ≡ r
+words_said : (realm line : List ℕ) (r : Option (List (List ℕ))) → length line ≤ 65536 → (IsComment line → ⊥) → words_in line ≡ r
     → IsReading line realm (words_reading realm r)
 unfolding words_reading
 words_said realm line None short said e = unspelled_bad line realm short said (split_is line None e)
@@ -70,13 +69,13 @@ words_said realm line (Some (word ∷ words)) short said e =
     (shape_said realm (word ∷ words) (shape_in (word ∷ words)) (shape_is_read word words))
 
 comment_said : (realm line : List ℕ) (comment : Bool) → length line ≤ 65536 → is_comment line ≡ comment
-    → IsReading line realm (if comment then Skipped else words_reading realm (words_from Between line))
+    → IsReading line realm (if comment then Skipped else words_reading realm (words_in line))
 comment_said realm line true short is = comment_skipped line realm short (tested_comment line is)
 comment_said realm line false short is =
-    words_said realm line (words_from Between line) short (λ comment. (let yes = comment_tested line comment in cc)) refl
+    words_said realm line (words_in line) short (λ comment. (let yes = comment_tested line comment in cc)) refl
 
 length_said : (realm line : List ℕ) (long : Bool) → nat_lt longest_line (length line) ≡ long
-    → IsReading line realm (if long then Refuses LineTooLong else (if is_comment line then Skipped else words_reading realm (words_from Between line)))
+    → IsReading line realm (if long then Refuses LineTooLong else (if is_comment line then Skipped else words_reading realm (words_in line)))
 length_said realm line true is = too_long line realm (grind (arith, nat_tests))
 length_said realm line false is = comment_said realm line (is_comment line) (grind (arith, nat_tests)) refl
 
@@ -94,7 +93,7 @@ comment_read : (realm line : List ℕ) → length line ≤ longest_line → is_c
 unfolding line_reading
 comment_read realm line short comment = let is : nat_lt longest_line (length line) ≡ false = grind (arith, nat_tests) in rw (is, comment) refl
 
-words_are_read : (realm line : List ℕ) (r : Option (List (List ℕ))) → length line ≤ longest_line → is_comment line ≡ false → words_from Between line ≡ r
+words_are_read : (realm line : List ℕ) (r : Option (List (List ℕ))) → length line ≤ longest_line → is_comment line ≡ false → words_in line ≡ r
     → line_reading realm line ≡ words_reading realm r
 unfolding line_reading
 words_are_read realm line r short other e = let is : nat_lt longest_line (length line) ≡ false = grind (arith, nat_tests) in rw (is, other, e) refl
@@ -118,7 +117,7 @@ no_comment line true e is = absurd (is.said (inl (tested_comment line e)))
 no_comment line false e is = refl
 
 -- a line of these words
-line_words : (realm line : List ℕ) (r : Option (List (List ℕ))) → IsLine line → words_from Between line ≡ r → line_reading realm line ≡ words_reading realm r
+line_words : (realm line : List ℕ) (r : Option (List (List ℕ))) → IsLine line → words_in line ≡ r → line_reading realm line ≡ words_reading realm r
 line_words realm line r is e = words_are_read realm line r is.short (no_comment line (is_comment line) refl is) e
 
 bad_shape : (realm line : List ℕ) (words : List (List ℕ)) (r : Option Shape) → SpellsWords words line → IsRead words r → ((shape : Shape) → SpellsLine shape line → ⊥)
@@ -129,7 +128,7 @@ bad_shape realm line words (Some shape) s read none = elim (cases_Bool (is_whole
   | inr broken ↦ rw broken refl
 ]
 
-bad_words : (realm line : List ℕ) (r : Option (List (List ℕ))) → IsBadLine line → words_from Between line ≡ r → words_reading realm r ≡ Refuses BadLine
+bad_words : (realm line : List ℕ) (r : Option (List (List ℕ))) → IsBadLine line → words_in line ≡ r → words_reading realm r ≡ Refuses BadLine
 unfolding words_reading
 bad_words realm line None bad e = refl
 bad_words realm line (Some []) bad e = absurd (bad.is_line.said (inr (words_spelled line [] e)))
@@ -138,7 +137,7 @@ bad_words realm line (Some (word ∷ words)) bad e =
 
 bad_read : (realm line : List ℕ) → IsBadLine line → line_reading realm line ≡ Refuses BadLine
 bad_read realm line bad =
-    line_words realm line (words_from Between line) bad.is_line refl ∙ bad_words realm line (words_from Between line) bad refl
+    line_words realm line (words_in line) bad.is_line refl ∙ bad_words realm line (words_in line) bad refl
 
 -- the words of a command
 command_words : (realm : List ℕ) (words : List (List ℕ)) (shape : Shape) → SpellsShape shape words → is_whole shape ≡ true

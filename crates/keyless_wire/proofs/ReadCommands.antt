@@ -22,7 +22,7 @@ use Rattle.kadm_options.specs.declared.options.Opening.TheVariants as opening
 use Rattle.kadm_options.specs.declared.options.OptionName.{OptionName}
 use Rattle.kadm_options.specs.declared.options.OptionName.TheVariants.{Expire, PwExpire, MaxLife, MaxRenewLife}
 use Rattle.kadm_options.specs.declared.options.ValueKind.{ValueKind}
-use Rattle.kadm_options.specs.declared.options.ValueKind.TheVariants.{Time, Duration, PolicyName}
+use Rattle.kadm_options.specs.declared.options.ValueKind.TheVariants.{Time, Duration}
 use Rattle.keyless_wire.specs.declared.verbs.Verb.{Verb}
 use Rattle.keyless_wire.specs.declared.verbs.Verb.TheVariants as verbs
 use Rattle.keyless_model.specs.Changes.{AreOptions, IsOwnName, IsCommand}
@@ -48,7 +48,7 @@ duration_below word value (inr sum) = sum.fits
 value_below : (kind : ValueKind) (word : List ℕ) (secs : ℕ) → SpellsValue kind word secs → secs < 2 ^ 32
 value_below Time word secs s = time_below word secs s
 value_below Duration word secs s = duration_below word secs s
-value_below PolicyName word secs s = absurd s
+value_below _ word secs s = absurd s
 
 gives_below : (option : OptionName) (first : Given) (secs : ℕ) → GivesSeconds option first secs → secs < 2 ^ 32
 gives_below option (given.Flag change) secs s = absurd s

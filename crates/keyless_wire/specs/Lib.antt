@@ -3,10 +3,6 @@ pub mod Judged
 pub mod LineReadings
 pub mod Lines
 pub mod Reads
-pub mod Refusals
 pub mod Replies
-pub mod Split
-pub mod Splitting
 pub mod Steps
 pub mod Values
-pub mod Words

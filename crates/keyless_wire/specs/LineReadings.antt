@@ -6,12 +6,11 @@ use Rattle.kadm_options.specs.declared.options.Given.{Given}
 use Rattle.kadm_options.specs.declared.options.OptionName.TheVariants.{Expire, PwExpire, MaxLife, MaxRenewLife}
 use Rattle.keyless_wire.specs.Arguments.{Shape, verb_named, is_whole, shape_behind}
 use Rattle.keyless_wire.specs.Lines.{longest_line, is_glob_word, whole_glob}
-use Rattle.keyless_wire.specs.Splitting.{words_from}
+use Rattle.kadm_words.specs.Splitting.{words_in}
 use Rattle.keyless_wire.specs.declared.lines.Reading.{Reading}
 use Rattle.keyless_wire.specs.declared.lines.Reading.TheVariants.{Skipped, Says, Refuses}
 use Rattle.keyless_wire.specs.declared.verbs.Verb.{Verb}
 use Rattle.keyless_wire.specs.declared.verbs.Verb.TheVariants as verb
-use Rattle.keyless_wire.specs.declared.words.Place.TheVariants.{Between}
 use Rattle.kdb_base.specs.declared.outcomes.Field.{Field}
 use Rattle.kdb_base.specs.declared.outcomes.Field.TheVariants.{Glob}
 use Rattle.kdb_base.specs.declared.outcomes.Refusal.{Refusal}
@@ -100,7 +99,7 @@ is_comment (byte ∷ rest) = byte == 35
 unfoldable pub line_reading : List ℕ → List ℕ → Reading
 line_reading realm line =
     if nat_lt longest_line (length line) then Refuses LineTooLong
-    else (if is_comment line then Skipped else words_reading realm (words_from Between line))
+    else (if is_comment line then Skipped else words_reading realm (words_in line))
 
 abbrev pub answer : Reading → Result (Option Command) Refusal
 answer Skipped = Ok None

@@ -4,7 +4,7 @@ use Rattle.std.specs.List.{list_any, list_all}
 use Rattle.keyless_wire.specs.Arguments.{Shape, SpellsShape, has_fields, is_whole}
 use Rattle.kadm_options.specs.OptionValues.{IsFirstBad}
 use Rattle.keyless_wire.specs.Values.{SpellsFields}
-use Rattle.keyless_wire.specs.Words.{SpellsWords}
+use Rattle.kadm_words.specs.Words.{SpellsWords}
 use Rattle.keyless_wire.specs.declared.lines.Reading.{Reading}
 use Rattle.keyless_wire.specs.declared.lines.Reading.TheVariants.{Skipped, Says, Refuses}
 use Rattle.keyless_wire.specs.declared.verbs.Verb.{Verb}

@@ -28,8 +28,3 @@ pub record WordsBreak (words : List (List ℕ)) (reading : Reading) : Type 0 whe
 
 abbrev pub IsWordsRead : List ℕ → List (List ℕ) → Reading → Type 0
 IsWordsRead realm words reading = WordsGive realm words reading ⊎ WordsBreak words reading
-
--- words of a line that is no longer than lines may be
-unfoldable pub AreShort : List (List ℕ) → Type 0
-AreShort [] = Unit {0}
-AreShort (word ∷ words) = (length word ≤ 65536) × AreShort words

@@ -11,7 +11,7 @@ use kdb_base::{Blob, MemoryOut};
 use std::alloc::Global;
 
 /// A command with its options in the order of the line and its other words.
-#[derive(Debug, Drop)]
+#[derive(Drop)]
 pub struct Arguments {
     pub verb: Verb,
     pub options: Vec<Given>,

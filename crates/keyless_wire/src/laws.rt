@@ -3,17 +3,11 @@
 ghost use Rattle.std.specs.Prelude.{List, ℕ, ◌≡◌, ◌↔◌, Some, None, Ok, Err};
 ghost use Rattle.keyless_wire.specs.LineReadings.{line_reading, reading};
 ghost use Rattle.keyless_wire.specs.Lines.{IsReading};
-ghost use Rattle.keyless_wire.specs.Words.{SpellsWords};
 ghost use Rattle.keyless_wire.specs.declared.lines.Reading.{Reading};
 ghost use Rattle.keyless_wire.specs.declared.lines.Reading.TheVariants.{Skipped, Says, Refuses};
 ghost use Rattle.kdb_base.specs.declared.outcomes.Refusal.{Refusal};
 ghost use Rattle.keyless_model.specs.Changes.{IsCommand};
 ghost use Rattle.keyless_model.specs.declared.commands.Command.{Command};
-
-/// A line has one list of words at most.
-pub fn line_has_one_list_of_words()
-    ensures { (line : List ℕ) (a b : List (List ℕ)) → SpellsWords a line → SpellsWords b line → a ≡ b }
-{}
 
 /// A line has one reading at most in a database of a realm: it is skipped, it says one command, or it is
 /// refused for one cause.

@@ -5,14 +5,11 @@ mod arguments;
 pub mod laws;
 pub mod lines;
 pub mod options;
-pub mod refusals;
 pub mod replies;
 #[cfg(test)]
 mod tests;
 mod values;
 pub mod verbs;
-mod words;
 
 pub use lines::{Reading, parse_line, read_line};
-pub use refusals::print_refusal;
 pub use replies::print_reply;

@@ -5,7 +5,8 @@ ghost use Rattle.std.specs.List.{list_any};
 ghost use Rattle.keyless_wire.specs.Arguments.{Shape, has_fields, is_whole};
 ghost use Rattle.keyless_wire.specs.LineReadings.{reading};
 ghost use Rattle.keyless_wire.specs.Lines.{Gives, IsComment, IsOn, IsReading, has_name, whole_glob};
-ghost use Rattle.keyless_wire.specs.Reads.{AreShort, IsNameRead, IsWordsRead};
+ghost use Rattle.keyless_wire.specs.Reads.{IsNameRead, IsWordsRead};
+ghost use Rattle.kadm_words.specs.Words.{AreWithin};
 ghost use Rattle.keyless_wire.specs.Steps.{shape_of};
 ghost use Rattle.kdb_base.specs.declared.outcomes.Refusal.{Refusal};
 ghost use Rattle.kdb_base.specs.declared.outcomes.Halt.{Halt};
@@ -15,8 +16,8 @@ ghost use Rattle.keyless_model.specs.declared.commands.Command.{Command};
 use crate::arguments::{Arguments, is_whole, read_arguments};
 use crate::values::read_fields;
 use crate::verbs::Verb;
-use crate::words::split_words;
 use kadm_values::is_glob;
+use kadm_words::split_words;
 use kdb_base::{Blob, Field, Halt, MemoryOut, Refusal, Stop};
 use keyless_model::{AddPrinc, Command, ModPrinc, PrincOptions};
 use princ_name::{Name, NameFault, parse_own_name};
@@ -158,7 +159,7 @@ fn read_with_word(
 
 fn read_command(alloc: Global, arguments: &Arguments, realm: &[u8]) -> Result<Reading, MemoryOut>
     requires whole { is_whole (shape_of arguments.now) ≡ true }
-    requires short { AreShort arguments.now.others.items }
+    requires short { AreWithin 65536 arguments.now.others.items }
     ensures { IfOk result (λ r. Gives realm.now (shape_of arguments.now) r) }
 {
     match only_word(&arguments.others) {
@@ -169,7 +170,7 @@ fn read_command(alloc: Global, arguments: &Arguments, realm: &[u8]) -> Result<Re
 
 // What the words of a line say.
 fn read_words(alloc: Global, words: &[Blob], realm: &[u8]) -> Result<Reading, MemoryOut>
-    requires { AreShort words.now }
+    requires { AreWithin 65536 words.now }
     ensures { IfOk result (λ r. IsWordsRead realm.now words.now r) }
 {
     match read_arguments(alloc, words)? {

@@ -1,6 +1,7 @@
 ghost use Rattle.std.specs.Prelude.{◌≡◌, ◌∷◌, [], codes, IfOk};
 
-use crate::{parse_line, print_refusal, print_reply};
+use crate::{parse_line, print_reply};
+use kadm_replies::print_refusal;
 use kdb_base::{Blob, Etype, Field, MemoryOut, Point, Refusal, Salt, Stop, Time};
 use keyless_model::{Command, NameList, PrincOptions, Reply};
 use princ_name::{Name, print_name};
@@ -250,75 +251,6 @@ const CAROL: &str = "- principal carol@R.ORG
 ok
 ";
 
-const REFUSALS: [(Refusal, &str); 35] = [
-    (Refusal::BadLine, "err 1 BadLine\n"),
-    (Refusal::BadName { offset: 7 }, "err 2 BadName 7\n"),
-    (Refusal::Duplicate, "err 3 Duplicate\n"),
-    (Refusal::UnknownPrincipal, "err 4 UnknownPrincipal\n"),
-    (Refusal::UnknownPolicy, "err 5 UnknownPolicy\n"),
-    (Refusal::PolicyInUse { count: 3 }, "err 6 PolicyInUse 3\n"),
-    (Refusal::Denied { line: 0 }, "err 7 Denied 0\n"),
-    (Refusal::Protected, "err 8 Protected\n"),
-    (Refusal::PassTooShort, "err 9 PassTooShort\n"),
-    (Refusal::PassClasses, "err 10 PassClasses\n"),
-    (Refusal::PassReused, "err 11 PassReused\n"),
-    (
-        Refusal::PassTooSoon { until: 951_827_445 },
-        "err 12 PassTooSoon 2000-02-29T12:30:45Z\n",
-    ),
-    (
-        Refusal::PassTooSoon { until: 0 },
-        "err 12 PassTooSoon never\n",
-    ),
-    (
-        Refusal::BadValue {
-            field: Field::MaxRenewLife,
-        },
-        "err 13 BadValue maxrenewlife\n",
-    ),
-    (
-        Refusal::RecordTooLarge {
-            size: 4_294_967_296,
-        },
-        "err 14 RecordTooLarge 4294967296\n",
-    ),
-    (
-        Refusal::TooManyMasters { limit: 4 },
-        "err 15 TooManyMasters 4\n",
-    ),
-    (
-        Refusal::UnknownMaster { version: 9 },
-        "err 16 UnknownMaster 9\n",
-    ),
-    (Refusal::NoActiveMaster, "err 17 NoActiveMaster\n"),
-    (Refusal::StashMissing, "err 18 StashMissing\n"),
-    (Refusal::StashWrong, "err 19 StashWrong\n"),
-    (Refusal::NotADatabase, "err 20 NotADatabase\n"),
-    (Refusal::AlreadyThere, "err 21 AlreadyThere\n"),
-    (
-        Refusal::Damaged { file: 2, place: 40 },
-        "err 22 Damaged 2 40\n",
-    ),
-    (Refusal::TimeEnd, "err 23 TimeEnd\n"),
-    (Refusal::DumpBad { line: 5 }, "err 24 DumpBad 5\n"),
-    (Refusal::Busy, "err 25 Busy\n"),
-    (Refusal::Closed, "err 26 Closed\n"),
-    (Refusal::LineTooLong, "err 27 LineTooLong\n"),
-    (Refusal::KeysFull, "err 28 KeysFull\n"),
-    (
-        Refusal::RowsFull { limit: 100_000 },
-        "err 29 RowsFull 100000\n",
-    ),
-    (
-        Refusal::StringsFull { limit: 16 },
-        "err 30 StringsFull 16\n",
-    ),
-    (Refusal::UnknownString, "err 31 UnknownString\n"),
-    (Refusal::LockedDown, "err 32 LockedDown\n"),
-    (Refusal::BadKeytab { place: 14 }, "err 33 BadKeytab 14\n"),
-    (Refusal::UnknownEntry, "err 34 UnknownEntry\n"),
-];
-
 #[test]
 fn replies(rt: HostRuntime) -> Result<(), Fail> {
     let alloc = rt.alloc();
@@ -334,9 +266,7 @@ fn replies(rt: HostRuntime) -> Result<(), Fail> {
     let shown = Reply::Shown(carol(alloc).expect(&rt, "memory"));
     let text = print_reply(alloc, &shown).expect(&rt, "memory");
     assert_eq!(rt; text.as_slice(), CAROL.as_bytes());
-    for (refusal, expected) in REFUSALS {
-        let text = print_reply(alloc, &Reply::Refused(refusal)).expect(&rt, "memory");
-        assert_eq!(rt; text.as_slice(), expected.as_bytes());
-    }
+    let text = print_reply(alloc, &Reply::Refused(Refusal::Protected)).expect(&rt, "memory");
+    assert_eq!(rt; text.as_slice(), b"err 8 Protected\n".as_slice());
     Ok(())
 }

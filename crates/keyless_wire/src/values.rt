@@ -16,7 +16,7 @@ pub(crate) fn read_fields(
 ) -> Result<Result<PrincOptions, Field>, MemoryOut>
     ensures { IfOk result (λ fields. fields ≡ fields_in options.now) }
 {
-    match first_bad(options) {
+    match first_bad(alloc, options)? {
         Some(field) => Ok(Err(field)),
         None => {
             let flags = FlagChanges::from_vec(flags_among(alloc, options)?);

@@ -1,0 +1,18 @@
+//! One line of kadmin's input as a command: its words, options and their values.
+#![tactic(auto)]
+
+pub mod commands;
+pub mod keys;
+pub mod laws;
+pub mod lines;
+pub mod options;
+pub mod policies;
+pub mod princs;
+pub mod readings;
+#[cfg(test)]
+mod tests;
+pub mod values;
+pub mod verbs;
+
+pub use lines::{parse_line, read_line};
+pub use readings::Reading;

@@ -1,0 +1,3 @@
+pub mod ShortWords
+pub mod SplittingLemmas
+pub mod WordLemmas

@@ -1,5 +1,0 @@
-use Rattle.keyless_wire.proofs.WordLemmas.{one_split}
-use Rattle.keyless_wire.proofs.laws.line_has_one_list_of_words.Goals as goal
-
-pub returns : goal.returns
-returns c = one_split
