@@ -17,7 +17,7 @@ use Rattle.princ_entries.specs.EntryLaws.{bytes_same, same_bytes}
 use Rattle.princ_rows.specs.Rows.{RowLists, key_cmp}
 use Rattle.princ_entries.specs.declared.entries.Op.{Op}
 use Rattle.princ_entries.specs.declared.entries.Op.TheVariants as op
-use Rattle.kdb_plain.specs.Changes.{IsOrdinary, effect_on, name_of}
+use Rattle.kdb_plain.specs.Changes.{Spares, IsOrdinary, effect_on, name_of}
 use Rattle.kdb_plain.specs.declared.changes.PlainOp.{PlainOp}
 use Rattle.kdb_plain.specs.declared.changes.PlainOp.TheVariants.{DropPolicy, DropPrinc, PutMasters, PutPolicy, PutPrinc, Rename}
 use Rattle.kdb_plain.specs.Changes as plain
@@ -28,6 +28,7 @@ use Rattle.kdb_plain.proofs.Named.{drop_other, put_other, put_own}
 use Rattle.row_keys.specs.Lookups.{record_named}
 use Rattle.row_keys.specs.ShownChanges.{MayPut, MayPutMasters, ShowsOp, SparesKeys}
 use Rattle.row_keys.specs.Shows.{Shows, ShowsChain, ShowsPrinc}
+use Rattle.row_keys.proofs.Judgements.{same_key}
 use Rattle.row_keys.proofs.Names.{higher_differs, lower_differs, own_names_differ, record_name, same_mkvno, same_name}
 use Rattle.row_keys.proofs.Sides.{truth, zip_append, zip_filter, zip_passed, zip_with_all}
 
@@ -232,3 +233,18 @@ change_shows r s (op.DropPolicy k) (Rename l q) f h may = absurd h
 change_shows r s (op.DropPolicy k) (PutPolicy q) f h may = absurd h
 change_shows r s (op.DropPolicy k) (DropPolicy l) f h may = drop_policy_state r s k l f h
 change_shows r s (op.DropPolicy k) (PutMasters q kept activations) f h may = absurd h
+
+-- the history key, as the state has it
+pub change_shows_at : (r : RowLists) (s : State) (history : Key) (o : Op) (p : PlainOp) → Shows r s → history_key s.realm s.princs ≡ Some history → ShowsOp s.masters history o p → SparesKeys s p → Shows (effect (Some o) r) (effect_on p s)
+change_shows_at r s history o p f is h may =
+    let same : history ≡ f.history = same_key history f.history (sym is ∙ f.history_is) in
+    change_shows r s o p f (subst (λ (k : Key). ShowsOp s.masters k o p) same h) may
+
+-- a change of other principals than K/M and kadmin/history
+pub ordinary_spares : (s : State) (p : PlainOp) → Spares s.realm p → SparesKeys s p
+ordinary_spares s (PutPrinc q) may = ordinary_put s q may
+ordinary_spares s (DropPrinc name) may = may
+ordinary_spares s (Rename old q) may = may
+ordinary_spares s (PutPolicy q) may = tt
+ordinary_spares s (DropPolicy name) may = tt
+ordinary_spares s (PutMasters q kept activations) may = absurd may

@@ -1,9 +1,9 @@
 -- A record that shows a plain principal has a spelling where the plain principal is formed.
-use Rattle.std.proofs.Common.{◌≡◌, false, List, [], ◌∷◌, Option, Some, None, refl, sym, ap, subst, ◌∙◌, arith}
+use Rattle.std.proofs.Common.{◌≡◌, List, [], ◌∷◌, Option, Some, None, refl, sym, ap, subst, ◌∙◌, arith}
 use Rattle.std.specs.Prelude.{is_some, not, nat_eq, nat_lt, ◌&&◌, ◌||◌}
 use Rattle.std.specs.List.{AllByRecursion, AllZip, list_all}
 use Rattle.std.proofs.lemmas.Bool.{both_ways}
-use Rattle.std.proofs.lemmas.List.Elements.{All-from_recursion, All-nil, recursion_from_All}
+use Rattle.std.proofs.lemmas.List.Elements.{All-from_recursion, recursion_from_All}
 use Rattle.kdb_base.specs.Etypes.{number_of}
 use Rattle.kdb_base.specs.Key.{Key}
 use Rattle.kdb_base.specs.declared.keys.Salt.{Salt}
@@ -24,7 +24,7 @@ use Rattle.kdb_plain.specs.Heads.{head}
 use Rattle.plain_keys.specs.declared.items.PlainItem.{PlainItem}
 use Rattle.plain_keys.specs.declared.items.PlainSet.{PlainSet}
 use Rattle.kdb_plain.specs.declared.princs.PlainPrinc.{PlainPrinc}
-use Rattle.row_keys.specs.Formed.{AreItems, AreSets, IsFormed, IsItem, IsSet, are_ordered, may_follow}
+use Rattle.row_keys.specs.Formed.{AreFields, AreItems, AreSets, IsFormed, IsItem, IsSet, are_ordered, may_follow}
 use Rattle.row_keys.specs.Shows.{ShowsItem, ShowsOldKey, ShowsSet, ShowsUnder}
 use Rattle.row_keys.proofs.Sides.{zip_left, zip_right}
 
@@ -132,71 +132,54 @@ module _ (history : Key) where
 
 -- ---- the record
 
-no_keys : AreKeys []
-unfolding kept.are_ordered
-no_keys = record { few = omega arith; each = All-nil IsKey; ordered = refl }
+no_chain : (c : Option ChainPart) → c ≡ None → IsChainOr c
+no_chain None e = tt
+no_chain (Some c) e = absurd cc
 
-no_sets : AreOldSets []
-no_sets = record { few = omega arith; each = All-nil IsOldSet }
-
-head_fits : (p : Princ) → is_master p.name ≡ false → IsPrinc p → IsPrinc (head p)
-head_fits p other f = record {
+pub fields_of : (p : Princ) → p.chain ≡ None → IsPrinc p → AreFields (head p)
+fields_of p none f = record {
   name = f.name;
+  other = sym f.facts.chain_there ∙ ap is_some none;
   attributes = f.attributes;
   attributes_short = f.attributes_short;
   lives = f.lives;
-  facts = record {
-    pw_changed = f.facts.pw_changed;
-    modified = f.facts.modified;
-    modifier = f.facts.modifier;
-    mkvno = f.facts.mkvno;
-    chain_there = sym other;
-    chain = tt;
-    strings = f.facts.strings;
-    no_strings = f.facts.no_strings;
-  };
-  keys = no_keys;
-  masters = λ is. absurd (both_ways (is_master p.name) other is);
+  pw_changed = f.facts.pw_changed;
+  modified = f.facts.modified;
+  modifier = f.facts.modifier;
+  mkvno = f.facts.mkvno;
+  strings = f.facts.strings;
   policy = f.policy;
-  old = no_sets;
 }
 
-whole_fits : (p : Princ) → is_master p.name ≡ false → p.chain ≡ None → IsPrinc (head p) → AreKeys p.keys → AreOldSets p.old → IsPrinc p
-whole_fits p other none f keys old = record {
+pub fields_fit : (p : Princ) → p.chain ≡ None → AreFields (head p) → AreKeys p.keys → AreOldSets p.old → IsPrinc p
+fields_fit p none f keys old = record {
   name = f.name;
   attributes = f.attributes;
   attributes_short = f.attributes_short;
   lives = f.lives;
   facts = record {
-    pw_changed = f.facts.pw_changed;
-    modified = f.facts.modified;
-    modifier = f.facts.modifier;
-    mkvno = f.facts.mkvno;
-    chain_there = ap is_some none ∙ sym other;
+    pw_changed = f.pw_changed;
+    modified = f.modified;
+    modifier = f.modifier;
+    mkvno = f.mkvno;
+    chain_there = ap is_some none ∙ sym f.other;
     chain = no_chain p.chain none;
-    strings = f.facts.strings;
-    no_strings = f.facts.no_strings;
+    strings = f.strings;
+    no_strings = λ is. absurd (both_ways (is_master p.name) f.other is);
   };
   keys = keys;
-  masters = λ is. absurd (both_ways (is_master p.name) other is);
+  masters = λ is. absurd (both_ways (is_master p.name) f.other is);
   policy = f.policy;
   old = old;
 }
-  where
-    no_chain : (c : Option ChainPart) → c ≡ None → IsChainOr c
-    no_chain None e = tt
-    no_chain (Some c) e = absurd cc
 
 pub princ_formed : (master history : Key) (p : Princ) (q : PlainPrinc) → ShowsUnder master history p q → p.chain ≡ None → IsPrinc p → IsFormed q
-princ_formed master history p q f none fits =
-    let other : is_master p.name ≡ false = sym fits.facts.chain_there ∙ ap is_some none in
-    record {
-      fields = subst IsPrinc f.fields (head_fits p other fits);
-      keys = items_from master p.keys q.keys f.keys fits.keys;
-      old = sets_from history p.old q.old f.old fits.old;
-    }
+princ_formed master history p q f none fits = record {
+  fields = subst AreFields f.fields (fields_of p none fits);
+  keys = items_from master p.keys q.keys f.keys fits.keys;
+  old = sets_from history p.old q.old f.old fits.old;
+}
 
 pub formed_princ : (master history : Key) (p : Princ) (q : PlainPrinc) → ShowsUnder master history p q → p.chain ≡ None → IsFormed q → IsPrinc p
 formed_princ master history p q f none formed =
-    let fields : IsPrinc (head p) = subst IsPrinc (sym f.fields) formed.fields in
-    whole_fits p (sym fields.facts.chain_there) none fields (items_to master p.keys q.keys f.keys formed.keys) (sets_to history p.old q.old f.old formed.old)
+    fields_fit p none (subst AreFields (sym f.fields) formed.fields) (items_to master p.keys q.keys f.keys formed.keys) (sets_to history p.old q.old f.old formed.old)

@@ -256,7 +256,7 @@ settled_formed name keys is f = record {
 
 -- ---- remembered sets
 
-newest_few : (keys : List PlainItem) → length (newest_keys keys) ≤ length keys
+pub newest_few : (keys : List PlainItem) → length (newest_keys keys) ≤ length keys
 unfolding newest_keys
 newest_few keys =
     omega (

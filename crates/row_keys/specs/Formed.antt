@@ -1,10 +1,15 @@
 -- Plain principals whose records have a spelling: the plain side of princ_record's `IsPrinc`, for other principals than K/M.
-use Rattle.std.specs.Prelude.{◌^◌, ◌<◌, ◌≤◌, Bool, true, not, ◌&&◌, ◌||◌, nat_eq, nat_lt, List, [], ◌∷◌, length, IsTrue}
+use Rattle.std.specs.Prelude.{◌≡◌, ◌^◌, ◌<◌, ◌≤◌, Bool, true, false, not, ◌&&◌, ◌||◌, nat_eq, nat_lt, List, [], ◌∷◌, length, IsTrue}
 use Rattle.std.specs.List.{All, list_all}
 use Rattle.kdb_base.specs.Etypes.{number_of}
 use Rattle.kdb_base.specs.Limits.{most_keys, most_old_sets}
 use Rattle.princ_keys.specs.Keys.{IsSalt}
-use Rattle.princ_record.specs.Princs.{IsPrinc}
+use Rattle.princ_name.specs.Printed.{IsPrinted, is_master}
+use Rattle.princ_record.specs.Facts.{IsPw}
+use Rattle.princ_record.specs.Princs.{AreLives, IsPolicyOr, are_attributes, lives_of}
+use Rattle.princ_record.specs.declared.princs.Princ.{Princ}
+use Rattle.tagged_data.specs.Numbers.{IsVersion}
+use Rattle.tagged_data.specs.Strings.{AreStrings}
 use Rattle.kdb_plain.specs.Heads.{plain_head}
 use Rattle.plain_keys.specs.declared.items.PlainItem.{PlainItem}
 use Rattle.plain_keys.specs.declared.items.PlainSet.{PlainSet}
@@ -39,8 +44,22 @@ pub record AreSets (sets : List PlainSet) : Type 0 where
   pub few : length sets ≤ most_old_sets
   pub each : All IsSet sets
 
+-- the fields of a principal other than K/M
+pub record AreFields (h : Princ) : Type 0 where
+  pub name : IsPrinted h.name
+  pub other : is_master h.name ≡ false
+  pub attributes : IsTrue (are_attributes h.attributes)
+  pub attributes_short : h.attributes < 2 ^ 32
+  pub lives : AreLives (lives_of h)
+  pub pw_changed : IsPw h.pw_changed
+  pub modified : h.modified < 2 ^ 32
+  pub modifier : IsPrinted h.modifier
+  pub mkvno : IsVersion h.mkvno
+  pub strings : AreStrings h.strings
+  pub policy : IsPolicyOr h.policy
+
 -- the fields, the keys and the remembered sets of a principal other than K/M
 pub record IsFormed (q : PlainPrinc) : Type 0 where
-  pub fields : IsPrinc (plain_head q)
+  pub fields : AreFields (plain_head q)
   pub keys : AreItems q.keys
   pub old : AreSets q.old

@@ -18,11 +18,11 @@ ghost use Rattle.princ_rows.specs.Effects.{effect};
 ghost use Rattle.princ_name.specs.Realms.{IsRealm};
 ghost use Rattle.princ_rows.specs.Rows.{AreRows, RowLists};
 ghost use Rattle.princ_entries.specs.declared.entries.Op.{Op};
-ghost use Rattle.kdb_plain.specs.Changes.{effect_on};
+ghost use Rattle.kdb_plain.specs.Changes.{Spares, effect_on};
 ghost use Rattle.kdb_plain.specs.declared.changes.PlainOp.{PlainOp};
 ghost use Rattle.plain_keys.specs.Keys.{AreOnce, drawn_len, items_of, kept_keys, keys_from, newest_kvno, password_keys, random_keys, remembered, settled_items};
 ghost use Rattle.kdb_plain.specs.Lengths.{chain_len, row_len};
-ghost use Rattle.kdb_plain.specs.States.{IsValid, princ_named, users_of};
+ghost use Rattle.kdb_plain.specs.States.{IsValid, history_key, princ_named, users_of};
 ghost use Rattle.serving_versions.specs.Versions.{protected_by};
 ghost use Rattle.plain_keys.specs.declared.items.PlainItem.{PlainItem};
 ghost use Rattle.plain_keys.specs.declared.items.PlainSet.{PlainSet};
@@ -61,9 +61,10 @@ pub fn rows_count_alike()
 {}
 
 /// Rows that show a state show the changed one behind a change that shows the state's, where it leaves the database's
-/// own keys.
+/// own keys, as one of other principals than K/M and kadmin/history does.
 pub fn changed_rows_show()
-    ensures { (rows : RowLists) (s : State) (o : Op) (plain : PlainOp) (shows : Shows rows s) → ShowsOp s.masters shows.history o plain → SparesKeys s plain → Shows (effect (Some o) rows) (effect_on plain s) }
+    ensures shows { (rows : RowLists) (s : State) (history : Key) (o : Op) (plain : PlainOp) → Shows rows s → history_key s.realm s.princs ≡ Some history → ShowsOp s.masters history o plain → SparesKeys s plain → Shows (effect (Some o) rows) (effect_on plain s) }
+    ensures ordinary { (s : State) (plain : PlainOp) → Spares s.realm plain → SparesKeys s plain }
 {}
 
 /// A record without a chain has a spelling exactly where the plain principal that it shows is formed.
