@@ -36,7 +36,7 @@ unless_some unit (Some j) i is = by (nat_eq j unit) refl is
 unless_kept : (unit i : ℕ) (o : Option ℕ) → o ≡ Some i → i ≢ unit → unless unit o ≡ Some i
 unless_kept unit i o is other = sym (unless_other unit o (λ at. other (same_Some i unit (sym is ∙ at)))) ∙ is
 
-same_key_name : (r s : StoredRow) → same_key r s ≡ true → name_of r ≡ name_of s
+pub same_key_name : (r s : StoredRow) → same_key r s ≡ true → name_of r ≡ name_of s
 same_key_name (Princ p) (Princ q) e = same_bytes p.name q.name e
 same_key_name (Princ p) (Policy q) e = absurd cc
 same_key_name (Policy p) (Princ q) e = absurd cc
@@ -120,7 +120,7 @@ few_after u cells unit n None is are same few room = omega (arith, room (cell_fr
 few_after u cells unit n (Some s) is are same few room = omega (arith, few, ap taken_by is)
 
 -- a unit that begins within the file is one of its cells, or comes next
-pub unit_within : (format unit : ℕ) (file : List ℕ) (cells : List Cell) → IsSheet format file cells → unit * unit_size format ≤ length file → unit ≤ length cells
+pub unit_within : (format unit : ℕ) (file : List ℕ) (cells : List Cell) → IsSheet format file (count_of format file) cells → unit * unit_size format ≤ length file → unit ≤ length cells
 unfolding count_of
 unit_within format unit file cells is within = omega (arith, div_most (length file) (unit_size format) unit (some_unit format) within, is.long)
 

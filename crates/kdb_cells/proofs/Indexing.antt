@@ -15,13 +15,14 @@ use Rattle.std.specs.Ordering.{nat_cmp, is_lt}
 use Rattle.std.proofs.lemmas.Bool.{and_parts, cases_lt, eqb-true, eq-eqb, ltb-true, lt-ltb, leb-true, le-leb}
 use Rattle.std.proofs.lemmas.List.Sorted.{sum_by_pushed, sum_by_popped, sum_by-IsPermutation, length_permutation, IsPermutation-swap_remove}
 use Rattle.std.proofs.lemmas.List.Sums.{sum_by-append, sum_by-cons}
+use Rattle.std.proofs.lemmas.List.{get_or_append_left}
 use Rattle.std.proofs.lemmas.Map.Entries.{lookup_from_place}
 use Rattle.std.proofs.lemmas.Map.Keys.{ge_from_not_lt}
 use Rattle.std.proofs.lemmas.Option.{slice_get-get_or, get_or_from_slice_get}
 use Rattle.kdb_base.specs.Limits.{most_rows}
 use Rattle.kdb_cells.specs.Sheets.{last_unit}
-use Rattle.kdb_cells.specs.Leads.{IsFree, IsLeastFree, Units, no_units, unless, freed, leading}
-use Rattle.kdb_cells.specs.Indexes.{Entries, Heap, Index, unit_of, units, one_at, led, waiting, given, in_file, IsIndex}
+use Rattle.kdb_cells.specs.Leads.{IsFree, IsLeastFree, Units, no_units, unless, freed, leading, more_led}
+use Rattle.kdb_cells.specs.Indexes.{Entries, Heap, Index, unit_of, unit_given, units, one_at, led, waiting, given, in_file, IsAtSpot, IsGiven, IsIndex}
 use Rattle.kdb_cells.specs.declared.index.Placed.{Placed}
 use Rattle.kdb_cells.specs.declared.index.Spot.{Spot}
 use Rattle.kdb_cells.specs.declared.index.Spot.TheVariants.{Led, Taken, Next}
@@ -353,3 +354,115 @@ leading_units old new mid unit key out of next placed =
 pub leads_nowhere : (unit : ℕ) (o : Option ℕ) → ((i : ℕ) → o ≡ Some i → i ≡ unit) → unless unit o ≡ None
 leads_nowhere unit None alone = refl
 leads_nowhere unit (Some i) alone = ap (λ (b : Bool). cond b None (Some i)) (eq-eqb i unit (alone i refl))
+
+-- ---- the unit past the end joins the file
+
+-- in which file a number is, where the end moves by one
+file_grows : (next i : ℕ) → 1 ≤ next → next ≤ last_unit → in_file (next + 1) i ≡ in_file next i + one_at i next
+file_grows next i begun near = elim (cases_lt i next) [
+  | inl below ↦ omega (arith, one_other i next below, same i below)
+  | inr from ↦ elim (cases_lt next i) [
+    | inl past ↦ omega (arith, one_past i past, beyond next i (omega (arith, past)), beyond (next + 1) i (omega (arith, past)))
+    | inr le ↦ here i (omega (arith, from, le))
+  ]
+]
+  where
+    one_past : (i : ℕ) → next < i → one_at i next ≡ 0
+    one_past i lt = by (eqb i next) refl
+      where
+        by : (b : Bool) → eqb i next ≡ b → ◌≡◌ {A = ℕ} (cond b 1 0) 0
+        by true e = absurd (omega (arith, lt, eqb-true i next e))
+        by false e = refl
+
+    beyond : (end i : ℕ) → end ≤ i → in_file end i ≡ 0
+    beyond end i le = elim (cases_lt 0 (in_file end i)) [
+      | inl some ↦ let file = in_file_from end i (omega (arith, some, in_file_few end i)) in absurd (omega (arith, le, file.1.0))
+      | inr none ↦ omega (arith, none)
+    ]
+
+    same : (i : ℕ) → i < next → in_file (next + 1) i ≡ in_file next i
+    same i lt = rw (lt-ltb i next lt, lt-ltb i (next + 1) (omega (arith, lt))) refl
+
+    here : (i : ℕ) → i ≡ next → in_file (next + 1) i ≡ in_file next i + one_at i next
+    here i e = omega (arith, one_same i next e, beyond next i (omega (arith, e)), in_file_is (next + 1) i (omega (arith, e, begun)) (omega (arith, e)) (omega (arith, e, near)))
+
+-- past the last number that a row may have, no unit is kept
+file_stays : (next i : ℕ) → last_unit < next → in_file (next + 1) i ≡ in_file next i
+file_stays next i far = elim (cases_lt i next) [
+  | inl below ↦ rw (lt-ltb i next below, lt-ltb i (next + 1) (omega (arith, below))) refl
+  | inr from ↦ omega (arith, none next i (omega (arith, far, from)), none (next + 1) i (omega (arith, far, from)))
+]
+  where
+    none : (end i : ℕ) → last_unit < i → in_file end i ≡ 0
+    none end i lt = elim (cases_lt 0 (in_file end i)) [
+      | inl some ↦ let file = in_file_from end i (omega (arith, some, in_file_few end i)) in absurd (omega (arith, lt, file.1.1))
+      | inr zero_is ↦ omega (arith, zero_is)
+    ]
+
+-- the unit that was given is another one, and stays where it was
+stays_at : (old new : Entries) (next unit : ℕ) (spot : Spot) → ((at : ℕ) (d : Vec ℕ Global × ℕ) → at < length old → get_or new at d ≡ get_or old at d) → length old ≤ length new → unit < next → IsAtSpot old next unit spot → IsAtSpot new (next + 1) unit spot
+stays_at old new next unit (Led at) same le other given = let lt = given.0 in (omega (arith, lt, le), λ d. ap (λ (e : Vec ℕ Global × ℕ). e.1) (same at d lt) ∙ given.1 d)
+stays_at old new next unit Taken same le other given = tt
+stays_at old new next unit Next same le other given = absurd (omega (arith, other, given))
+
+given_stays : (old new : Entries) (next : ℕ) (placed : Option Placed) → ((at : ℕ) (d : Vec ℕ Global × ℕ) → at < length old → get_or new at d ≡ get_or old at d) → length old ≤ length new → ((unit : ℕ) → unit_given placed ≡ Some unit → unit < next)
+    → IsGiven old next placed → IsGiven new (next + 1) placed
+given_stays old new next None same le other given = tt
+given_stays old new next (Some p) same le other given = stays_at old new next p.unit p.spot same le (other p.unit refl) given
+
+pub extended : (old new : Entries) (heap : Heap) (next : ℕ) (placed : Option Placed) (key : Vec ℕ Global) → new ≡ old ++ (key, next) ∷ [] → length old < most_rows → next ≤ last_unit → ((unit : ℕ) → unit_given placed ≡ Some unit → unit < next)
+    → IsIndex old heap next placed → IsIndex new heap (next + 1) placed
+extended old new heap next placed key is few near other x = record {
+  each_once = λ i. omega (arith, x.each_once i, more i, file_grows next i x.begun near);
+  in_order = x.in_order;
+  begun = omega (arith, x.begun);
+  few = omega (arith, few, long);
+  all = omega (arith, x.all, long, near);
+  spot = given_stays old new next placed (λ at d lt. ap (λ (es : Entries). get_or es at d) is ∙ get_or_append_left old (e ∷ []) d at lt) (omega (arith, long)) other x.spot;
+}
+  where
+    e : Vec ℕ Global × ℕ
+    e = (key, next)
+
+    long : length new ≡ length old + 1
+    long = ap length is ∙ length-append old (e ∷ [])
+
+    more : (i : ℕ) → led i new ≡ led i old + one_at i next
+    more i = ap (led i) is ∙ led_more i old e
+
+pub extended_free : (entries : Entries) (old new : Heap) (next : ℕ) (placed : Option Placed) (r : Reverse ℕ) → r.0 ≡ next → next ≤ last_unit → ((unit : ℕ) → unit_given placed ≡ Some unit → unit < next) → IsPermutation (r ∷ old) new → (IsHeap by_falling old → IsHeap by_falling new)
+    → IsIndex entries old next placed → IsIndex entries new (next + 1) placed
+extended_free entries old new next placed r same near other moved keeps x = record {
+  each_once = λ i. omega (arith, x.each_once i, waiting_same i (r ∷ old) new moved, waiting-cons i r old, ap (one_at i) same, file_grows next i x.begun near);
+  in_order = keeps x.in_order;
+  begun = omega (arith, x.begun);
+  few = x.few;
+  all = omega (arith, x.all, length_permutation (r ∷ old) new moved, near);
+  spot = given_stays entries entries next placed (λ at d lt. refl) (omega arith) other x.spot;
+}
+
+pub extended_far : (entries : Entries) (heap : Heap) (next : ℕ) (placed : Option Placed) → last_unit < next → ((unit : ℕ) → unit_given placed ≡ Some unit → unit < next) → IsIndex entries heap next placed → IsIndex entries heap (next + 1) placed
+extended_far entries heap next placed far other x = record {
+  each_once = λ i. omega (arith, x.each_once i, file_stays next i far);
+  in_order = x.in_order;
+  begun = omega (arith, x.begun);
+  few = x.few;
+  all = omega (arith, x.all, far);
+  spot = given_stays entries entries next placed (λ at d lt. refl) (omega arith) other x.spot;
+}
+
+pub extended_given : (entries : Entries) (heap : Heap) (next : ℕ) → next ≤ last_unit → IsIndex entries heap next None → IsIndex entries heap (next + 1) (taken_unit next)
+extended_given entries heap next near x = joined entries heap next near (record {
+  each_once = λ i. x.each_once i;
+  in_order = x.in_order;
+  begun = x.begun;
+  few = x.few;
+  all = x.all;
+  spot = refl;
+})
+
+pub more_led_units : (old new : Index) (key : List ℕ) → ((k : List ℕ) → unit_of new.entries k ≡ cond (bytes_eq key k) (Some old.next) (unit_of old.entries k)) → new.next ≡ old.next + 1 → new.placed ≡ old.placed → units new ≡ more_led key (units old)
+unfolding more_led
+more_led_units old new key of next placed =
+    let same : unit_of new.entries ≡ (λ k. cond (bytes_eq key k) (Some old.next) (unit_of old.entries k)) = fun_ext of in
+    rw (same, next, placed) refl

@@ -2,5 +2,8 @@ pub mod UnitTexts
 pub mod UnitPuts
 pub mod Sheeting
 pub mod Cellwise
+pub mod Headed
+pub mod Windows
+pub mod Gathered
 pub mod Entries
 pub mod Indexing

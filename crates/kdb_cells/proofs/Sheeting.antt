@@ -12,7 +12,7 @@ use Rattle.kdb_cells.specs.Cells.{Cell, unit_size, unit_text, IsCell, name_of}
 use Rattle.kdb_cells.specs.Sheets.{realm_in, cell_in, cell_or_free, cells_from, cells_of, count_of, same_key, clash, clashes, taken_by, taken, last_unit, is_too_far, is_fault, fault_from, Sheet, sheet_with, sheet_in, set_cell, put_cell}
 use Rattle.kdb_cells.specs.Changes.{cell_no}
 use Rattle.kdb_cells.specs.FileCells.{MayStand}
-use Rattle.kdb_cells.proofs.UnitTexts.{length-unit_text}
+use Rattle.kdb_cells.proofs.UnitTexts.{length-unit}
 use Rattle.kdb_cells.proofs.UnitPuts.{count_put, place_within, realm_put, cell_other, cell_here}
 
 -- ---- the cells before a unit, the newest first
@@ -216,9 +216,9 @@ taken_rises format file k n le =
 
 -- ---- a file of which no unit is at fault
 
--- The units hold these cells: each is spelled, no row stands too far, no two rows have one key, and there are few enough.
-pub record IsSheet (format : ℕ) (file : List ℕ) (cells : List Cell) : Type 0 where
-  pub long : length cells ≡ count_of format file
+-- So many units hold these cells: each is spelled, no row stands too far, no two rows have one key, and there are few enough.
+pub record IsSheet (format : ℕ) (file : List ℕ) (n : ℕ) (cells : List Cell) : Type 0 where
+  pub long : length cells ≡ n
   pub reads : (i : ℕ) → i < length cells → cell_in format file i ≡ Some (cell_no i cells)
   pub near : (i : ℕ) → is_too_far i (cell_no i cells) ≡ false
   pub once : (i j : ℕ) → i < j → clash (cell_no j cells) (cell_no i cells) ≡ false
@@ -227,25 +227,47 @@ pub record IsSheet (format : ℕ) (file : List ℕ) (cells : List Cell) : Type 0
 read_or_free : (o : Option Cell) (c : Cell) → o ≡ Some c → cell_or_free o ≡ c
 read_or_free o c is = ap cell_or_free is
 
+-- how many rows they have
+pub taken_to : (format : ℕ) (file : List ℕ) (n : ℕ) (cells : List Cell) → IsSheet format file n cells → taken cells ≡ taken (before format file n)
+taken_to format file n cells is =
+    let same : cells_from format file 0 n ≡ cells = same_cells format file 0 n cells is.long (λ i lt.
+    let here : 0 + i ≡ i = omega arith in ap (λ (j : ℕ). cell_or_free (cell_in format file j)) here ∙ read_or_free _ _ (is.reads i (omega (arith, lt, is.long)))) in
+    ap taken (sym same) ∙ taken_all format file n
+
+-- none of them is at fault
+pub fine_to : (format : ℕ) (file : List ℕ) (n : ℕ) (cells : List Cell) → IsSheet format file n cells → (j : ℕ) → j < n → IsFine format file j
+fine_to format file n cells is j lt =
+    let read : (i : ℕ) → i < n → cell_or_free (cell_in format file i) ≡ cell_no i cells = λ i below. read_or_free _ _ (is.reads i (omega (arith, below, is.long))) in
+    fine_from j (cell_in format file j) (cell_no j cells) (before format file j) (is.reads j (omega (arith, lt, is.long))) (record {
+      near = is.near j;
+      new = no_clash format file (cell_no j cells) j (λ i before_j. ap (clash (cell_no j cells)) (read i (omega (arith, before_j, lt))) ∙ is.once i j before_j);
+      few = omega (arith, taken_more format file j, ap taken_by (read j lt), taken_rises format file (j + 1) n (omega (arith, lt)), taken_to format file n cells is, is.few);
+    })
+
 -- those are what is read of the file
-pub sheet_read : (format : ℕ) (file : List ℕ) (sheet : Sheet) → IsSheet format file sheet.cells → realm_in format file ≡ Some sheet.realm → sheet_in format file ≡ Ok sheet
+pub sheet_read : (format : ℕ) (file : List ℕ) (sheet : Sheet) → IsSheet format file (count_of format file) sheet.cells → realm_in format file ≡ Some sheet.realm → sheet_in format file ≡ Ok sheet
 unfolding sheet_in
 sheet_read format file sheet is realm =
     let count = count_of format file in
     let cells = sheet.cells in
-    let read : (i : ℕ) → i < count → cell_or_free (cell_in format file i) ≡ cell_no i cells = λ i lt. read_or_free _ _ (is.reads i (omega (arith, lt, is.long))) in
     let same : cells_of format file ≡ cells = same_cells format file 0 count cells is.long (λ i lt.
-    let here : 0 + i ≡ i = omega arith in ap (λ (j : ℕ). cell_or_free (cell_in format file j)) here ∙ read i lt) in
-    let all : taken cells ≡ taken (before format file count) = ap taken (sym same) ∙ taken_all format file count in
-    let fine : (j : ℕ) → j < count → IsFine format file j = λ j lt.
-    fine_from j (cell_in format file j) (cell_no j cells) (before format file j) (is.reads j (omega (arith, lt, is.long))) (record {
-      near = is.near j;
-      new = no_clash format file (cell_no j cells) j (λ i before_j. ap (clash (cell_no j cells)) (read i (omega (arith, before_j, lt))) ∙ is.once i j before_j);
-      few = omega (arith, taken_more format file j, ap taken_by (read j lt), taken_rises format file (j + 1) count (omega (arith, lt)), all, is.few);
-    }) in
-    ap (λ (o : Option ℕ). sheet_with format file o (realm_in format file)) (fault_none format file count fine)
+    let here : 0 + i ≡ i = omega arith in ap (λ (j : ℕ). cell_or_free (cell_in format file j)) here ∙ read_or_free _ _ (is.reads i (omega (arith, lt, is.long)))) in
+    ap (λ (o : Option ℕ). sheet_with format file o (realm_in format file)) (fault_none format file count (fine_to format file count cells is))
     ∙ ap (sheet_with format file None) realm
     ∙ ap (λ (l : List Cell). let found : Result Sheet ℕ = Ok (record { realm = sheet.realm; cells = l }) in found) same
+
+-- the unit behind them is at fault
+pub sheet_fault : (format : ℕ) (file : List ℕ) (n : ℕ) (cells : List Cell) (realm : List ℕ) → IsSheet format file n cells → n < count_of format file → realm_in format file ≡ Some realm → is_fault n (cell_in format file n) (before format file n) ≡ true
+    → sheet_in format file ≡ Err (n * unit_size format)
+unfolding sheet_in
+sheet_fault format file n cells realm is lt named fault =
+    ap (λ (o : Option ℕ). sheet_with format file o (realm_in format file)) (fault_found format file (count_of format file) n lt (fine_to format file n cells is) fault)
+    ∙ ap (sheet_with format file (Some n)) named
+
+-- the first unit names no realm
+pub sheet_unnamed : (format : ℕ) (file : List ℕ) → realm_in format file ≡ None → sheet_in format file ≡ Err 0
+unfolding sheet_in
+sheet_unnamed format file none = ap (sheet_with format file (fault_from format file 0 (count_of format file) [])) none
 
 -- What is known of a file that was read.
 pub record IsRead (format : ℕ) (file : List ℕ) (sheet : Sheet) : Type 0 where
@@ -270,7 +292,7 @@ free_past : (c : Cell) (i : ℕ) → c ≡ None → is_too_far i c ≡ false
 free_past c i is = ap (is_too_far i) is
 
 -- the cells of a file that was read
-pub read_sheet : (format : ℕ) (file : List ℕ) (sheet : Sheet) → sheet_in format file ≡ Ok sheet → IsSheet format file sheet.cells
+pub read_sheet : (format : ℕ) (file : List ℕ) (sheet : Sheet) → sheet_in format file ≡ Ok sheet → IsSheet format file (count_of format file) sheet.cells
 read_sheet format file sheet is =
     let read = file_read format file sheet is in
     let count = count_of format file in
@@ -280,7 +302,7 @@ read_sheet format file sheet is =
     let here : (i : ℕ) → i < count → cell_no i cells ≡ cell_or_free (cell_in format file i) = λ i lt.
     let same : 0 + i ≡ i = omega arith in
     cell_from format file 0 count i lt ∙ ap (λ (j : ℕ). cell_or_free (cell_in format file j)) same in
-    subst (IsSheet format file) read.cells (record {
+    subst (IsSheet format file (count_of format file)) read.cells (record {
       long = long;
       reads = λ i lt. let below : i < count = omega (arith, lt, long) in (fine i below).0 ∙ ap Some (sym (here i below));
       near = λ i. ⊎_elim
@@ -316,11 +338,11 @@ clash_turned (Some (Princ p)) (Some (Policy q)) apart = refl
 clash_turned (Some (Policy p)) (Some (Princ q)) apart = refl
 clash_turned (Some (Policy p)) (Some (Policy q)) apart = false_from_ne_true _ (λ same. true≢false (sym (bytes_same p.name q.name (sym (same_bytes q.name p.name same))) ∙ apart))
 
-sheet_put : (format i : ℕ) (c : Cell) (file : List ℕ) (cells : List Cell) → IsSheet format file cells → MayStand format i c cells → IsSheet format (put_cell format i c file) (set_cell i c cells)
+sheet_put : (format i : ℕ) (c : Cell) (file : List ℕ) (cells : List Cell) → IsSheet format file (count_of format file) cells → MayStand format i c cells → IsSheet format (put_cell format i c file) (count_of format (put_cell format i c file)) (set_cell i c cells)
 unfolding put_cell
 sheet_put format i c file cells is may =
     let text = unit_text format c in
-    let long = length-unit_text format c may.fits in
+    let long = length-unit format c may.fits in
     let within = place_within format i file (omega (arith, may.within, is.long)) in
     let after = set_cell i c cells in
     let size = length-set i c cells may.within in
@@ -355,7 +377,23 @@ pub put_sheet : (format i : ℕ) (c : Cell) (file : List ℕ) (sheet : Sheet) �
 unfolding put_cell
 put_sheet format i c file sheet is may =
     let cells = read_sheet format file sheet is in
-    let long = length-unit_text format c may.fits in
+    let long = length-unit format c may.fits in
     let within = place_within format i file (omega (arith, may.within, cells.long)) in
     sheet_read format (put_cell format i c file) (record { realm = sheet.realm; cells = set_cell i c sheet.cells }) (sheet_put format i c file sheet.cells cells may)
     (realm_put format i (unit_text format c) file long within may.from ∙ (file_read format file sheet is).realm)
+
+-- the file without what one unit says
+pub skip_count : (format i : ℕ) (file : List ℕ) → i * unit_size format ≤ length file → count_of format (put_cell format i None file) ≡ max (count_of format file) (i + 1)
+unfolding put_cell
+skip_count format i file within = count_put format i (unit_text format None) file (length-unit format None tt) within
+
+pub skip_here : (format i : ℕ) (file : List ℕ) → i * unit_size format ≤ length file → 1 ≤ i → cell_in format (put_cell format i None file) i ≡ Some None
+skip_here format i file within from = cell_here format i None file tt within from
+
+pub skip_other : (format i j : ℕ) (file : List ℕ) → i * unit_size format ≤ length file → j ≢ i → cell_in format (put_cell format i None file) j ≡ cell_in format file j
+unfolding put_cell
+skip_other format i j file within other = cell_other format i j (unit_text format None) file (length-unit format None tt) within other
+
+pub skip_realm : (format i : ℕ) (file : List ℕ) → i * unit_size format ≤ length file → 1 ≤ i → realm_in format (put_cell format i None file) ≡ realm_in format file
+unfolding put_cell
+skip_realm format i file within from = realm_put format i (unit_text format None) file (length-unit format None tt) within from

@@ -10,7 +10,7 @@ use Rattle.kdb_format.specs.Spellings.{zeros}
 use Rattle.kdb_format.specs.Readings.{padded}
 use Rattle.kdb_cells.specs.Cells.{Cell, IsCell, unit_size, unit_text, cell_of, front_of}
 use Rattle.kdb_cells.specs.Sheets.{unit_bytes, heading_at, realm_in, cell_in, count_of, put_cell}
-use Rattle.kdb_cells.proofs.UnitTexts.{unit_again, length-unit_text}
+use Rattle.kdb_cells.proofs.UnitTexts.{unit_again, length-unit}
 
 pub some_unit : (format : ℕ) → 0 < unit_size format
 unfolding unit_size
@@ -113,7 +113,7 @@ cell_other format i j text file long within other =
 pub cell_here : (format i : ℕ) (c : Cell) (file : List ℕ) → IsCell format c → i * unit_size format ≤ length file → 1 ≤ i → cell_in format (put_cell format i c file) i ≡ Some c
 unfolding cell_in put_cell
 cell_here format i c file fits within from =
-    let here = unit_here format i (unit_text format c) file (length-unit_text format c fits) within in
+    let here = unit_here format i (unit_text format c) file (length-unit format c fits) within in
     let free : Option Cell = Some None in
     cond-false (nat_eq i 0) free (cell_of format (unit_bytes format i (put (i * unit_size format) (unit_text format c) file))) (ne_eqb i 0 (λ e. absurd (omega (arith, e, from))))
     ∙ ap (cell_of format) here

@@ -47,7 +47,7 @@ cell_found format bytes rest left c b long e same test =
 
 -- ---- what is read is spelled so
 
-length-unit : (format : ℕ) (c : Cell) → IsCell format c → length (unit_text format c) ≡ unit_size format
+pub length-unit : (format : ℕ) (c : Cell) → IsCell format c → length (unit_text format c) ≡ unit_size format
 unfolding unit_text
 length-unit format c f =
     let n = unit_size format - length (cell_text c) in
@@ -157,8 +157,3 @@ row_page {kind = kind} {text = text} page n long filled is = filled ∙ ap (λ (
 
 pub free_page : (format : ℕ) (page : List ℕ) (n : ℕ) → n ≡ unit_size format → page ≡ zeros n → page ≡ unit_text format None
 free_page format page n long cleared = cleared ∙ ap zeros long ∙ free_unit format
-
-pub length-unit_text : (format : ℕ) (c : Cell) → IsCell format c → length (unit_text format c) ≡ unit_size format
-unfolding unit_text
-length-unit_text format c fits =
-    omega (arith, length-append (cell_text c) (zeros (unit_size format - length (cell_text c))), length-zeros (unit_size format - length (cell_text c)), cell_short format c fits)

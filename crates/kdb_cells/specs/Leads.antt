@@ -46,3 +46,17 @@ leading key unit u = record {
   next = max u.next (unit + 1);
   placed = None;
 }
+
+-- ---- the first unit past the end joins the file
+
+-- and this key leads to it
+unfoldable pub more_led : List ℕ → Units → Units
+more_led key u = record { of = λ k. if bytes_eq key k then Some u.next else u.of k; next = u.next + 1; placed = u.placed }
+
+-- and no key leads to it
+abbrev pub more_free : Units → Units
+more_free u = record { of = u.of; next = u.next + 1; placed = u.placed }
+
+-- and it is given for the change that comes next
+abbrev pub more_given : Units → Units
+more_given u = record { of = u.of; next = u.next + 1; placed = Some u.next }

@@ -7,3 +7,4 @@ pub mod Leads
 pub mod Indexes
 pub mod CellFiles
 pub mod FileCells
+pub mod Scanning

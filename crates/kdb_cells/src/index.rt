@@ -1,11 +1,12 @@
 //! The units of a file of cells in memory: to which unit each key leads, and which units are free.
-ghost use Rattle.std.specs.Prelude.{◌≡◌, ◌≤◌, ◌<◌, ◌+◌, ℕ, List, Some, None, length, max, if◌then◌else◌, IfOk, OnOk, OnErr};
+ghost use Rattle.std.specs.Prelude.{◌≡◌, ◌≢◌, ◌≤◌, ◌<◌, ◌+◌, ◌^◌, ℕ, true, false, List, Some, None, length, max, if◌then◌else◌, IfOk, OnOk, OnErr};
 ghost use Rattle.std.specs.Str.{bytes_eq};
 ghost use Rattle.std.specs.BinaryHeap.{heap_items, heap_len, heap_capacity};
 ghost use Rattle.indexmap.specs.IndexMap.{spare};
 ghost use Rattle.kdb_base.specs.Limits.{most_rows};
-ghost use Rattle.kdb_cells.specs.Leads.{IsFree, IsLeastFree, no_units, giving, unless, freed, leading};
-ghost use Rattle.kdb_cells.specs.Indexes.{Entries, unit_of, units, count, taken, IsIndex};
+ghost use Rattle.kdb_cells.specs.Leads.{IsFree, IsLeastFree, no_units, giving, unless, freed, leading, more_led, more_free, more_given};
+ghost use Rattle.kdb_cells.specs.Sheets.{last_unit};
+ghost use Rattle.kdb_cells.specs.Indexes.{Entries, unit_of, unit_given, units, count, taken, IsIndex};
 ghost use Rattle.kdb_cells.specs.declared.index.Spot.TheVariants as spot;
 
 use indexmap::IndexMap;
@@ -54,6 +55,17 @@ impl Model for UnitIndex {
     ghost view = { λ x. record { entries = x.entries.entries; next = x.next; placed = unit_given x.placed } };
 
     ghost invariant = { λ x. IsIndex x.entries.entries (heap_items x.free) x.next x.placed × HasRoom (spare x.entries) (heap_len x.free) (heap_capacity x.free) x.placed };
+}
+
+// Whether the key leads to a unit.
+fn leads(entries: &IndexMap<Vec<u8>, u32>, key: &[u8]) -> bool
+    ensures led { result ≡ true → unit_of entries.now.entries key.now ≢ None }
+    ensures not_led { result ≡ false → unit_of entries.now.entries key.now ≡ None }
+{
+    match entries.get(key) {
+        Some(_) => true,
+        None => false,
+    }
 }
 
 // The unit that was taken, and to which no key leads, is free.
@@ -190,6 +202,53 @@ fn attach(
     let _old = entries.insert(key, unit).unwrap();
 }
 
+// The unit past the end joins the file, and the key leads to it. The unit that is then past the end
+// is told.
+fn extend(
+    entries: &mut IndexMap<Vec<u8>, u32>,
+    free: &BinaryHeap<Reverse<u32>>,
+    next: u64,
+    placed: &Option<Placed>,
+    key: Vec<u8>,
+) -> u64
+    requires spare { 2 ≤ spare entries.old }
+    requires index { IsIndex entries.old.entries (heap_items free.now) next placed.now }
+    requires other { (unit : ℕ) → unit_given placed.now ≡ Some unit → unit < next }
+    requires near { next ≤ last_unit }
+    requires new { unit_of entries.old.entries key.items ≡ None }
+    requires few { length entries.old.entries < most_rows }
+    ensures index { IsIndex entries.new.entries (heap_items free.now) result placed.now }
+    ensures of { (k : List ℕ) → unit_of entries.new.entries k ≡ (if bytes_eq key.items k then Some next else unit_of entries.old.entries k) }
+    ensures next { result ≡ next + 1 }
+    ensures more { length entries.new.entries ≡ length entries.old.entries + 1 }
+    ensures spare { 1 ≤ spare entries.new }
+{
+    let _old = entries.insert(key, next as u32).unwrap();
+    next + 1
+}
+
+// The unit past the end joins the file, and is free. The unit that is then past the end is told.
+fn extend_free(
+    entries: &IndexMap<Vec<u8>, u32>,
+    free: &mut BinaryHeap<Reverse<u32>>,
+    next: u64,
+    placed: &Option<Placed>,
+) -> u64
+    requires room { heap_len free.old + 2 ≤ heap_capacity free.old }
+    requires end { next + 1 < 2 ^ 64 }
+    requires index { IsIndex entries.now.entries (heap_items free.old) next placed.now }
+    requires other { (unit : ℕ) → unit_given placed.now ≡ Some unit → unit < next }
+    ensures index { IsIndex entries.now.entries (heap_items free.new) result placed.now }
+    ensures next { result ≡ next + 1 }
+    ensures room { heap_len free.new < heap_capacity free.new }
+{
+    if next > u64::from(u32::MAX) {
+        return next + 1;
+    }
+    free.push(Reverse(next as u32)).unwrap();
+    next + 1
+}
+
 impl UnitIndex {
     /// No keys, and the file's first unit, in which no row stands.
     pub fn new(alloc: Global) -> UnitIndex
@@ -208,6 +267,21 @@ impl UnitIndex {
         ensures { result ≡ count self.now }
     {
         self.entries.len()
+    }
+
+    /// The first unit past the file's end.
+    pub fn next(&self) -> u64
+        ensures { result ≡ self.now.next }
+    {
+        self.next
+    }
+
+    /// Whether the key leads to a unit.
+    pub fn holds(&self, key: &[u8]) -> bool
+        ensures led { result ≡ true → (units self.now).of key.now ≢ None }
+        ensures not_led { result ≡ false → (units self.now).of key.now ≡ None }
+    {
+        leads(&self.entries, key)
     }
 
     /// Gives a unit for the change that comes next: the key's own, or the least free one, or the
@@ -229,6 +303,55 @@ impl UnitIndex {
         let unit = placed.unit;
         self.placed = Some(placed);
         Ok(unit)
+    }
+
+    /// The first unit past the file's end joins the file, and this key leads to it.
+    pub fn add_led(&mut self, key: Blob) -> Result<(), MemoryOut>
+        requires near { self.old.next ≤ last_unit }
+        requires new { (units self.old).of key ≡ None }
+        requires few { count self.old < most_rows }
+        requires other { (unit : ℕ) → self.old.placed ≡ Some unit → unit < self.old.next }
+        ensures units { OnOk result (units self.new ≡ more_led key (units self.old)) }
+        ensures count { OnOk result (count self.new ≡ count self.old + 1) }
+    {
+        self.entries.reserve(2)?;
+        self.next = extend(
+            &mut self.entries,
+            &self.free,
+            self.next,
+            &self.placed,
+            key.into_vec(),
+        );
+        Ok(())
+    }
+
+    /// The first unit past the file's end joins the file, and no key leads to it.
+    pub fn add_free(&mut self) -> Result<(), MemoryOut>
+        requires end { self.old.next + 1 < 2 ^ 64 }
+        requires other { (unit : ℕ) → self.old.placed ≡ Some unit → unit < self.old.next }
+        ensures units { OnOk result (units self.new ≡ more_free (units self.old)) }
+        ensures count { OnOk result (count self.new ≡ count self.old) }
+    {
+        self.free.reserve(2)?;
+        self.next = extend_free(&self.entries, &mut self.free, self.next, &self.placed);
+        Ok(())
+    }
+
+    /// The first unit past the file's end joins the file, and is given for the change that comes next.
+    /// What that change needs of memory is taken here.
+    pub fn add_given(&mut self) -> Result<(), MemoryOut>
+        requires near { self.old.next ≤ last_unit }
+        requires none { self.old.placed ≡ None }
+        ensures units { OnOk result (units self.new ≡ more_given (units self.old)) }
+        ensures count { OnOk result (count self.new ≡ count self.old) }
+    {
+        make_room(&mut self.entries, &mut self.free)?;
+        self.placed = Some(Placed {
+            unit: self.next as u32,
+            spot: Spot::Taken,
+        });
+        self.next += 1;
+        Ok(())
     }
 
     /// Has the key lead to the unit that was given, and no other key. It takes no memory.

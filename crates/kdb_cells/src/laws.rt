@@ -1,6 +1,6 @@
 //! Laws of files of cells. They do no work.
 
-ghost use Rattle.std.specs.Prelude.{◌≡◌, ◌<◌, ◌≤◌, ◌*◌, ℕ, List, true, length, Some, Ok};
+ghost use Rattle.std.specs.Prelude.{◌≡◌, ℕ, List, true, Ok};
 ghost use Rattle.policy_rules.specs.Names.{is_policy_name};
 ghost use Rattle.princ_name.specs.Printed.{IsPrinted};
 ghost use Rattle.kdb_base.specs.Limits.{most_rows};

@@ -2,8 +2,11 @@
 #![tactic(auto)]
 
 pub mod cells;
+mod gathering;
+mod headings;
 pub mod index;
 pub mod laws;
+mod scanning;
 pub mod units;
 
 pub use cells::{Cells, unit_size};
