@@ -5,5 +5,6 @@ pub mod Cellwise
 pub mod Headed
 pub mod Windows
 pub mod Gathered
+pub mod Wholly
 pub mod Entries
 pub mod Indexing

@@ -106,6 +106,25 @@ impl Cells {
         })
     }
 
+    // The cells of a file whose units were gathered.
+    pub(crate) fn with_index(
+        alloc: Global,
+        file: u8,
+        format: u16,
+        index: UnitIndex,
+    ) -> Result<Cells, MemoryOut>
+        requires { is_image file ≡ true }
+        ensures { IfOk result (λ cells. cells ≡ record { file = file; format = format; index = index }) }
+    {
+        let page = zeros(alloc, unit_size(format))?;
+        Ok(Cells {
+            file,
+            format,
+            index,
+            page,
+        })
+    }
+
     /// The number of the file.
     pub fn file(&self) -> u8
         ensures { result ≡ self.now.file }

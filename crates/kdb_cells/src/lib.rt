@@ -2,6 +2,7 @@
 #![tactic(auto)]
 
 pub mod cells;
+pub mod files;
 mod gathering;
 mod headings;
 pub mod index;
@@ -10,6 +11,7 @@ mod scanning;
 pub mod units;
 
 pub use cells::{Cells, unit_size};
+pub use files::{Scanned, scan};
 pub use index::UnitIndex;
 pub use units::{StoredRow, clear_unit, fill_unit, read_unit};
 
