@@ -1,0 +1,6 @@
+pub mod Lists
+pub mod CommandTests
+pub mod Seen
+pub mod Rooms
+pub mod DropPlans
+pub mod PolicyPlans

@@ -1,0 +1,11 @@
+//! The judge of a command against rows with wrapped keys: a refusal, an answer, or one change of the rows.
+#![tactic(auto)]
+
+mod causes;
+mod dropping;
+pub mod given;
+pub mod planned;
+mod policies;
+
+pub use given::View;
+pub use planned::Planned;
