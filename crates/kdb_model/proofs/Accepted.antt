@@ -7,7 +7,7 @@ use Rattle.kadm_commands.specs.declared.commands.Command.{Command}
 use Rattle.kdb_base.specs.Limits.{most_rows}
 use Rattle.kdb_base.specs.declared.outcomes.Refusal.{Refusal}
 use Rattle.kdb_model.specs.Calls.{Call}
-use Rattle.kdb_model.specs.Refusals.{adds_row, causes_with, denied, duplicate, few_classes, first, has_last_kvno, is_protected, keys_full, lacks_policy, locked_down, no_active_master, pass_reused, policy_in_use, protected, puts_many_keys, rows_full, strings_full, target, too_large, too_many_masters, too_short, too_soon, touched, unknown_master, unknown_policy, unknown_principal, unknown_string, when}
+use Rattle.kdb_model.specs.Refusals.{adds_row, causes_with, denied, duplicate, few_classes, first, has_last_kvno, is_protected, keys_full, lacks_policy, locked_down, new_keys, no_active_master, pass_reused, policy_in_use, protected, puts_many_keys, rows_full, strings_full, target, too_large, too_many_masters, too_short, too_soon, touched, unknown_master, unknown_policy, unknown_principal, unknown_string, when}
 use Rattle.kdb_plain.specs.Changes.{IsOrdinary}
 use Rattle.kdb_plain.specs.States.{history_name}
 use Rattle.kdb_plain.specs.declared.changes.PlainOp.{PlainOp}
@@ -31,7 +31,7 @@ pub record IsAccepted (s : State) (call : Call) (command : Command) (change : Op
   pub unprotected : list_any (is_protected s.realm) (touched command) ≡ false
   pub policy : lacks_policy s change command ≡ false
   pub unused : policy_in_use s command ≡ None
-  pub kvnos : (has_last_kvno command (target s command) || puts_many_keys change) ≡ false
+  pub kvnos : (has_last_kvno command (target s command) || (is_some (new_keys command) && puts_many_keys change)) ≡ false
   pub masters : too_many_masters s command ≡ None
   pub active : no_active_master s call command ≡ None
   pub room : (adds_row command && nat_le most_rows (length s.princs + length s.policies)) ≡ false
@@ -62,7 +62,7 @@ accepted s call change e =
       unprotected = when_none (list_any (is_protected s.realm) (touched call.command)) _ c3.0;
       policy = when_none (lacks_policy s change call.command) _ c7.0;
       unused = c8.0;
-      kvnos = when_none (has_last_kvno call.command (target s call.command) || puts_many_keys change) _ c13.0;
+      kvnos = when_none (has_last_kvno call.command (target s call.command) || (is_some (new_keys call.command) && puts_many_keys change)) _ c13.0;
       masters = c16.0;
       active = c17.0;
       room = when_none (adds_row call.command && nat_le most_rows (length s.princs + length s.policies)) _ c18.0;

@@ -6,3 +6,9 @@ pub mod ValidChanges
 pub mod ValidSteps
 pub mod SparedKeys
 pub mod NewLogs
+pub mod OwnParts
+pub mod MasterRowLists
+pub mod Enough
+pub mod NameLists
+pub mod Targets
+pub mod Deciding

@@ -8,3 +8,4 @@ pub mod Refusals
 pub mod Steps
 pub mod Rekeying
 pub mod Laws
+pub mod Asking

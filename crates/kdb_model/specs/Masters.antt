@@ -41,16 +41,17 @@ used_activations s call c = with_activation c.version (use_secs s call c) s.acti
 
 -- ---- purge_mkeys
 
+abbrev pub purge_row : State → ℕ → Master → PurgeRow
+purge_row s secs m = record { version = m.version; cause = cause_of s secs m.version }
+
 -- every listed version, and why it serves
 unfoldable pub purge_rows : State → ℕ → List PurgeRow
-purge_rows s secs = map (λ (m : Master). record { version = m.version; cause = cause_of s secs m.version }) s.masters
+purge_rows s secs = map (purge_row s secs) s.masters
 
 -- ---- list_mkeys
 
+abbrev pub master_row : State → ℕ → Master → MasterRow
+master_row s secs m = record { version = m.version; etype = m.key.etype; secs = activation_of m.version s.activations; active = is_active_at s.activations secs m.version }
+
 unfoldable pub master_rows : State → ℕ → List MasterRow
-master_rows s secs = map (λ (m : Master). record {
-  version = m.version;
-  etype = m.key.etype;
-  secs = activation_of m.version s.activations;
-  active = is_active_at s.activations secs m.version;
-}) s.masters
+master_rows s secs = map (master_row s secs) s.masters

@@ -41,8 +41,11 @@ numbers_for (Some name) policies = unwrap_or (option_map numbers_of (policy_name
 abbrev pub default_policy : List ℕ
 default_policy = codes "default"
 
+abbrev pub default_given : List Rules → Option (List ℕ)
+default_given policies = if has_policy default_policy policies then Some default_policy else None
+
 abbrev pub line_policy : AddPrinc → List Rules → Option (List ℕ)
-line_policy c policies = chosen c.policy (if has_policy default_policy policies then Some default_policy else None)
+line_policy c policies = chosen c.policy (default_given policies)
 
 -- the policy behind restrictions
 abbrev pub added_policy : State → Call → AddPrinc → Option (List ℕ)

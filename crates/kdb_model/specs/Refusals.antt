@@ -226,7 +226,7 @@ puts_many_keys _ = false
 
 -- no version is left for new keys, or there would be more keys than a principal may have
 abbrev pub keys_full : State → Option PlainOp → Command → Option Refusal
-keys_full s change command = when (has_last_kvno command (target s command) || puts_many_keys change) why.KeysFull
+keys_full s change command = when (has_last_kvno command (target s command) || (is_some (new_keys command) && puts_many_keys change)) why.KeysFull
 
 abbrev pub lacks_string : Command → Option PlainPrinc → Bool
 lacks_string (command.DelString c) (Some q) = not (has_string c.key q.strings)
