@@ -16,11 +16,14 @@ use crate::masters::{added_master, last_version, newest_master, purged_masters, 
 use crate::records::{added, changed_policy, modified, purged, rekeyed, renamed, restrung};
 use kadm_commands::{AddPrinc, Command, DelString, ModPolicy, SetString, UseMaster};
 use kdb_base::{Blob, Etype, MemoryOut};
-use kdb_plain::{PlainOp, PlainPrinc, copy_princ, master_name, policy_named, princ_named, with_string, without_string};
-use serving_versions::dead_versions;
+use kdb_plain::{
+    PlainOp, PlainPrinc, copy_princ, master_name, policy_named, princ_named, with_string,
+    without_string,
+};
 use policy_rules::Policy;
 use princ_name::print_name;
 use princ_record::copy_policy;
+use serving_versions::dead_versions;
 use std::alloc::Global;
 use tagged_data::StringAttributes;
 

@@ -14,9 +14,9 @@ use crate::asked::{Asked, secs_of};
 use kadm_commands::{MasterRow, MasterRows, PurgeRow, PurgeRows, UseMaster};
 use kdb_base::{Activation, Activations, Etype, Master, Masters, MemoryOut, PlainKey, Salt};
 use kdb_plain::{PlainOp, PlainPrinc, State, copy_princ};
+use key_activation::{active_at, set};
 use plain_keys::{PlainItem, PlainItems};
 use serving_versions::{cause_of, serves, serving_masters};
-use key_activation::{active_at, set};
 use std::alloc::Global;
 
 /// The newest master key.

@@ -20,8 +20,12 @@ use crate::heads::{
 };
 use kadm_commands::{AddPrinc, ChangeKeys, ModPolicy, ModPrinc, PurgeKeys, RenPrinc};
 use kdb_base::{Blob, MemoryOut};
-use kdb_plain::{PlainPrinc, PolicyList, copy_princ, has_policy, plain_head, plain_of, policy_named};
-use plain_keys::{NewKeys, PlainItem, PlainItems, PlainSets, items_of, newest_kvno, remembered, settled_salt};
+use kdb_plain::{
+    PlainPrinc, PolicyList, copy_princ, has_policy, plain_head, plain_of, policy_named,
+};
+use plain_keys::{
+    NewKeys, PlainItem, PlainItems, PlainSets, items_of, newest_kvno, remembered, settled_salt,
+};
 use policy_rules::{Numbers, Policy};
 use princ_name::{Name, print_name};
 use princ_record::Princ;

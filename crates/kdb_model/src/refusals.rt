@@ -20,9 +20,12 @@ use crate::records::{added_numbers, is_password, numbers_for};
 use kadm_commands::{ChangeKeys, Command, PolicyChoice};
 use kdb_base::limits::{MAX_KEYS, MAX_MASTERS, MAX_ROW_LEN, MAX_ROWS, MAX_STRINGS};
 use kdb_base::{Blob, Masters, MemoryOut, PlainKey, Refusal};
-use kdb_plain::{PlainOp, PlainPrinc, PolicyList, chain_len, has_policy, has_room_for, has_string, history_key, is_history_name, is_master_name, master_of, row_len, users_of};
-use plain_keys::{NewKeys, is_reused, made_keys, newest_kvno};
+use kdb_plain::{
+    PlainOp, PlainPrinc, PolicyList, chain_len, has_policy, has_room_for, has_string, history_key,
+    is_history_name, is_master_name, master_of, row_len, users_of,
+};
 use key_activation::active_at;
+use plain_keys::{NewKeys, is_reused, made_keys, newest_kvno};
 use policy_rules::{Numbers, has_few_classes, is_short};
 use std::alloc::Global;
 
