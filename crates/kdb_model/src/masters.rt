@@ -208,7 +208,7 @@ fn serving_items(state: &State, secs: u32, items: PlainItems) -> PlainItems
 }
 
 /// `purge_mkeys`: the change, where K/M is there.
-#[tactic(auto, unfolding(serving_versions::specs::MasterChanges::purges_masters, kdb_plain::specs::MasterChanges::with_serving))]
+#[tactic(auto, unfolding(serving_versions::specs::MasterChanges::purges_masters, serving_versions::specs::MasterChanges::with_serving))]
 pub(crate) fn purged_masters(
     alloc: Global,
     state: &State,
