@@ -4,3 +4,5 @@ pub mod Seen
 pub mod Rooms
 pub mod DropPlans
 pub mod PolicyPlans
+pub mod ReadPlans
+pub mod NameLists

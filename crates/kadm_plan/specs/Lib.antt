@@ -1,3 +1,4 @@
 pub mod KeptEntries
 pub mod Causes
+pub mod ShownRecords
 pub mod Given

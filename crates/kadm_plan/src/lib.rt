@@ -4,8 +4,10 @@
 mod causes;
 mod dropping;
 pub mod given;
+mod listing;
 pub mod planned;
 mod policies;
+mod shown_records;
 
 pub use given::View;
 pub use planned::Planned;
