@@ -25,6 +25,7 @@ use Rattle.kdb_model.specs.Calls.{Call}
 use Rattle.kdb_model.specs.Entries.{entry_of}
 use Rattle.kdb_model.specs.Refusals.{first, is_protected, target, when}
 use Rattle.kdb_model.specs.Steps.{key_shown as plain_shown, names_in, reading_of, shown_of}
+use Rattle.kdb_plain.specs.Heads.{plain_head}
 use Rattle.kdb_plain.specs.Lists.{princ_names}
 use Rattle.kdb_plain.specs.States.{master_of, princ_named}
 use Rattle.kdb_plain.specs.declared.princs.PlainPrinc.{PlainPrinc}
@@ -72,6 +73,11 @@ shown_by h keys = record {
   keys = keys;
 }
 
+shown_alike : (masters : List Master) (history : Key) (p : Princ) (q : PlainPrinc) → ShowsPrinc masters history p q → record_shown p ≡ shown_of q
+unfolding record_shown shown_of
+shown_alike masters history p q f =
+    ap (λ (h : Princ). shown_by h (map key_shown p.keys)) f.under.fields ∙ ap (λ (ks : List KeyShown). shown_by (plain_head q) ks) (keys_alike f.master p.keys q.keys f.under.keys)
+
 -- ---- a principal
 
 module _ (g : Given) (cmd : Command) (name : NameParts) (text : List ℕ) (found : Option Princ) (text_is : text ≡ printed name) (found_is : found ≡ record_named text g.rows.now.princs)
@@ -96,6 +102,14 @@ module _ (g : Given) (name : NameParts) (text : List ℕ) (own : Bool) (found : 
   show_comes = comes g (command.GetPrinc name) (denied ∷ when (is_none found) UnknownPrincipal ∷ []) (λ s call given.
       show_tests s g.client.now given.called.clock g.random.now (access_of g) name (princ_named (printed name) s.princs) own refl (sym own_is)
       ∙ both _ _ _ _ (sym denied_is) (both _ _ _ _ (absent_so g (command.GetPrinc name) name text found text_is found_is s call given) refl))
+
+  pub shows : (p : Princ) (made : PrincShown) → denied ≡ None → found ≡ Some p → made ≡ record_shown p → IsJudged g (command.GetPrinc name) (Ok (Answer (reply.Shown made)))
+  unfolding entry_of reading_of target
+  shows p made none is made_is =
+      answered g (command.GetPrinc name) (denied ∷ when (is_none found) UnknownPrincipal ∷ []) show_comes None (none_missing denied found p UnknownPrincipal none is) (reply.Shown made) refl
+      (λ s call given.
+      let other = beside g (command.GetPrinc name) name text found text_is found_is s call given p is in
+      (refl, rw other.there (ap reply.Shown (made_is ∙ shown_alike s.masters given.seen.shows.history p other.other other.beside))))
 
 -- ---- getstrs
 

@@ -2,3 +2,4 @@ pub mod KeptEntries
 pub mod Causes
 pub mod ShownRecords
 pub mod Given
+pub mod Targets
