@@ -5,23 +5,43 @@ use Rattle.std.specs.List.{list_any}
 use Rattle.acl_text.specs.declared.rules.AclLine.{AclLine}
 use Rattle.kadm_commands.specs.declared.commands.Command.{Command}
 use Rattle.kadm_commands.specs.declared.commands.Command.TheVariants as command
+use Rattle.kadm_commands.specs.declared.commands.DelString.{DelString}
+use Rattle.kadm_commands.specs.declared.commands.PurgeKeys.{PurgeKeys}
+use Rattle.kadm_commands.specs.declared.commands.SetString.{SetString}
 use Rattle.kadm_commands.specs.declared.policies.ModPolicy.{ModPolicy}
 use Rattle.kadm_plan.specs.Causes.{denial_of, denial_unless}
 use Rattle.kadm_plan.proofs.Lists.{skip, and_true, and_false}
-use Rattle.kdb_base.specs.Limits.{most_rows}
+use Rattle.kdb_base.specs.Limits.{most_keys, most_rows, most_strings}
 use Rattle.kdb_base.specs.Moment.{Moment}
 use Rattle.kdb_base.specs.declared.outcomes.Refusal.{Refusal}
-use Rattle.kdb_base.specs.declared.outcomes.Refusal.TheVariants.{Duplicate, LockedDown, PolicyInUse, Protected, RowsFull, UnknownPolicy, UnknownPrincipal}
+use Rattle.kdb_base.specs.declared.outcomes.Refusal.TheVariants.{Duplicate, LockedDown, PolicyInUse, Protected, RowsFull, StringsFull, UnknownPolicy, UnknownPrincipal, UnknownString}
 use Rattle.kdb_model.specs.Access.{adding, asking, asking_alone, asks, deleting, denied_in, extracting, inquiring, listing, modifying, same_name}
 use Rattle.kdb_model.specs.Calls.{Call, call_of}
 use Rattle.kdb_model.specs.Entries.{entry_of}
 use Rattle.kdb_model.specs.Fields.{has_bit, lockdown_keys}
-use Rattle.kdb_model.specs.Refusals.{bytes_put, causes_with, first, is_locked, is_protected, refusal, target, when}
+use Rattle.kdb_model.specs.Refusals.{bytes_put, causes_with, first, is_locked, is_protected, refusal, target, too_large, when}
+use Rattle.kdb_model.specs.Records.{purged, restrung}
+use Rattle.kdb_plain.specs.Strings.{has_room_for, has_string, with_string, without_string}
+use Rattle.kdb_plain.specs.declared.changes.PlainOp.TheVariants.{PutPrinc}
+use Rattle.plain_keys.specs.Keys.{keys_from, least_kvno}
 use Rattle.kdb_plain.specs.States.{has_policy, policy_named, princ_named, users_of}
 use Rattle.kdb_plain.specs.declared.princs.PlainPrinc.{PlainPrinc}
 use Rattle.kdb_plain.specs.declared.states.State.{State}
 use Rattle.policy_rules.specs.Rules.{Rules}
 use Rattle.princ_name.specs.Names.{NameParts, printed}
+
+-- ---- what is left of the causes, once there is the principal
+
+abbrev pub set_string_rest : State → Call → SetString → PlainPrinc → List (Option Refusal)
+set_string_rest s call c q =
+    when (not (has_room_for c.key q.strings)) (StringsFull most_strings) ∷ too_large s (Some (PutPrinc (restrung s call (with_string c.key c.value q.strings) q))) ∷ []
+
+abbrev pub drop_string_rest : State → Call → DelString → PlainPrinc → List (Option Refusal)
+drop_string_rest s call c q =
+    when (not (has_string c.key q.strings)) UnknownString ∷ too_large s (Some (PutPrinc (restrung s call (without_string c.key q.strings) q))) ∷ []
+
+abbrev pub purge_rest : State → Call → PurgeKeys → PlainPrinc → List (Option Refusal)
+purge_rest s call c q = too_large s (Some (PutPrinc (purged s call c q))) ∷ []
 
 module _ (s : State) (client : NameParts) (clock : Moment) (random : List ℕ) where
   abbrev told : Option (List AclLine) → Command → Call
@@ -132,3 +152,58 @@ module _ (s : State) (client : NameParts) (clock : Moment) (random : List ℕ) w
   drop_policy_tests None name (Some p) e = rw e (skip (used name) _ _ refl)
   drop_policy_tests (Some lines) name None e = rw e (skip (denied_in lines client (asking_alone deleting ∷ [])) _ _ refl)
   drop_policy_tests (Some lines) name (Some p) e = rw e (skip (denied_in lines client (asking_alone deleting ∷ [])) _ _ (skip (used name) _ _ refl))
+
+  -- ---- string attributes
+
+  abbrev protected_by : NameParts → Option Refusal
+  protected_by name = when (list_any (is_protected s.realm) (name ∷ [])) Protected
+
+  pub set_string_absent : (access : Option (List AclLine)) (c : SetString) → princ_named (printed c.name) s.princs ≡ None
+      → refusal s (told access (command.SetString c)) ≡ first (denial_of access client (asking modifying c.name ∷ []) ∷ protected_by c.name ∷ Some UnknownPrincipal ∷ [])
+  unfolding refusal causes_with first target entry_of asks bytes_put
+  set_string_absent None c e = rw e (skip (protected_by c.name) _ _ refl)
+  set_string_absent (Some lines) c e = rw e (skip (denied_in lines client (asking modifying c.name ∷ [])) _ _ (skip (protected_by c.name) _ _ refl))
+
+  pub set_string_present : (access : Option (List AclLine)) (c : SetString) (q : PlainPrinc) → nat_lt most_keys (length q.keys) ≡ false → princ_named (printed c.name) s.princs ≡ Some q
+      → refusal s (told access (command.SetString c)) ≡ first (denial_of access client (asking modifying c.name ∷ []) ∷ protected_by c.name ∷ set_string_rest s (told access (command.SetString c)) c q)
+  unfolding refusal causes_with first target entry_of asks bytes_put restrung
+  set_string_present None c q few e =
+      rw (e, few) (skip (protected_by c.name) _ _ (skip (when (not (has_room_for c.key q.strings)) (StringsFull most_strings)) _ _
+      (skip (too_large s (Some (PutPrinc (restrung s (told None (command.SetString c)) (with_string c.key c.value q.strings) q)))) _ _ refl)))
+  set_string_present (Some lines) c q few e =
+      rw (e, few, and_false (has_bit lockdown_keys q.attributes)) (skip (denied_in lines client (asking modifying c.name ∷ [])) _ _ (skip (protected_by c.name) _ _
+      (skip (when (not (has_room_for c.key q.strings)) (StringsFull most_strings)) _ _
+      (skip (too_large s (Some (PutPrinc (restrung s (told (Some lines) (command.SetString c)) (with_string c.key c.value q.strings) q)))) _ _ refl))))
+
+  pub drop_string_absent : (access : Option (List AclLine)) (c : DelString) → princ_named (printed c.name) s.princs ≡ None
+      → refusal s (told access (command.DelString c)) ≡ first (denial_of access client (asking modifying c.name ∷ []) ∷ protected_by c.name ∷ Some UnknownPrincipal ∷ [])
+  unfolding refusal causes_with first target entry_of asks bytes_put
+  drop_string_absent None c e = rw e (skip (protected_by c.name) _ _ refl)
+  drop_string_absent (Some lines) c e = rw e (skip (denied_in lines client (asking modifying c.name ∷ [])) _ _ (skip (protected_by c.name) _ _ refl))
+
+  pub drop_string_present : (access : Option (List AclLine)) (c : DelString) (q : PlainPrinc) → nat_lt most_keys (length q.keys) ≡ false → princ_named (printed c.name) s.princs ≡ Some q
+      → refusal s (told access (command.DelString c)) ≡ first (denial_of access client (asking modifying c.name ∷ []) ∷ protected_by c.name ∷ drop_string_rest s (told access (command.DelString c)) c q)
+  unfolding refusal causes_with first target entry_of asks bytes_put restrung
+  drop_string_present None c q few e =
+      rw (e, few) (skip (protected_by c.name) _ _ (skip (when (not (has_string c.key q.strings)) UnknownString) _ _
+      (skip (too_large s (Some (PutPrinc (restrung s (told None (command.DelString c)) (without_string c.key q.strings) q)))) _ _ refl)))
+  drop_string_present (Some lines) c q few e =
+      rw (e, few, and_false (has_bit lockdown_keys q.attributes)) (skip (denied_in lines client (asking modifying c.name ∷ [])) _ _ (skip (protected_by c.name) _ _
+      (skip (when (not (has_string c.key q.strings)) UnknownString) _ _
+      (skip (too_large s (Some (PutPrinc (restrung s (told (Some lines) (command.DelString c)) (without_string c.key q.strings) q)))) _ _ refl))))
+
+  -- ---- purgekeys
+
+  pub purge_absent : (access : Option (List AclLine)) (c : PurgeKeys) → princ_named (printed c.name) s.princs ≡ None
+      → refusal s (told access (command.PurgeKeys c)) ≡ first (denial_of access client (asking modifying c.name ∷ []) ∷ protected_by c.name ∷ Some UnknownPrincipal ∷ [])
+  unfolding refusal causes_with first target entry_of asks bytes_put
+  purge_absent None c e = rw e (skip (protected_by c.name) _ _ refl)
+  purge_absent (Some lines) c e = rw e (skip (denied_in lines client (asking modifying c.name ∷ [])) _ _ (skip (protected_by c.name) _ _ refl))
+
+  pub purge_present : (access : Option (List AclLine)) (c : PurgeKeys) (q : PlainPrinc) → nat_lt most_keys (length (keys_from (least_kvno c.keep q.keys) q.keys)) ≡ false → princ_named (printed c.name) s.princs ≡ Some q
+      → refusal s (told access (command.PurgeKeys c)) ≡ first (denial_of access client (asking modifying c.name ∷ []) ∷ protected_by c.name ∷ purge_rest s (told access (command.PurgeKeys c)) c q)
+  unfolding refusal causes_with first target entry_of asks bytes_put purged
+  purge_present None c q few e = rw (e, few) (skip (protected_by c.name) _ _ (skip (too_large s (Some (PutPrinc (purged s (told None (command.PurgeKeys c)) c q)))) _ _ refl))
+  purge_present (Some lines) c q few e =
+      rw (e, few, and_false (has_bit lockdown_keys q.attributes)) (skip (denied_in lines client (asking modifying c.name ∷ [])) _ _ (skip (protected_by c.name) _ _
+      (skip (too_large s (Some (PutPrinc (purged s (told (Some lines) (command.PurgeKeys c)) c q)))) _ _ refl)))

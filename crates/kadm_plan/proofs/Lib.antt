@@ -4,3 +4,11 @@ pub mod Seen
 pub mod Rooms
 pub mod DropPlans
 pub mod PolicyPlans
+pub mod ReadPlans
+pub mod NameLists
+pub mod PrintedPairs
+pub mod Fits
+pub mod TargetFound
+pub mod Puts
+pub mod StringPlans
+pub mod PurgePlans

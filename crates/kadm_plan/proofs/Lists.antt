@@ -1,5 +1,5 @@
 -- Lists of causes, of which the first that holds counts.
-use Rattle.std.proofs.Common.{◌≡◌, Bool, true, false, ◌&&◌, ◌||◌, List, [], ◌∷◌, Option, Some, None, refl, sym, ap, ◌∙◌}
+use Rattle.std.proofs.Common.{◌≡◌, Bool, true, false, ◌&&◌, ◌||◌, List, [], ◌∷◌, ◌++◌, Option, Some, None, refl, sym, ap, ◌∙◌}
 use Rattle.std.specs.Prelude.{is_none, is_some, option_map, if◌then◌else◌}
 use Rattle.kdb_base.specs.declared.outcomes.Refusal.{Refusal}
 use Rattle.kdb_model.specs.Refusals.{first, when}
@@ -45,3 +45,23 @@ none_missing before found x missing none is = rw (none, is) refl
 pub missing_alike : {A B : Type 0} (f : A → B) (before : Option Refusal) (found : Option A) (missing : Refusal) → first (before ∷ when (is_none found) missing ∷ []) ≡ first (before ∷ when (is_none (option_map f found)) missing ∷ [])
 missing_alike f before None missing = refl
 missing_alike f before (Some x) missing = refl
+
+-- ---- lists behind lists
+
+pub early : (xs ys : List (Option Refusal)) (why : Refusal) → first xs ≡ Some why → first (xs ++ ys) ≡ Some why
+unfolding first
+early [] ys why e = absurd cc
+early (None ∷ xs) ys why e = early xs ys why e
+early (Some other ∷ xs) ys why e = e
+
+pub later : (xs ys : List (Option Refusal)) → first xs ≡ None → first (xs ++ ys) ≡ first ys
+unfolding first
+later [] ys e = refl
+later (None ∷ xs) ys e = later xs ys e
+later (Some why ∷ xs) ys e = absurd cc
+
+pub nested : (xs ys : List (Option Refusal)) → first (first xs ∷ ys) ≡ first (xs ++ ys)
+unfolding first
+nested [] ys = refl
+nested (None ∷ xs) ys = nested xs ys
+nested (Some why ∷ xs) ys = refl

@@ -42,7 +42,7 @@ may_add_policy p rows lt = may_from (PutPolicy p) rows (add_policy_room p rows l
 
 -- ---- what is put in the place of another
 
-any_default : {X : Type 0} (xs : List X) (i : ℕ) (c d : X) → i < length xs → get_or xs i c ≡ get_or xs i d
+pub any_default : {X : Type 0} (xs : List X) (i : ℕ) (c d : X) → i < length xs → get_or xs i c ≡ get_or xs i d
 any_default [] i c d lt = absurd (omega arith)
 any_default (x ∷ xs) zero c d lt = refl
 any_default (x ∷ xs) (suc i) c d lt = any_default xs i c d (omega arith)

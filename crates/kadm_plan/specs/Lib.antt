@@ -1,3 +1,5 @@
 pub mod KeptEntries
 pub mod Causes
+pub mod ShownRecords
 pub mod Given
+pub mod Targets

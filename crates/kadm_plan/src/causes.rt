@@ -7,7 +7,7 @@ ghost use Rattle.kdb_base.specs.declared.outcomes.Refusal.{Refusal};
 ghost use Rattle.kdb_model.specs.Access.{denied_in};
 ghost use Rattle.kdb_model.specs.Fields.{has_bit, lockdown_keys};
 ghost use Rattle.kdb_model.specs.Refusals.{first, is_protected, when};
-ghost use Rattle.kadm_plan.specs.Causes.{denial_of, is_locked_record};
+ghost use Rattle.kadm_plan.specs.Causes.{denial_of, denial_unless, is_locked_record};
 ghost use Rattle.princ_name.specs.Names.{NameParts, printed};
 ghost use Rattle.princ_rows.specs.Rows.{AreRows};
 ghost use Rattle.row_keys.specs.Lookups.{record_named, records_with_policy};
@@ -75,6 +75,21 @@ pub(crate) fn denial(given: &Given, letter: u8, target: Option<&Name>) -> Option
 {
     match given.acl {
         Some(acl) => denied_in(acl, given.client, letter, target, false),
+        None => None,
+    }
+}
+
+/// The refusal of an operation on a principal that everybody has on the own one.
+pub(crate) fn own_denial(given: &Given, own: bool, letter: u8, name: &Name) -> Option<Refusal>
+    ensures { result ≡ denial_unless own (option_map (λ acl. acl.now) given.now.acl) given.now.client.now (record { letter = letter; target = Some name.now; plainly = false } ∷ []) }
+{
+    match given.acl {
+        Some(acl) => {
+            if own {
+                return None;
+            }
+            denied_in(acl, given.client, letter, Some(name), false)
+        }
         None => None,
     }
 }

@@ -4,8 +4,13 @@
 mod causes;
 mod dropping;
 pub mod given;
+mod listing;
 pub mod planned;
 mod policies;
+mod purging;
+mod shown_records;
+mod strings;
+mod targets;
 
 pub use given::View;
 pub use planned::Planned;
