@@ -168,10 +168,10 @@ module _ (s : State) (client : NameParts) (clock : Moment) (random : List ℕ) w
       → refusal s (told access (command.SetString c)) ≡ first (denial_of access client (asking modifying c.name ∷ []) ∷ protected_by c.name ∷ set_string_rest s (told access (command.SetString c)) c q)
   unfolding refusal causes_with first target entry_of asks bytes_put restrung
   set_string_present None c q few e =
-      rw (e, few) (skip (protected_by c.name) _ _ (skip (when (not (has_room_for c.key q.strings)) (StringsFull most_strings)) _ _
+      rw e (skip (protected_by c.name) _ _ (skip (when (not (has_room_for c.key q.strings)) (StringsFull most_strings)) _ _
       (skip (too_large s (Some (PutPrinc (restrung s (told None (command.SetString c)) (with_string c.key c.value q.strings) q)))) _ _ refl)))
   set_string_present (Some lines) c q few e =
-      rw (e, few, and_false (has_bit lockdown_keys q.attributes)) (skip (denied_in lines client (asking modifying c.name ∷ [])) _ _ (skip (protected_by c.name) _ _
+      rw (e, and_false (has_bit lockdown_keys q.attributes)) (skip (denied_in lines client (asking modifying c.name ∷ [])) _ _ (skip (protected_by c.name) _ _
       (skip (when (not (has_room_for c.key q.strings)) (StringsFull most_strings)) _ _
       (skip (too_large s (Some (PutPrinc (restrung s (told (Some lines) (command.SetString c)) (with_string c.key c.value q.strings) q)))) _ _ refl))))
 
@@ -185,10 +185,10 @@ module _ (s : State) (client : NameParts) (clock : Moment) (random : List ℕ) w
       → refusal s (told access (command.DelString c)) ≡ first (denial_of access client (asking modifying c.name ∷ []) ∷ protected_by c.name ∷ drop_string_rest s (told access (command.DelString c)) c q)
   unfolding refusal causes_with first target entry_of asks bytes_put restrung
   drop_string_present None c q few e =
-      rw (e, few) (skip (protected_by c.name) _ _ (skip (when (not (has_string c.key q.strings)) UnknownString) _ _
+      rw e (skip (protected_by c.name) _ _ (skip (when (not (has_string c.key q.strings)) UnknownString) _ _
       (skip (too_large s (Some (PutPrinc (restrung s (told None (command.DelString c)) (without_string c.key q.strings) q)))) _ _ refl)))
   drop_string_present (Some lines) c q few e =
-      rw (e, few, and_false (has_bit lockdown_keys q.attributes)) (skip (denied_in lines client (asking modifying c.name ∷ [])) _ _ (skip (protected_by c.name) _ _
+      rw (e, and_false (has_bit lockdown_keys q.attributes)) (skip (denied_in lines client (asking modifying c.name ∷ [])) _ _ (skip (protected_by c.name) _ _
       (skip (when (not (has_string c.key q.strings)) UnknownString) _ _
       (skip (too_large s (Some (PutPrinc (restrung s (told (Some lines) (command.DelString c)) (without_string c.key q.strings) q)))) _ _ refl))))
 
@@ -203,7 +203,7 @@ module _ (s : State) (client : NameParts) (clock : Moment) (random : List ℕ) w
   pub purge_present : (access : Option (List AclLine)) (c : PurgeKeys) (q : PlainPrinc) → nat_lt most_keys (length (keys_from (least_kvno c.keep q.keys) q.keys)) ≡ false → princ_named (printed c.name) s.princs ≡ Some q
       → refusal s (told access (command.PurgeKeys c)) ≡ first (denial_of access client (asking modifying c.name ∷ []) ∷ protected_by c.name ∷ purge_rest s (told access (command.PurgeKeys c)) c q)
   unfolding refusal causes_with first target entry_of asks bytes_put purged
-  purge_present None c q few e = rw (e, few) (skip (protected_by c.name) _ _ (skip (too_large s (Some (PutPrinc (purged s (told None (command.PurgeKeys c)) c q)))) _ _ refl))
+  purge_present None c q few e = rw e (skip (protected_by c.name) _ _ (skip (too_large s (Some (PutPrinc (purged s (told None (command.PurgeKeys c)) c q)))) _ _ refl))
   purge_present (Some lines) c q few e =
-      rw (e, few, and_false (has_bit lockdown_keys q.attributes)) (skip (denied_in lines client (asking modifying c.name ∷ [])) _ _ (skip (protected_by c.name) _ _
+      rw (e, and_false (has_bit lockdown_keys q.attributes)) (skip (denied_in lines client (asking modifying c.name ∷ [])) _ _ (skip (protected_by c.name) _ _
       (skip (too_large s (Some (PutPrinc (purged s (told (Some lines) (command.PurgeKeys c)) c q)))) _ _ refl)))
