@@ -8,6 +8,7 @@ mod listing;
 pub mod planned;
 mod policies;
 mod purging;
+mod reading;
 mod shown_records;
 mod strings;
 mod targets;
