@@ -9,6 +9,7 @@ pub mod planned;
 mod policies;
 mod purging;
 mod reading;
+mod renaming;
 mod shown_records;
 mod strings;
 mod targets;
