@@ -51,11 +51,11 @@ module _ (s : State) (client : NameParts) (clock : Moment) (random : List ℕ) w
 
   pub drop_tests : (access : Option (List AclLine)) (name : NameParts) (found : Option PlainPrinc) → princ_named (printed name) s.princs ≡ found
       → refusal s (told access (command.DelPrinc name)) ≡ first (
-          denial_of access client (asking deleting name ∷ [])
-          ∷ when (list_any (is_protected s.realm) (name ∷ [])) Protected
-          ∷ when (is_none found) UnknownPrincipal
-          ∷ when (is_some access && is_locked found) LockedDown
-          ∷ []
+      denial_of access client (asking deleting name ∷ [])
+      ∷ when (list_any (is_protected s.realm) (name ∷ [])) Protected
+      ∷ when (is_none found) UnknownPrincipal
+      ∷ when (is_some access && is_locked found) LockedDown
+      ∷ []
       )
   unfolding refusal causes_with first target entry_of asks bytes_put
   drop_tests None name None e = rw e (skip (when (list_any (is_protected s.realm) (name ∷ [])) Protected) _ _ refl)
@@ -68,11 +68,11 @@ module _ (s : State) (client : NameParts) (clock : Moment) (random : List ℕ) w
 
   pub extract_tests : (access : Option (List AclLine)) (name : NameParts) (found : Option PlainPrinc) → princ_named (printed name) s.princs ≡ found
       → refusal s (told access (command.Extract name)) ≡ first (
-          denial_of access client (asking extracting name ∷ [])
-          ∷ when (list_any (is_protected s.realm) (name ∷ [])) Protected
-          ∷ when (is_none found) UnknownPrincipal
-          ∷ when (is_some access && is_locked found) LockedDown
-          ∷ []
+      denial_of access client (asking extracting name ∷ [])
+      ∷ when (list_any (is_protected s.realm) (name ∷ [])) Protected
+      ∷ when (is_none found) UnknownPrincipal
+      ∷ when (is_some access && is_locked found) LockedDown
+      ∷ []
       )
   unfolding refusal causes_with first target entry_of asks bytes_put
   extract_tests None name None e = rw e (skip (when (list_any (is_protected s.realm) (name ∷ [])) Protected) _ _ refl)

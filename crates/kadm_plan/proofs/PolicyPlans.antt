@@ -82,8 +82,8 @@ module _ (g : Given) (p : Rules) (denied twice full : Option Refusal)
       ap (λ n. n + length s.policies) (sym (counted_alike s.masters shows.history g.rows.now.princs s.princs shows.princs)) ∙ ap (λ (ps : List Rules). length g.rows.now.princs + length ps) (sym shows.policies) in
       add_policy_tests s g.client.now given.called.clock g.random.now (access_of g) p
       ∙ both _ _ _ _ (sym denied_is)
-        (both _ _ _ _ (ap (λ (ps : List Rules). when (has_policy p.name ps) Duplicate) (sym shows.policies) ∙ sym twice_is)
-        (both _ _ _ _ (ap (λ n. when (nat_le most_rows n) (RowsFull most_rows)) same ∙ sym full_is) refl)))
+      (both _ _ _ _ (ap (λ (ps : List Rules). when (has_policy p.name ps) Duplicate) (sym shows.policies) ∙ sym twice_is)
+      (both _ _ _ _ (ap (λ n. when (nat_le most_rows n) (RowsFull most_rows)) same ∙ sym full_is) refl)))
 
   pub adds : (made : Rules) (result : Option Refusal) → result ≡ first (denied ∷ twice ∷ full ∷ []) → result ≡ None → IsCommand g.realm.now (command.AddPolicy p) → made ≡ p
       → IsJudged g (command.AddPolicy p) (Ok (Change (PutPolicy made)))
@@ -141,8 +141,8 @@ module _ (g : Given) (name : List ℕ) (found : Option Rules) (denied missing us
       let shows = given.seen.shows in
       drop_policy_tests s g.client.now given.called.clock g.random.now (access_of g) name found (ap (λ (ps : List Rules). policy_named name ps) (sym shows.policies) ∙ sym found_is)
       ∙ both _ _ _ _ (sym denied_is)
-        (both _ _ _ _ (sym missing_is)
-        (both _ _ _ _ (ap (λ n. when (nat_lt 0 n) (PolicyInUse n)) (sym (users_alike s.masters shows.history g.rows.now.princs s.princs shows.princs name)) ∙ sym used_is) refl)))
+      (both _ _ _ _ (sym missing_is)
+      (both _ _ _ _ (ap (λ n. when (nat_lt 0 n) (PolicyInUse n)) (sym (users_alike s.masters shows.history g.rows.now.princs s.princs shows.princs name)) ∙ sym used_is) refl)))
 
   pub drops : (made : List ℕ) (result : Option Refusal) → result ≡ first (denied ∷ missing ∷ used ∷ []) → result ≡ None → IsCommand g.realm.now (command.DelPolicy name) → made ≡ name → AreRows g.rows.now
       → IsJudged g (command.DelPolicy name) (Ok (Change (DropPolicy made)))
@@ -179,7 +179,7 @@ module _ (g : Given) (name : List ℕ) (found : Option Rules) (denied : Option R
   show_comes = comes g (command.GetPolicy name) (denied ∷ when (is_none found) UnknownPolicy ∷ []) (λ s call given.
       policy_tests s g.client.now given.called.clock g.random.now (access_of g) name
       ∙ both _ _ _ _ (sym denied_is)
-        (both _ _ _ _ (ap (λ (o : Option Rules). when (not (is_some o)) UnknownPolicy) (here_is s call given) ∙ ap (λ b. when b UnknownPolicy) (none_not found)) refl))
+      (both _ _ _ _ (ap (λ (o : Option Rules). when (not (is_some o)) UnknownPolicy) (here_is s call given) ∙ ap (λ b. when b UnknownPolicy) (none_not found)) refl))
 
   pub shows_policy : (p made : Rules) → denied ≡ None → found ≡ Some p → made ≡ p → IsJudged g (command.GetPolicy name) (Ok (Answer (reply.PolicyShown made)))
   unfolding entry_of reading_of

@@ -105,7 +105,7 @@ purged_shows masters history by named p q f = record {
   under = record {
     fields = ap (marked by) f.under.fields;
     keys = subst (λ n. AllZip (ShowsItem f.master) (kept_from (unwrap_or named (newest_version p.keys)) p.keys) (keys_from n q.keys)) (least_alike named f.master p.keys q.keys f.under.keys)
-      (from_shows f.master (unwrap_or named (newest_version p.keys)) p.keys q.keys f.under.keys);
+        (from_shows f.master (unwrap_or named (newest_version p.keys)) p.keys q.keys f.under.keys);
     old = f.under.old;
   };
 }
@@ -150,6 +150,6 @@ module _ (g : Given) (c : PurgeKeys) where
           tests = touch_left g (command.PurgeKeys c) modifying c.name (λ s call q. purge_rest s call c q) purge_touches p target s call given;
           entry_is = rw q.there refl;
           shows = subst (λ (b : By). ShowsPrinc s.masters given.seen.shows.history purge_made (plain_of (marked b (plain_head q.other)) (keys_from (least_kvno c.keep q.other.keys) q.other.keys) q.other.old))
-            (sym (by_alike g (command.PurgeKeys c) s call given)) (purged_shows s.masters given.seen.shows.history (by_given g) c.keep p q.other q.beside);
+              (sym (by_alike g (command.PurgeKeys c) s call given)) (purged_shows s.masters given.seen.shows.history (by_given g) c.keep p q.other q.beside);
           exact = rw target.there (ap (λ (b : By). Some (op.PutPrinc (with_from b c.keep p))) (by_alike g (command.PurgeKeys c) s call given));
         }) plan put (may_replace purge_made p g.rows.now target.rows (ap (λ n. record_named n g.rows.now.princs) (target_name g modifying c.name p target) ∙ target.there))

@@ -87,8 +87,6 @@ module _ (g : Given) (letter : ℕ) (name : NameParts) (p : Princ) (target : IsT
 
 -- the tests behind those of the target, over the plain principal
 
-
-
 -- the tests that the target owes, in a state
 abbrev front : Given → ℕ → NameParts → State → List (Option Refusal)
 front g letter name s = denial_of (access_of g) g.client.now (asking letter name ∷ []) ∷ when (list_any (is_protected s.realm) (name ∷ [])) Protected ∷ []
@@ -134,9 +132,9 @@ module _ (g : Given) (cmd : Command) (letter : ℕ) (name : NameParts) (rest : S
   pub touch_early : (why : Refusal) → AreRows g.rows.now → target_refusal g letter name ≡ Some why → IsJudged g cmd (Err why)
   touch_early why rows e = record {
     plan_is = λ s call given.
-    ap (refusal s) given.called.call_is
-    ∙ early_in rows s call given (record_named (printed name) g.rows.now.princs) (princ_named (printed name) s.princs) why refl refl
-      (found_both g cmd s call given (printed name) (printed name) (record_named (printed name) g.rows.now.princs) refl refl) e;
+        ap (refusal s) given.called.call_is
+        ∙ early_in rows s call given (record_named (printed name) g.rows.now.princs) (princ_named (printed name) s.princs) why refl refl
+        (found_both g cmd s call given (printed name) (printed name) (record_named (printed name) g.rows.now.princs) refl refl) e;
     applies = tt;
   }
 
@@ -194,10 +192,10 @@ module _ (g : Given) (cmd : Command) (made : Princ) (fits : IsPrinc made) (alone
   unfolding first
   too_long why is = record {
     plan_is = λ s call given.
-    let over : nat_lt longest_row (length (princ made)) ≡ true = lt-ltb longest_row (length (princ made)) is.long in
-    ap (refusal s) given.called.call_is ∙ (each s call given).tests
-    ∙ ap (λ n. first (when (nat_lt longest_row n) (RecordTooLarge (in_64_bits n)) ∷ [])) (size_is s call given)
-    ∙ rw (over, in_few_bits (length (princ made)) is.told) (ap Some (sym is.why_is));
+        let over : nat_lt longest_row (length (princ made)) ≡ true = lt-ltb longest_row (length (princ made)) is.long in
+        ap (refusal s) given.called.call_is ∙ (each s call given).tests
+        ∙ ap (λ n. first (when (nat_lt longest_row n) (RecordTooLarge (in_64_bits n)) ∷ [])) (size_is s call given)
+        ∙ rw (over, in_few_bits (length (princ made)) is.told) (ap Some (sym is.why_is));
     applies = tt;
   }
 
@@ -205,15 +203,15 @@ module _ (g : Given) (cmd : Command) (made : Princ) (fits : IsPrinc made) (alone
   unfolding first
   puts_so short room = record {
     plan_is = λ s call given. subst (λ (c : Call). IsChange g.rows.now s c (op.PutPrinc made)) (sym given.called.call_is)
-    (let within : nat_lt longest_row (length (princ made)) ≡ false = le-ltb longest_row (length (princ made)) short in
-    let e = each s call given in
-    record {
-      accepted = e.tests ∙ ap (λ n. first (when (nat_lt longest_row n) (RecordTooLarge (in_64_bits n)) ∷ [])) (size_is s call given) ∙ rw within refl;
-      plain = plain.PutPrinc e.other;
-      entry_is = e.entry_is;
-      shown = λ history is. subst (λ (h : Key). ShowsPrinc s.masters h made e.other) (same_history s given.seen.shows.history history given.seen.shows.history_is is) e.shows;
-      exact = e.exact;
-    });
+        (let within : nat_lt longest_row (length (princ made)) ≡ false = le-ltb longest_row (length (princ made)) short in
+        let e = each s call given in
+        record {
+          accepted = e.tests ∙ ap (λ n. first (when (nat_lt longest_row n) (RecordTooLarge (in_64_bits n)) ∷ [])) (size_is s call given) ∙ rw within refl;
+          plain = plain.PutPrinc e.other;
+          entry_is = e.entry_is;
+          shown = λ history is. subst (λ (h : Key). ShowsPrinc s.masters h made e.other) (same_history s given.seen.shows.history history given.seen.shows.history_is is) e.shows;
+          exact = e.exact;
+        });
     applies = record { spelled = record { fits = fits; short = short }; applies = room };
   }
 

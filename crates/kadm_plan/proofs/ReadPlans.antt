@@ -145,9 +145,9 @@ module _ (g : Given) (name : NameParts) (text : List ℕ) (found : Option Princ)
       let other = princ_named (printed name) s.princs in
       extract_tests s g.client.now given.called.clock g.random.now (access_of g) name other refl
       ∙ both _ _ _ _ (sym denied_is)
-        (both _ _ _ _ (ap (λ r. when (list_any (is_protected r) (name ∷ [])) Protected) given.seen.realm_is ∙ sym protected_is)
-        (both _ _ _ _ (absent_so g (command.Extract name) name text found text_is found_is s call given)
-        (both _ _ _ _ (ap (λ b. when (is_some (access_of g) && b) LockedDown) (sym (locked_alike s.masters given.seen.shows.history found other (sides g (command.Extract name) name text found text_is found_is s call given)))) refl))))
+      (both _ _ _ _ (ap (λ r. when (list_any (is_protected r) (name ∷ [])) Protected) given.seen.realm_is ∙ sym protected_is)
+      (both _ _ _ _ (absent_so g (command.Extract name) name text found text_is found_is s call given)
+      (both _ _ _ _ (ap (λ b. when (is_some (access_of g) && b) LockedDown) (sym (locked_alike s.masters given.seen.shows.history found other (sides g (command.Extract name) name text found text_is found_is s call given)))) refl))))
 
   pub extract_early : (why : Refusal) → first (first (denied ∷ protected ∷ []) ∷ when (is_none found) UnknownPrincipal ∷ []) ≡ Some why → IsJudged g (command.Extract name) (Err why)
   extract_early why e =

@@ -38,7 +38,7 @@ target_refusal g letter name = first (
     ∷ when (list_any (is_protected g.realm.now) (name ∷ [])) Protected
     ∷ when (is_none (record_named (printed name) g.rows.now.princs)) UnknownPrincipal
     ∷ []
-)
+    )
 
 -- the record is longer than a row may be, and so long
 pub record IsTooLong (p : Princ) (why : Refusal) : Type 0 where
