@@ -1,5 +1,5 @@
 -- What the whole list of causes comes to, command by command. All of it is over states alone.
-use Rattle.std.proofs.Common.{◌≡◌, ℕ, ◌+◌, Bool, true, false, ◌&&◌, List, [], ◌∷◌, length, Option, Some, None, refl, sym, ap, ◌∙◌}
+use Rattle.std.proofs.Common.{◌≡◌, ℕ, ◌+◌, Bool, true, false, ◌&&◌, List, [], ◌∷◌, length, Option, Some, None, refl}
 use Rattle.std.specs.Prelude.{is_none, is_some, nat_le, nat_lt, not}
 use Rattle.std.specs.List.{list_any}
 use Rattle.acl_text.specs.declared.rules.AclLine.{AclLine}
