@@ -1,5 +1,5 @@
 -- What the whole list of causes comes to, command by command. All of it is over states alone.
-use Rattle.std.proofs.Common.{◌≡◌, ℕ, ◌+◌, Bool, true, false, ◌&&◌, List, [], ◌∷◌, length, Option, Some, None, refl, sym, ap, ◌∙◌}
+use Rattle.std.proofs.Common.{◌≡◌, ℕ, ◌+◌, Bool, true, false, ◌&&◌, List, [], ◌∷◌, length, Option, Some, None, refl}
 use Rattle.std.specs.Prelude.{is_none, is_some, nat_le, nat_lt, not}
 use Rattle.std.specs.List.{list_any}
 use Rattle.acl_text.specs.declared.rules.AclLine.{AclLine}
@@ -57,11 +57,11 @@ module _ (s : State) (client : NameParts) (clock : Moment) (random : List ℕ) w
 
   pub drop_tests : (access : Option (List AclLine)) (name : NameParts) (found : Option PlainPrinc) → princ_named (printed name) s.princs ≡ found
       → refusal s (told access (command.DelPrinc name)) ≡ first (
-          denial_of access client (asking deleting name ∷ [])
-          ∷ when (list_any (is_protected s.realm) (name ∷ [])) Protected
-          ∷ when (is_none found) UnknownPrincipal
-          ∷ when (is_some access && is_locked found) LockedDown
-          ∷ []
+      denial_of access client (asking deleting name ∷ [])
+      ∷ when (list_any (is_protected s.realm) (name ∷ [])) Protected
+      ∷ when (is_none found) UnknownPrincipal
+      ∷ when (is_some access && is_locked found) LockedDown
+      ∷ []
       )
   unfolding refusal causes_with first target entry_of asks bytes_put
   drop_tests None name None e = rw e (skip (when (list_any (is_protected s.realm) (name ∷ [])) Protected) _ _ refl)
@@ -74,11 +74,11 @@ module _ (s : State) (client : NameParts) (clock : Moment) (random : List ℕ) w
 
   pub extract_tests : (access : Option (List AclLine)) (name : NameParts) (found : Option PlainPrinc) → princ_named (printed name) s.princs ≡ found
       → refusal s (told access (command.Extract name)) ≡ first (
-          denial_of access client (asking extracting name ∷ [])
-          ∷ when (list_any (is_protected s.realm) (name ∷ [])) Protected
-          ∷ when (is_none found) UnknownPrincipal
-          ∷ when (is_some access && is_locked found) LockedDown
-          ∷ []
+      denial_of access client (asking extracting name ∷ [])
+      ∷ when (list_any (is_protected s.realm) (name ∷ [])) Protected
+      ∷ when (is_none found) UnknownPrincipal
+      ∷ when (is_some access && is_locked found) LockedDown
+      ∷ []
       )
   unfolding refusal causes_with first target entry_of asks bytes_put
   extract_tests None name None e = rw e (skip (when (list_any (is_protected s.realm) (name ∷ [])) Protected) _ _ refl)

@@ -1,5 +1,5 @@
 -- Plans of delprinc.
-use Rattle.std.proofs.Common.{◌≡◌, ℕ, ◌&&◌, List, [], ◌∷◌, Option, Some, None, refl, sym, ap, subst, ◌∙◌}
+use Rattle.std.proofs.Common.{◌≡◌, ℕ, ◌&&◌, List, [], ◌∷◌, Option, Some, None, refl, sym, ap, ◌∙◌}
 use Rattle.std.specs.Prelude.{Ok, is_none, is_some}
 use Rattle.std.specs.List.{list_any}
 use Rattle.kadm_commands.specs.Commands.{IsCommand}
@@ -45,9 +45,9 @@ module _ (g : Given) (name : NameParts) (text : List ℕ) (found : Option Princ)
       let other = princ_named (printed name) s.princs in
       drop_tests s g.client.now given.called.clock g.random.now (access_of g) name other refl
       ∙ both _ _ _ _ (sym denied_is)
-        (both _ _ _ _ (ap (λ r. when (list_any (is_protected r) (name ∷ [])) Protected) given.seen.realm_is ∙ sym protected_is)
-        (both _ _ _ _ (ap (λ b. when b UnknownPrincipal) (sym (absent_alike s.masters history found other sides)) ∙ sym absent_is)
-        (both _ _ _ _ (ap (λ b. when (is_some (access_of g) && b) LockedDown) (sym (locked_alike s.masters history found other sides)) ∙ sym locked_is) refl))))
+      (both _ _ _ _ (ap (λ r. when (list_any (is_protected r) (name ∷ [])) Protected) given.seen.realm_is ∙ sym protected_is)
+      (both _ _ _ _ (ap (λ b. when b UnknownPrincipal) (sym (absent_alike s.masters history found other sides)) ∙ sym absent_is)
+      (both _ _ _ _ (ap (λ b. when (is_some (access_of g) && b) LockedDown) (sym (locked_alike s.masters history found other sides)) ∙ sym locked_is) refl))))
 
   drop_makes : (p : Princ) (s : State) (call : Call) (given : IsGiven g (command.DelPrinc name) s call) → found ≡ Some p → MakesChange g.rows.now s (told_at g (command.DelPrinc name) given.called.clock) (DropPrinc text)
   unfolding entry_of kept_entry_of

@@ -1,6 +1,6 @@
 -- Plans of the commands of policies.
-use Rattle.std.proofs.Common.{◌≡◌, ℕ, ◌+◌, ◌<◌, ◌≤◌, ◌^◌, Bool, true, false, List, [], ◌∷◌, length, Option, Some, None, refl, sym, ap, subst, ◌∙◌, arith}
-use Rattle.std.specs.Prelude.{Ok, Err, IfSome, IsTrue, is_none, is_some, nat_le, nat_lt, not, option_map, unwrap_or}
+use Rattle.std.proofs.Common.{◌≡◌, ℕ, ◌+◌, ◌<◌, ◌^◌, Bool, List, [], ◌∷◌, length, Option, Some, None, refl, sym, ap, subst, ◌∙◌, arith}
+use Rattle.std.specs.Prelude.{Ok, IsTrue, is_none, is_some, nat_le, nat_lt, not, unwrap_or}
 use Rattle.std.proofs.lemmas.Bool.{leb-false}
 use Rattle.kadm_commands.specs.Commands.{IsBelow32, IsCommand, IsModPolicy, Within}
 use Rattle.kadm_commands.specs.declared.commands.Command.TheVariants as command
@@ -14,7 +14,7 @@ use Rattle.kadm_plan.specs.declared.planned.Planned.TheVariants.{Answer, Change}
 use Rattle.kadm_plan.proofs.CommandTests.{add_policy_tests, drop_policy_tests, modify_policy_tests, policies_tests, policy_tests}
 use Rattle.kadm_plan.proofs.Lists.{both, none_missing, none_of, there, when_not}
 use Rattle.kadm_plan.proofs.Rooms.{found_holds, may_add_policy, may_drop_policy, may_replace_policy}
-use Rattle.kadm_plan.proofs.Seen.{ComesTo, MakesChange, access_of, answered, changed, comes, refused, told_at}
+use Rattle.kadm_plan.proofs.Seen.{ComesTo, access_of, answered, changed, comes}
 use Rattle.kdb_base.specs.Limits.{most_rows}
 use Rattle.kdb_base.specs.declared.outcomes.Refusal.{Refusal}
 use Rattle.kdb_base.specs.declared.outcomes.Refusal.TheVariants.{Duplicate, PolicyInUse, RowsFull, UnknownPolicy}
@@ -23,8 +23,8 @@ use Rattle.kdb_model.specs.Calls.{Call}
 use Rattle.kdb_model.specs.Entries.{entry_of}
 use Rattle.kdb_model.specs.Records.{changed_policy}
 use Rattle.kdb_model.specs.Refusals.{first, when}
-use Rattle.kdb_model.specs.Steps.{reading, reading_of}
-use Rattle.kdb_plain.specs.States.{has_policy, is_policy_named, policy_named, users_of}
+use Rattle.kdb_model.specs.Steps.{reading_of}
+use Rattle.kdb_plain.specs.States.{has_policy, is_policy_named, policy_named}
 use Rattle.kdb_plain.specs.declared.changes.PlainOp.TheVariants as plain
 use Rattle.kdb_plain.specs.declared.states.State.{State}
 use Rattle.policy_rules.specs.Rules.{Rules}
@@ -82,8 +82,8 @@ module _ (g : Given) (p : Rules) (denied twice full : Option Refusal)
       ap (λ n. n + length s.policies) (sym (counted_alike s.masters shows.history g.rows.now.princs s.princs shows.princs)) ∙ ap (λ (ps : List Rules). length g.rows.now.princs + length ps) (sym shows.policies) in
       add_policy_tests s g.client.now given.called.clock g.random.now (access_of g) p
       ∙ both _ _ _ _ (sym denied_is)
-        (both _ _ _ _ (ap (λ (ps : List Rules). when (has_policy p.name ps) Duplicate) (sym shows.policies) ∙ sym twice_is)
-        (both _ _ _ _ (ap (λ n. when (nat_le most_rows n) (RowsFull most_rows)) same ∙ sym full_is) refl)))
+      (both _ _ _ _ (ap (λ (ps : List Rules). when (has_policy p.name ps) Duplicate) (sym shows.policies) ∙ sym twice_is)
+      (both _ _ _ _ (ap (λ n. when (nat_le most_rows n) (RowsFull most_rows)) same ∙ sym full_is) refl)))
 
   pub adds : (made : Rules) (result : Option Refusal) → result ≡ first (denied ∷ twice ∷ full ∷ []) → result ≡ None → IsCommand g.realm.now (command.AddPolicy p) → made ≡ p
       → IsJudged g (command.AddPolicy p) (Ok (Change (PutPolicy made)))
@@ -141,8 +141,8 @@ module _ (g : Given) (name : List ℕ) (found : Option Rules) (denied missing us
       let shows = given.seen.shows in
       drop_policy_tests s g.client.now given.called.clock g.random.now (access_of g) name found (ap (λ (ps : List Rules). policy_named name ps) (sym shows.policies) ∙ sym found_is)
       ∙ both _ _ _ _ (sym denied_is)
-        (both _ _ _ _ (sym missing_is)
-        (both _ _ _ _ (ap (λ n. when (nat_lt 0 n) (PolicyInUse n)) (sym (users_alike s.masters shows.history g.rows.now.princs s.princs shows.princs name)) ∙ sym used_is) refl)))
+      (both _ _ _ _ (sym missing_is)
+      (both _ _ _ _ (ap (λ n. when (nat_lt 0 n) (PolicyInUse n)) (sym (users_alike s.masters shows.history g.rows.now.princs s.princs shows.princs name)) ∙ sym used_is) refl)))
 
   pub drops : (made : List ℕ) (result : Option Refusal) → result ≡ first (denied ∷ missing ∷ used ∷ []) → result ≡ None → IsCommand g.realm.now (command.DelPolicy name) → made ≡ name → AreRows g.rows.now
       → IsJudged g (command.DelPolicy name) (Ok (Change (DropPolicy made)))
@@ -179,7 +179,7 @@ module _ (g : Given) (name : List ℕ) (found : Option Rules) (denied : Option R
   show_comes = comes g (command.GetPolicy name) (denied ∷ when (is_none found) UnknownPolicy ∷ []) (λ s call given.
       policy_tests s g.client.now given.called.clock g.random.now (access_of g) name
       ∙ both _ _ _ _ (sym denied_is)
-        (both _ _ _ _ (ap (λ (o : Option Rules). when (not (is_some o)) UnknownPolicy) (here_is s call given) ∙ ap (λ b. when b UnknownPolicy) (none_not found)) refl))
+      (both _ _ _ _ (ap (λ (o : Option Rules). when (not (is_some o)) UnknownPolicy) (here_is s call given) ∙ ap (λ b. when b UnknownPolicy) (none_not found)) refl))
 
   pub shows_policy : (p made : Rules) → denied ≡ None → found ≡ Some p → made ≡ p → IsJudged g (command.GetPolicy name) (Ok (Answer (reply.PolicyShown made)))
   unfolding entry_of reading_of

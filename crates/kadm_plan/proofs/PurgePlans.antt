@@ -1,6 +1,6 @@
 -- Plans of purgekeys.
-use Rattle.std.proofs.Common.{◌≡◌, ℕ, ◌≤◌, Bool, true, false, ◌&&◌, List, [], ◌∷◌, length, Option, Some, None, refl, sym, ap, subst, ◌∙◌, ◌⊎◌, inl, inr, arith}
-use Rattle.std.specs.Prelude.{Result, Ok, Err, filter, nat_lt, unwrap_or}
+use Rattle.std.proofs.Common.{◌≡◌, ℕ, Bool, true, false, List, [], ◌∷◌, length, Option, Some, None, refl, sym, ap, subst, ◌∙◌, inl, inr, arith}
+use Rattle.std.specs.Prelude.{Result, Err, filter, nat_lt, unwrap_or}
 use Rattle.std.specs.List.{AllZip, list_all}
 use Rattle.std.proofs.lemmas.Bool.{and_from, and_parts, le-ltb}
 use Rattle.std.proofs.lemmas.List.Elements.{All-filter}
@@ -8,7 +8,7 @@ use Rattle.std.proofs.lemmas.List.Sums.{count_by-le-length, length-filter}
 use Rattle.kadm_commands.specs.Commands.{IsCommand}
 use Rattle.kadm_commands.specs.declared.commands.Command.TheVariants as command
 use Rattle.kadm_commands.specs.declared.commands.PurgeKeys.{PurgeKeys}
-use Rattle.kadm_plan.specs.Given.{IsGiven, IsJudged}
+use Rattle.kadm_plan.specs.Given.{IsJudged}
 use Rattle.kadm_plan.specs.KeptEntries.{kept_entry_of, kept_purged}
 use Rattle.kadm_plan.specs.Targets.{IsBy, IsPut, IsTarget, by_given, target_refusal}
 use Rattle.kadm_plan.specs.declared.given.Given.{Given}
@@ -23,20 +23,16 @@ use Rattle.kdb_base.specs.Limits.{most_keys}
 use Rattle.kdb_base.specs.declared.outcomes.Refusal.{Refusal}
 use Rattle.kdb_base.specs.declared.versions.Master.{Master}
 use Rattle.kdb_model.specs.Access.{modifying}
-use Rattle.kdb_model.specs.Calls.{Call}
 use Rattle.kdb_model.specs.Entries.{entry_of}
 use Rattle.kdb_model.specs.Fields.{By, marked}
 use Rattle.kdb_model.specs.Records.{purged}
 use Rattle.kdb_plain.specs.Heads.{plain_head, plain_of}
-use Rattle.kdb_plain.specs.States.{princ_named}
 use Rattle.kdb_plain.specs.declared.princs.PlainPrinc.{PlainPrinc}
-use Rattle.kdb_plain.specs.declared.states.State.{State}
 use Rattle.plain_keys.specs.Keys.{keys_from, least_kvno, newest_kvno}
 use Rattle.plain_keys.specs.declared.items.PlainItem.{PlainItem}
 use Rattle.princ_entries.specs.declared.entries.Op.TheVariants as op
 use Rattle.princ_keys.specs.Keys.{AreKeys, IsKey, are_ordered, may_follow}
 use Rattle.princ_keys.specs.declared.keys.KeyItem.{KeyItem}
-use Rattle.princ_name.specs.Names.{printed}
 use Rattle.princ_name.specs.Realms.{IsRealm}
 use Rattle.princ_record.specs.Princs.{IsPrinc}
 use Rattle.princ_record.specs.declared.princs.Princ.{Princ}
@@ -48,7 +44,6 @@ use Rattle.row_keys.specs.Formed.{AreItems}
 use Rattle.row_keys.specs.KeptKeys.{is_kept_from, kept_from}
 use Rattle.row_keys.specs.Lookups.{newest_version, record_named}
 use Rattle.row_keys.specs.Shows.{ShowsItem, ShowsPrinc}
-use Rattle.row_keys.specs.Sides.{IsBeside}
 
 -- ---- keys of a record from a version on
 
@@ -105,7 +100,7 @@ purged_shows masters history by named p q f = record {
   under = record {
     fields = ap (marked by) f.under.fields;
     keys = subst (λ n. AllZip (ShowsItem f.master) (kept_from (unwrap_or named (newest_version p.keys)) p.keys) (keys_from n q.keys)) (least_alike named f.master p.keys q.keys f.under.keys)
-      (from_shows f.master (unwrap_or named (newest_version p.keys)) p.keys q.keys f.under.keys);
+        (from_shows f.master (unwrap_or named (newest_version p.keys)) p.keys q.keys f.under.keys);
     old = f.under.old;
   };
 }
@@ -150,6 +145,6 @@ module _ (g : Given) (c : PurgeKeys) where
           tests = touch_left g (command.PurgeKeys c) modifying c.name (λ s call q. purge_rest s call c q) purge_touches p target s call given;
           entry_is = rw q.there refl;
           shows = subst (λ (b : By). ShowsPrinc s.masters given.seen.shows.history purge_made (plain_of (marked b (plain_head q.other)) (keys_from (least_kvno c.keep q.other.keys) q.other.keys) q.other.old))
-            (sym (by_alike g (command.PurgeKeys c) s call given)) (purged_shows s.masters given.seen.shows.history (by_given g) c.keep p q.other q.beside);
+              (sym (by_alike g (command.PurgeKeys c) s call given)) (purged_shows s.masters given.seen.shows.history (by_given g) c.keep p q.other q.beside);
           exact = rw target.there (ap (λ (b : By). Some (op.PutPrinc (with_from b c.keep p))) (by_alike g (command.PurgeKeys c) s call given));
         }) plan put (may_replace purge_made p g.rows.now target.rows (ap (λ n. record_named n g.rows.now.princs) (target_name g modifying c.name p target) ∙ target.there))

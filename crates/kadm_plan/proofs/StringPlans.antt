@@ -1,6 +1,6 @@
 -- Plans of setstr and delstr.
-use Rattle.std.proofs.Common.{◌≡◌, ℕ, ◌≤◌, Bool, true, false, List, [], ◌∷◌, length, Option, Some, None, refl, sym, ap, subst, ◌∙◌}
-use Rattle.std.specs.Prelude.{Result, Ok, Err, IsTrue, nat_lt, not}
+use Rattle.std.proofs.Common.{◌≡◌, ℕ, Bool, true, false, List, length, Some, refl, sym, ap, subst, ◌∙◌}
+use Rattle.std.specs.Prelude.{Result, Err, IsTrue, nat_lt}
 use Rattle.std.proofs.lemmas.Bool.{le-ltb}
 use Rattle.kadm_commands.specs.Commands.{IsCommand}
 use Rattle.kadm_commands.specs.declared.commands.Command.TheVariants as command
@@ -33,7 +33,6 @@ use Rattle.kdb_plain.specs.Strings.{has_room_for, has_string, with_string, witho
 use Rattle.kdb_plain.specs.declared.princs.PlainPrinc.{PlainPrinc}
 use Rattle.kdb_plain.specs.declared.states.State.{State}
 use Rattle.plain_keys.specs.declared.items.PlainItem.{PlainItem}
-use Rattle.princ_entries.specs.declared.entries.Op.{Op}
 use Rattle.princ_entries.specs.declared.entries.Op.TheVariants as op
 use Rattle.princ_name.specs.Realms.{IsRealm}
 use Rattle.princ_record.specs.Princs.{IsPrinc}
@@ -120,7 +119,7 @@ module _ (g : Given) (c : SetString) where
           tests = touch_left g (command.SetString c) modifying c.name (λ s call q. set_string_rest s call c q) set_touches p target s call given ∙ rw (room_alike s call given true room) refl;
           entry_is = rw q.there refl;
           shows = subst (λ (b : By). ShowsPrinc s.masters given.seen.shows.history set_made (record (plain_of (marked b (plain_head q.other)) q.other.keys q.other.old) { strings = with_string c.key c.value q.other.strings }))
-            (sym (by_alike g (command.SetString c) s call given)) (restrung_shows s.masters given.seen.shows.history (by_given g) (with_string c.key c.value) p q.other q.beside);
+              (sym (by_alike g (command.SetString c) s call given)) (restrung_shows s.masters given.seen.shows.history (by_given g) (with_string c.key c.value) p q.other q.beside);
           exact = rw target.there (ap (λ (b : By). Some (op.PutPrinc (with_list b (with_string c.key c.value) p))) (by_alike g (command.SetString c) s call given));
         }) plan put (may_replace set_made p g.rows.now target.rows (ap (λ n. record_named n g.rows.now.princs) (target_name g modifying c.name p target) ∙ target.there))
 
@@ -173,6 +172,6 @@ module _ (g : Given) (c : DelString) where
           tests = touch_left g (command.DelString c) modifying c.name (λ s call q. drop_string_rest s call c q) drop_touches p target s call given ∙ rw (has_alike s call given true has) refl;
           entry_is = rw q.there refl;
           shows = subst (λ (b : By). ShowsPrinc s.masters given.seen.shows.history drop_made (record (plain_of (marked b (plain_head q.other)) q.other.keys q.other.old) { strings = without_string c.key q.other.strings }))
-            (sym (by_alike g (command.DelString c) s call given)) (restrung_shows s.masters given.seen.shows.history (by_given g) (without_string c.key) p q.other q.beside);
+              (sym (by_alike g (command.DelString c) s call given)) (restrung_shows s.masters given.seen.shows.history (by_given g) (without_string c.key) p q.other q.beside);
           exact = rw target.there (ap (λ (b : By). Some (op.PutPrinc (with_list b (without_string c.key) p))) (by_alike g (command.DelString c) s call given));
         }) plan put (may_replace drop_made p g.rows.now target.rows (ap (λ n. record_named n g.rows.now.princs) (target_name g modifying c.name p target) ∙ target.there))

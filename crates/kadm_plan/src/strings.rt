@@ -22,12 +22,7 @@ use princ_record::{Princ, copy};
 use std::alloc::Global;
 
 /// The record with one more attribute.
-fn with_one(
-    alloc: Global,
-    given: &Given,
-    c: &SetString,
-    princ: &Princ,
-) -> Result<Princ, MemoryOut>
+fn with_one(alloc: Global, given: &Given, c: &SetString, princ: &Princ) -> Result<Princ, MemoryOut>
     ensures princ { IfOk result (λ p. p ≡ record (marked (by_given given.now) princ.now) { strings = with_string c.now.key c.now.value princ.now.strings }) }
     ensures by { IfOk result (λ p. IsBy (by_given given.now)) }
 {

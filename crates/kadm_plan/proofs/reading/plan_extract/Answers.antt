@@ -1,5 +1,5 @@
-use Rattle.std.proofs.Common.{◌≡◌, List, [], ◌∷◌, Option, Some, None, sym, ap, ◌∙◌, rules}
-use Rattle.std.specs.Prelude.{IfOk, is_none, option_map}
+use Rattle.std.proofs.Common.{◌≡◌, [], ◌∷◌, Option, sym, ap, ◌∙◌, rules}
+use Rattle.std.specs.Prelude.{is_none, option_map}
 use Rattle.princ_name.specs.Names.{printed}
 use Rattle.kdb_base.specs.declared.outcomes.Refusal.{Refusal}
 use Rattle.kdb_base.specs.declared.outcomes.Refusal.TheVariants.{UnknownPrincipal}
