@@ -224,8 +224,8 @@ module _ (s : State) (client : NameParts) (clock : Moment) (random : List ℕ) w
 
   pub rename_tests : (access : Option (List AclLine)) (c : RenPrinc) (new found : Option PlainPrinc) → princ_named (printed c.new_name) s.princs ≡ new → princ_named (printed c.name) s.princs ≡ found
       → refusal s (told access (command.RenPrinc c)) ≡ first (
-          denial_of access client (both_asked c.name c.new_name) ∷ both_protected c ∷ duplicates new ∷ when (is_none found) UnknownPrincipal
-          ∷ rename_rest s (told access (command.RenPrinc c)) c found
+      denial_of access client (both_asked c.name c.new_name) ∷ both_protected c ∷ duplicates new ∷ when (is_none found) UnknownPrincipal
+      ∷ rename_rest s (told access (command.RenPrinc c)) c found
       )
   unfolding refusal causes_with first target entry_of asks bytes_put
   rename_tests None c new None en e = rw (en, e) (skip (both_protected c) _ _ (skip (duplicates new) _ _ refl))

@@ -112,9 +112,9 @@ module _ (g : Given) (c : RenPrinc) where
     comes_to =
         rename_tests s g.client.now given.called.clock g.random.now (access_of g) c (princ_named (printed c.new_name) s.princs) (princ_named (printed c.name) s.princs) refl refl
         ∙ both _ _ _ _ refl
-          (both _ _ _ _ (ap (λ r. when (list_any (is_protected r) (c.name ∷ c.new_name ∷ [])) Protected) given.seen.realm_is)
-          (both _ _ _ _ (ap (λ b. when b Duplicate) (sym (both_there R fresh (princ_named (printed c.new_name) s.princs) (sides_of c.new_name))))
-          (both _ _ _ _ (ap (λ b. when b UnknownPrincipal) (sym (absent_alike s.masters given.seen.shows.history standing (princ_named (printed c.name) s.princs) (sides_of c.name)))) refl)))
+        (both _ _ _ _ (ap (λ r. when (list_any (is_protected r) (c.name ∷ c.new_name ∷ [])) Protected) given.seen.realm_is)
+        (both _ _ _ _ (ap (λ b. when b Duplicate) (sym (both_there R fresh (princ_named (printed c.new_name) s.princs) (sides_of c.new_name))))
+        (both _ _ _ _ (ap (λ b. when b UnknownPrincipal) (sym (absent_alike s.masters given.seen.shows.history standing (princ_named (printed c.name) s.princs) (sides_of c.name)))) refl)))
 
     beside_of : (p : Princ) → standing ≡ Some p → IsBeside R p (princ_named (printed c.name) s.princs)
     beside_of p is = both_beside R standing (princ_named (printed c.name) s.princs) p (sides_of c.name) is
@@ -128,14 +128,14 @@ module _ (g : Given) (c : RenPrinc) where
     left_of p is none =
         comes_to ∙ later tests_before (when (is_none standing) UnknownPrincipal ∷ rename_rest s told c (princ_named (printed c.name) s.princs)) none
         ∙ rw (is, (beside_of p is).there) (ap (λ b. first (when (is_some (access_of g) && b) LockedDown ∷ bytes_tests (beside_of p is).other))
-          (sym (locked_alike s.masters given.seen.shows.history (Some p) (Some (beside_of p is).other) (beside_of p is).beside)))
+        (sym (locked_alike s.masters given.seen.shows.history (Some p) (Some (beside_of p is).other) (beside_of p is).beside)))
 
   pub rename_early : (why : Refusal) → first (first tests_before ∷ when (is_none standing) UnknownPrincipal ∷ []) ≡ Some why → IsJudged g (command.RenPrinc c) (Err why)
   rename_early why e = record {
     plan_is = λ s call given.
-    ap (refusal s) given.called.call_is ∙ comes_to s call given
-    ∙ early (denied ∷ protected ∷ when (is_some fresh) Duplicate ∷ when (is_none standing) UnknownPrincipal ∷ []) (rename_rest s (told_at g (command.RenPrinc c) given.called.clock) c (princ_named (printed c.name) s.princs)) why
-      (sym (nested tests_before (when (is_none standing) UnknownPrincipal ∷ [])) ∙ e);
+        ap (refusal s) given.called.call_is ∙ comes_to s call given
+        ∙ early (denied ∷ protected ∷ when (is_some fresh) Duplicate ∷ when (is_none standing) UnknownPrincipal ∷ []) (rename_rest s (told_at g (command.RenPrinc c) given.called.clock) c (princ_named (printed c.name) s.princs)) why
+        (sym (nested tests_before (when (is_none standing) UnknownPrincipal ∷ [])) ∙ e);
     applies = tt;
   }
 
@@ -208,8 +208,8 @@ module _ (g : Given) (c : RenPrinc) where
       unfolding first
       rename_long why is = record {
         plan_is = λ s call given.
-        let over : nat_lt longest_row (length (princ rename_made)) ≡ true = lt-ltb longest_row (length (princ rename_made)) is.long in
-        ap (refusal s) given.called.call_is ∙ judged_by s call given ∙ rw (over, in_few_bits (length (princ rename_made)) is.told) (ap Some (sym is.why_is));
+            let over : nat_lt longest_row (length (princ rename_made)) ≡ true = lt-ltb longest_row (length (princ rename_made)) is.long in
+            ap (refusal s) given.called.call_is ∙ judged_by s call given ∙ rw (over, in_few_bits (length (princ rename_made)) is.told) (ap Some (sym is.why_is));
         applies = tt;
       }
 
@@ -217,14 +217,14 @@ module _ (g : Given) (c : RenPrinc) where
       unfolding first entry_of kept_entry_of kept_renamed
       rename_short short = record {
         plan_is = λ s call given.
-        let within : nat_lt longest_row (length (princ rename_made)) ≡ false = le-ltb longest_row (length (princ rename_made)) short in
-        makes_op s call given (record {
-          accepted = judged_by s call given ∙ rw within refl;
-          plain = plain.Rename (printed c.name) (other s call given);
-          entry_is = rw (beside_of s call given p r.there).there refl;
-          shown = λ history is. (refl, subst (λ (h : Key). ShowsPrinc s.masters h rename_made (other s call given)) (same_history s given.seen.shows.history history given.seen.shows.history_is is) (made_shows s call given));
-          exact = rw r.there (ap (λ (b : By). Some (op.Rename (printed c.name) (with_name b c.name (printed c.new_name) p))) (by_alike g (command.RenPrinc c) s call given));
-        });
+            let within : nat_lt longest_row (length (princ rename_made)) ≡ false = le-ltb longest_row (length (princ rename_made)) short in
+            makes_op s call given (record {
+              accepted = judged_by s call given ∙ rw within refl;
+              plain = plain.Rename (printed c.name) (other s call given);
+              entry_is = rw (beside_of s call given p r.there).there refl;
+              shown = λ history is. (refl, subst (λ (h : Key). ShowsPrinc s.masters h rename_made (other s call given)) (same_history s given.seen.shows.history history given.seen.shows.history_is is) (made_shows s call given));
+              exact = rw r.there (ap (λ (b : By). Some (op.Rename (printed c.name) (with_name b c.name (printed c.new_name) p))) (by_alike g (command.RenPrinc c) s call given));
+            });
         applies = record {
           spelled = ((c.name, ((both_well g.realm.now c own).0.is_name, refl)), record { fits = rename_fits; short = short });
           applies = may_rename (printed c.name) rename_made p g.rows.now r.rows r.there r.free;

@@ -58,12 +58,7 @@ fn protection_of_both(given: &Given, old: &[u8], new: &[u8]) -> Option<Refusal>
 }
 
 /// The record under its new name. Keys of the old name's salt keep it.
-fn renamed(
-    alloc: Global,
-    given: &Given,
-    c: &RenPrinc,
-    princ: &Princ,
-) -> Result<Princ, MemoryOut>
+fn renamed(alloc: Global, given: &Given, c: &RenPrinc, princ: &Princ) -> Result<Princ, MemoryOut>
     ensures princ { IfOk result (λ p. p ≡ record (renamed_head (printed c.now.new_name) (by_given given.now) princ.now) { keys = settled_keys c.now.name princ.now.keys }) }
     ensures by { IfOk result (λ p. IsBy (by_given given.now)) }
 {
