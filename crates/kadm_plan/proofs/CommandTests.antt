@@ -1,5 +1,5 @@
 -- What the whole list of causes comes to, command by command. All of it is over states alone.
-use Rattle.std.proofs.Common.{◌≡◌, ℕ, ◌+◌, Bool, true, false, ◌&&◌, List, [], ◌∷◌, length, Option, Some, None, refl, sym, ap, ◌∙◌}
+use Rattle.std.proofs.Common.{◌≡◌, ℕ, ◌+◌, Bool, true, false, ◌&&◌, List, [], ◌∷◌, length, Option, Some, None, refl}
 use Rattle.std.specs.Prelude.{is_none, is_some, nat_le, nat_lt, not}
 use Rattle.std.specs.List.{list_any}
 use Rattle.acl_text.specs.declared.rules.AclLine.{AclLine}
@@ -7,9 +7,11 @@ use Rattle.kadm_commands.specs.declared.commands.Command.{Command}
 use Rattle.kadm_commands.specs.declared.commands.Command.TheVariants as command
 use Rattle.kadm_commands.specs.declared.commands.DelString.{DelString}
 use Rattle.kadm_commands.specs.declared.commands.PurgeKeys.{PurgeKeys}
+use Rattle.kadm_commands.specs.declared.commands.RenPrinc.{RenPrinc}
 use Rattle.kadm_commands.specs.declared.commands.SetString.{SetString}
 use Rattle.kadm_commands.specs.declared.policies.ModPolicy.{ModPolicy}
 use Rattle.kadm_plan.specs.Causes.{denial_of, denial_unless}
+use Rattle.kadm_plan.specs.Renaming.{both_asked}
 use Rattle.kadm_plan.proofs.Lists.{skip, and_true, and_false}
 use Rattle.kdb_base.specs.Limits.{most_keys, most_rows, most_strings}
 use Rattle.kdb_base.specs.Moment.{Moment}
@@ -20,9 +22,9 @@ use Rattle.kdb_model.specs.Calls.{Call, call_of}
 use Rattle.kdb_model.specs.Entries.{entry_of}
 use Rattle.kdb_model.specs.Fields.{has_bit, lockdown_keys}
 use Rattle.kdb_model.specs.Refusals.{bytes_put, causes_with, first, is_locked, is_protected, refusal, target, too_large, when}
-use Rattle.kdb_model.specs.Records.{purged, restrung}
+use Rattle.kdb_model.specs.Records.{purged, renamed, restrung}
 use Rattle.kdb_plain.specs.Strings.{has_room_for, has_string, with_string, without_string}
-use Rattle.kdb_plain.specs.declared.changes.PlainOp.TheVariants.{PutPrinc}
+use Rattle.kdb_plain.specs.declared.changes.PlainOp.TheVariants.{PutPrinc, Rename}
 use Rattle.plain_keys.specs.Keys.{keys_from, least_kvno}
 use Rattle.kdb_plain.specs.States.{has_policy, policy_named, princ_named, users_of}
 use Rattle.kdb_plain.specs.declared.princs.PlainPrinc.{PlainPrinc}
@@ -42,6 +44,10 @@ drop_string_rest s call c q =
 
 abbrev pub purge_rest : State → Call → PurgeKeys → PlainPrinc → List (Option Refusal)
 purge_rest s call c q = too_large s (Some (PutPrinc (purged s call c q))) ∷ []
+
+abbrev pub rename_rest : State → Call → RenPrinc → Option PlainPrinc → List (Option Refusal)
+rename_rest s call c None = []
+rename_rest s call c (Some q) = when (is_some call.access && is_locked (Some q)) LockedDown ∷ too_large s (Some (Rename (printed c.name) (renamed s call c q))) ∷ []
 
 module _ (s : State) (client : NameParts) (clock : Moment) (random : List ℕ) where
   abbrev told : Option (List AclLine) → Command → Call
@@ -207,3 +213,27 @@ module _ (s : State) (client : NameParts) (clock : Moment) (random : List ℕ) w
   purge_present (Some lines) c q few e =
       rw (e, and_false (has_bit lockdown_keys q.attributes)) (skip (denied_in lines client (asking modifying c.name ∷ [])) _ _ (skip (protected_by c.name) _ _
       (skip (too_large s (Some (PutPrinc (purged s (told (Some lines) (command.PurgeKeys c)) c q)))) _ _ refl)))
+
+  -- ---- renprinc
+
+  abbrev duplicates : Option PlainPrinc → Option Refusal
+  duplicates new = when (is_some new) Duplicate
+
+  abbrev both_protected : RenPrinc → Option Refusal
+  both_protected c = when (list_any (is_protected s.realm) (c.name ∷ c.new_name ∷ [])) Protected
+
+  pub rename_tests : (access : Option (List AclLine)) (c : RenPrinc) (new found : Option PlainPrinc) → princ_named (printed c.new_name) s.princs ≡ new → princ_named (printed c.name) s.princs ≡ found
+      → refusal s (told access (command.RenPrinc c)) ≡ first (
+      denial_of access client (both_asked c.name c.new_name) ∷ both_protected c ∷ duplicates new ∷ when (is_none found) UnknownPrincipal
+      ∷ rename_rest s (told access (command.RenPrinc c)) c found
+      )
+  unfolding refusal causes_with first target entry_of asks bytes_put
+  rename_tests None c new None en e = rw (en, e) (skip (both_protected c) _ _ (skip (duplicates new) _ _ refl))
+  rename_tests None c new (Some q) en e =
+      rw (en, e) (skip (both_protected c) _ _ (skip (duplicates new) _ _ (skip (too_large s (Some (Rename (printed c.name) (renamed s (told None (command.RenPrinc c)) c q)))) _ _ refl)))
+  rename_tests (Some lines) c new None en e =
+      rw (en, e) (skip (denied_in lines client (both_asked c.name c.new_name)) _ _ (skip (both_protected c) _ _ (skip (duplicates new) _ _ refl)))
+  rename_tests (Some lines) c new (Some q) en e =
+      rw (en, e) (skip (denied_in lines client (both_asked c.name c.new_name)) _ _ (skip (both_protected c) _ _ (skip (duplicates new) _ _
+      (rw (and_true (has_bit lockdown_keys q.attributes)) (skip (when (has_bit lockdown_keys q.attributes) LockedDown) _ _
+      (skip (too_large s (Some (Rename (printed c.name) (renamed s (told (Some lines) (command.RenPrinc c)) c q)))) _ _ refl))))))

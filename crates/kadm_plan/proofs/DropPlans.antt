@@ -1,5 +1,5 @@
 -- Plans of delprinc.
-use Rattle.std.proofs.Common.{◌≡◌, ℕ, ◌&&◌, List, [], ◌∷◌, Option, Some, None, refl, sym, ap, subst, ◌∙◌}
+use Rattle.std.proofs.Common.{◌≡◌, ℕ, ◌&&◌, List, [], ◌∷◌, Option, Some, None, refl, sym, ap, ◌∙◌}
 use Rattle.std.specs.Prelude.{Ok, is_none, is_some}
 use Rattle.std.specs.List.{list_any}
 use Rattle.kadm_commands.specs.Commands.{IsCommand}

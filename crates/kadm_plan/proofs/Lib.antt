@@ -12,3 +12,5 @@ pub mod TargetFound
 pub mod Puts
 pub mod StringPlans
 pub mod PurgePlans
+pub mod RenamedFits
+pub mod RenamePlans

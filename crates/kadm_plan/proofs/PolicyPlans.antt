@@ -1,6 +1,6 @@
 -- Plans of the commands of policies.
-use Rattle.std.proofs.Common.{◌≡◌, ℕ, ◌+◌, ◌<◌, ◌≤◌, ◌^◌, Bool, true, false, List, [], ◌∷◌, length, Option, Some, None, refl, sym, ap, subst, ◌∙◌, arith}
-use Rattle.std.specs.Prelude.{Ok, Err, IfSome, IsTrue, is_none, is_some, nat_le, nat_lt, not, option_map, unwrap_or}
+use Rattle.std.proofs.Common.{◌≡◌, ℕ, ◌+◌, ◌<◌, ◌^◌, Bool, List, [], ◌∷◌, length, Option, Some, None, refl, sym, ap, subst, ◌∙◌, arith}
+use Rattle.std.specs.Prelude.{Ok, IsTrue, is_none, is_some, nat_le, nat_lt, not, unwrap_or}
 use Rattle.std.proofs.lemmas.Bool.{leb-false}
 use Rattle.kadm_commands.specs.Commands.{IsBelow32, IsCommand, IsModPolicy, Within}
 use Rattle.kadm_commands.specs.declared.commands.Command.TheVariants as command
@@ -14,7 +14,7 @@ use Rattle.kadm_plan.specs.declared.planned.Planned.TheVariants.{Answer, Change}
 use Rattle.kadm_plan.proofs.CommandTests.{add_policy_tests, drop_policy_tests, modify_policy_tests, policies_tests, policy_tests}
 use Rattle.kadm_plan.proofs.Lists.{both, none_missing, none_of, there, when_not}
 use Rattle.kadm_plan.proofs.Rooms.{found_holds, may_add_policy, may_drop_policy, may_replace_policy}
-use Rattle.kadm_plan.proofs.Seen.{ComesTo, MakesChange, access_of, answered, changed, comes, refused, told_at}
+use Rattle.kadm_plan.proofs.Seen.{ComesTo, access_of, answered, changed, comes}
 use Rattle.kdb_base.specs.Limits.{most_rows}
 use Rattle.kdb_base.specs.declared.outcomes.Refusal.{Refusal}
 use Rattle.kdb_base.specs.declared.outcomes.Refusal.TheVariants.{Duplicate, PolicyInUse, RowsFull, UnknownPolicy}
@@ -23,8 +23,8 @@ use Rattle.kdb_model.specs.Calls.{Call}
 use Rattle.kdb_model.specs.Entries.{entry_of}
 use Rattle.kdb_model.specs.Records.{changed_policy}
 use Rattle.kdb_model.specs.Refusals.{first, when}
-use Rattle.kdb_model.specs.Steps.{reading, reading_of}
-use Rattle.kdb_plain.specs.States.{has_policy, is_policy_named, policy_named, users_of}
+use Rattle.kdb_model.specs.Steps.{reading_of}
+use Rattle.kdb_plain.specs.States.{has_policy, is_policy_named, policy_named}
 use Rattle.kdb_plain.specs.declared.changes.PlainOp.TheVariants as plain
 use Rattle.kdb_plain.specs.declared.states.State.{State}
 use Rattle.policy_rules.specs.Rules.{Rules}

@@ -1,7 +1,6 @@
 -- Two names have two printed forms, whatever bytes they have, where one of them has two components.
-use Rattle.std.proofs.Common.{◌≡◌, ◌≢◌, ◌⊎◌, ℕ, ◌==◌, Bool, true, false, List, [], ◌∷◌, ◌++◌, length, get_or, take, drop, codes, inl, inr, refl, sym, ap, ◌∙◌, append_assoc, arith}
+use Rattle.std.proofs.Common.{◌≡◌, ◌≢◌, ◌⊎◌, ℕ, ◌==◌, Bool, true, false, List, [], ◌∷◌, ◌++◌, take, drop, codes, inl, inr, refl, sym, ap, ◌∙◌, append_assoc, arith}
 use Rattle.std.proofs.lemmas.Bool.Decides.{eqb_tells}
-use Rattle.std.specs.Str.{bytes_eq}
 use Rattle.princ_name.specs.Bytes.{is_sign, escaped, printed_byte}
 use Rattle.princ_name.specs.Names.{NameParts, printed, printed_parts, printed_text}
 use Rattle.princ_entries.specs.EntryLaws.{same_bytes, bytes_same}

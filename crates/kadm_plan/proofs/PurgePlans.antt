@@ -1,6 +1,6 @@
 -- Plans of purgekeys.
-use Rattle.std.proofs.Common.{◌≡◌, ℕ, ◌≤◌, Bool, true, false, ◌&&◌, List, [], ◌∷◌, length, Option, Some, None, refl, sym, ap, subst, ◌∙◌, ◌⊎◌, inl, inr, arith}
-use Rattle.std.specs.Prelude.{Result, Ok, Err, filter, nat_lt, unwrap_or}
+use Rattle.std.proofs.Common.{◌≡◌, ℕ, Bool, true, false, List, [], ◌∷◌, length, Option, Some, None, refl, sym, ap, subst, ◌∙◌, inl, inr, arith}
+use Rattle.std.specs.Prelude.{Result, Err, filter, nat_lt, unwrap_or}
 use Rattle.std.specs.List.{AllZip, list_all}
 use Rattle.std.proofs.lemmas.Bool.{and_from, and_parts, le-ltb}
 use Rattle.std.proofs.lemmas.List.Elements.{All-filter}
@@ -8,7 +8,7 @@ use Rattle.std.proofs.lemmas.List.Sums.{count_by-le-length, length-filter}
 use Rattle.kadm_commands.specs.Commands.{IsCommand}
 use Rattle.kadm_commands.specs.declared.commands.Command.TheVariants as command
 use Rattle.kadm_commands.specs.declared.commands.PurgeKeys.{PurgeKeys}
-use Rattle.kadm_plan.specs.Given.{IsGiven, IsJudged}
+use Rattle.kadm_plan.specs.Given.{IsJudged}
 use Rattle.kadm_plan.specs.KeptEntries.{kept_entry_of, kept_purged}
 use Rattle.kadm_plan.specs.Targets.{IsBy, IsPut, IsTarget, by_given, target_refusal}
 use Rattle.kadm_plan.specs.declared.given.Given.{Given}
@@ -23,20 +23,16 @@ use Rattle.kdb_base.specs.Limits.{most_keys}
 use Rattle.kdb_base.specs.declared.outcomes.Refusal.{Refusal}
 use Rattle.kdb_base.specs.declared.versions.Master.{Master}
 use Rattle.kdb_model.specs.Access.{modifying}
-use Rattle.kdb_model.specs.Calls.{Call}
 use Rattle.kdb_model.specs.Entries.{entry_of}
 use Rattle.kdb_model.specs.Fields.{By, marked}
 use Rattle.kdb_model.specs.Records.{purged}
 use Rattle.kdb_plain.specs.Heads.{plain_head, plain_of}
-use Rattle.kdb_plain.specs.States.{princ_named}
 use Rattle.kdb_plain.specs.declared.princs.PlainPrinc.{PlainPrinc}
-use Rattle.kdb_plain.specs.declared.states.State.{State}
 use Rattle.plain_keys.specs.Keys.{keys_from, least_kvno, newest_kvno}
 use Rattle.plain_keys.specs.declared.items.PlainItem.{PlainItem}
 use Rattle.princ_entries.specs.declared.entries.Op.TheVariants as op
 use Rattle.princ_keys.specs.Keys.{AreKeys, IsKey, are_ordered, may_follow}
 use Rattle.princ_keys.specs.declared.keys.KeyItem.{KeyItem}
-use Rattle.princ_name.specs.Names.{printed}
 use Rattle.princ_name.specs.Realms.{IsRealm}
 use Rattle.princ_record.specs.Princs.{IsPrinc}
 use Rattle.princ_record.specs.declared.princs.Princ.{Princ}
@@ -48,7 +44,6 @@ use Rattle.row_keys.specs.Formed.{AreItems}
 use Rattle.row_keys.specs.KeptKeys.{is_kept_from, kept_from}
 use Rattle.row_keys.specs.Lookups.{newest_version, record_named}
 use Rattle.row_keys.specs.Shows.{ShowsItem, ShowsPrinc}
-use Rattle.row_keys.specs.Sides.{IsBeside}
 
 -- ---- keys of a record from a version on
 

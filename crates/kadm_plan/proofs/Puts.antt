@@ -1,8 +1,8 @@
 -- Plans that put a record.
-use Rattle.std.proofs.Common.{◌≡◌, ℕ, ◌+◌, ◌^◌, ◌<◌, ◌≤◌, Bool, true, false, List, [], ◌∷◌, length, Option, Some, None, min, refl, sym, ap, subst, ◌∙◌, arith}
-use Rattle.std.specs.Prelude.{Result, Ok, Err, is_none, is_some, nat_lt, option_map}
+use Rattle.std.proofs.Common.{◌≡◌, ℕ, ◌^◌, ◌<◌, ◌≤◌, true, false, List, [], ◌∷◌, length, Option, Some, None, refl, sym, ap, subst, ◌∙◌, arith}
+use Rattle.std.specs.Prelude.{Result, Ok, Err, is_none, is_some, nat_lt}
 use Rattle.std.specs.List.{list_any}
-use Rattle.std.proofs.lemmas.Bool.{le-ltb, lt-ltb, false≢true}
+use Rattle.std.proofs.lemmas.Bool.{le-ltb, lt-ltb}
 use Rattle.kadm_commands.specs.declared.commands.Command.{Command}
 use Rattle.kadm_plan.specs.Causes.{denial_of}
 use Rattle.kadm_plan.specs.Given.{IsChange, IsGiven, IsJudged}
@@ -11,50 +11,46 @@ use Rattle.kadm_plan.specs.Targets.{IsPut, IsTarget, IsTooLong, by_given, target
 use Rattle.kadm_plan.specs.declared.given.Given.{Given}
 use Rattle.kadm_plan.specs.declared.planned.Planned.{Planned}
 use Rattle.kadm_plan.specs.declared.planned.Planned.TheVariants.{Change}
-use Rattle.kadm_plan.proofs.Lists.{early, later, nested, none_of, there, when_not}
+use Rattle.kadm_plan.proofs.Lists.{early, there}
 use Rattle.kadm_plan.proofs.PrintedPairs.{not_master}
 use Rattle.kadm_plan.proofs.Rooms.{found_holds}
-use Rattle.kadm_plan.proofs.Seen.{MakesChange, access_of, changed, comes, found_both, refused, told_at}
+use Rattle.kadm_plan.proofs.Seen.{access_of, found_both, told_at}
 use Rattle.kdb_base.specs.Key.{Key}
 use Rattle.kdb_base.specs.Limits.{longest_row}
 use Rattle.kdb_base.specs.Moment.{Moment}
 use Rattle.kdb_base.specs.declared.outcomes.Refusal.{Refusal}
 use Rattle.kdb_base.specs.declared.outcomes.Refusal.TheVariants.{Protected, RecordTooLarge, UnknownPrincipal}
-use Rattle.kdb_base.specs.declared.versions.Master.{Master}
 use Rattle.kdb_model.specs.Access.{asking}
 use Rattle.kdb_places.specs.Applying.{may_apply}
 use Rattle.kdb_model.specs.Calls.{Call}
 use Rattle.kdb_model.specs.Entries.{entry}
-use Rattle.kdb_model.specs.Fields.{By, marked}
 use Rattle.kdb_model.specs.Records.{by_of}
-use Rattle.kdb_model.specs.Refusals.{bytes_put, first, is_protected, len_by, len_under, refusal, too_large, when}
+use Rattle.kdb_model.specs.Refusals.{bytes_put, first, is_protected, len_under, refusal, too_large, when}
 use Rattle.kdb_model.proofs.Accepted.{one_name}
-use Rattle.kdb_plain.specs.Lengths.{in_64_bits, row_len}
+use Rattle.kdb_plain.specs.Lengths.{in_64_bits}
 use Rattle.kdb_plain.specs.States.{history_key, master_of, princ_named}
-use Rattle.kdb_plain.specs.declared.changes.PlainOp.{PlainOp}
 use Rattle.kdb_plain.specs.declared.changes.PlainOp.TheVariants as plain
 use Rattle.kdb_plain.specs.declared.princs.PlainPrinc.{PlainPrinc}
 use Rattle.kdb_plain.specs.declared.states.State.{State}
 use Rattle.princ_entries.specs.EntryLaws.{same_bytes}
-use Rattle.princ_entries.specs.declared.entries.Op.{Op}
 use Rattle.princ_entries.specs.declared.entries.Op.TheVariants as op
 use Rattle.princ_name.specs.Names.{NameParts, printed}
-use Rattle.princ_name.specs.Printed.{IsPrinted, is_master}
+use Rattle.princ_name.specs.Printed.{is_master}
 use Rattle.princ_name.specs.Realms.{IsRealm}
 use Rattle.princ_record.specs.Princs.{IsPrinc, princ}
 use Rattle.princ_record.specs.RowLimits.{IsRow}
 use Rattle.princ_record.specs.Sizes as sizes
 use Rattle.princ_record.specs.declared.facts.ChainPart.{ChainPart}
 use Rattle.princ_record.specs.declared.princs.Princ.{Princ}
-use Rattle.princ_rows.specs.Rows.{AreRows, RowLists}
+use Rattle.princ_rows.specs.Rows.{AreRows}
 use Rattle.row_keys.proofs.Formed.{items_from}
 use Rattle.row_keys.proofs.Lengths.{row_long}
 use Rattle.row_keys.proofs.Names.{same_mkvno}
-use Rattle.row_keys.proofs.Sides.{both_beside, both_none}
+use Rattle.row_keys.proofs.Sides.{both_beside}
 use Rattle.row_keys.proofs.Whole.{find_there}
 use Rattle.row_keys.specs.Formed.{AreItems}
 use Rattle.row_keys.specs.Lookups.{has_name, record_named}
-use Rattle.row_keys.specs.Shows.{Shows, ShowsPrinc, ShowsUnder}
+use Rattle.row_keys.specs.Shows.{ShowsPrinc}
 use Rattle.row_keys.specs.Sides.{AreBoth, IsBeside}
 
 -- ---- who changes a record

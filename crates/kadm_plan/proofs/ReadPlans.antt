@@ -1,5 +1,5 @@
 -- Plans of getprinc, getstrs, extract, listprincs and getprivs.
-use Rattle.std.proofs.Common.{◌≡◌, ℕ, Bool, ◌&&◌, List, [], ◌∷◌, ◌++◌, map, Option, Some, None, refl, sym, ap, subst, ◌∙◌}
+use Rattle.std.proofs.Common.{◌≡◌, ℕ, Bool, ◌&&◌, List, [], ◌∷◌, map, Option, Some, None, refl, sym, ap, ◌∙◌}
 use Rattle.std.specs.Prelude.{Ok, Err, is_none, is_some}
 use Rattle.std.specs.List.{AllZip, list_any}
 use Rattle.kadm_commands.specs.declared.commands.Command.{Command}
@@ -14,7 +14,7 @@ use Rattle.kadm_plan.specs.declared.given.Given.{Given}
 use Rattle.kadm_plan.specs.declared.planned.Planned.TheVariants.{Answer}
 use Rattle.kadm_plan.proofs.CommandTests.{extract_tests, list_tests, privileges_tests, show_tests, strings_tests}
 use Rattle.kadm_plan.proofs.Lists.{both, early, later, nested, none_missing}
-use Rattle.kadm_plan.proofs.Seen.{ComesTo, absent_alike, access_of, answered, comes, found_both, locked_alike, refused, told_at}
+use Rattle.kadm_plan.proofs.Seen.{ComesTo, absent_alike, access_of, answered, comes, found_both, locked_alike, refused}
 use Rattle.kdb_base.specs.Key.{Key}
 use Rattle.kdb_base.specs.declared.extracts.Extract.{Extract}
 use Rattle.kdb_base.specs.declared.outcomes.Refusal.{Refusal}
@@ -42,7 +42,6 @@ use Rattle.row_keys.specs.Lookups.{record_named}
 use Rattle.row_keys.specs.Shows.{ShowsItem, ShowsPrinc}
 use Rattle.row_keys.specs.Sides.{AreBoth, IsBeside}
 use Rattle.tagged_data.specs.declared.string_attributes.StringAttribute.{StringAttribute}
-use Rattle.kdb_model.specs.Steps.{is_special}
 
 -- ---- what is shown
 

@@ -1,6 +1,6 @@
 -- What rows that show a state tell of it, and how a plan is put together.
-use Rattle.std.proofs.Common.{◌≡◌, ℕ, ◌+◌, Bool, true, false, List, [], ◌∷◌, length, Option, Some, None, refl, sym, ap, subst, ◌∙◌}
-use Rattle.std.specs.Prelude.{Result, Ok, Err, is_none, is_some, option_map}
+use Rattle.std.proofs.Common.{◌≡◌, ℕ, false, List, Option, Some, None, refl, sym, ap, subst, ◌∙◌}
+use Rattle.std.specs.Prelude.{Ok, Err, is_none, option_map}
 use Rattle.acl_text.specs.declared.rules.AclLine.{AclLine}
 use Rattle.kadm_commands.specs.declared.commands.Command.{Command}
 use Rattle.kadm_commands.specs.declared.replies.Reply.{Reply}
@@ -8,7 +8,6 @@ use Rattle.kadm_plan.specs.Causes.{is_locked_record}
 use Rattle.kadm_plan.specs.Given.{IsAnswer, IsApplied, IsChange, IsGiven, IsJudged}
 use Rattle.kadm_plan.specs.KeptEntries.{kept_entry}
 use Rattle.kadm_plan.specs.declared.given.Given.{Given}
-use Rattle.kadm_plan.specs.declared.planned.Planned.{Planned}
 use Rattle.kadm_plan.specs.declared.planned.Planned.TheVariants.{Answer, Change}
 use Rattle.kdb_base.specs.Key.{Key}
 use Rattle.kdb_base.specs.Moment.{Moment}
@@ -29,7 +28,7 @@ use Rattle.princ_rows.specs.Rows.{RowLists}
 use Rattle.row_keys.proofs.Names.{found_alike}
 use Rattle.row_keys.specs.Lookups.{record_named}
 use Rattle.row_keys.specs.ShownChanges.{ShowsOp}
-use Rattle.row_keys.specs.Shows.{Shows, ShowsPrinc}
+use Rattle.row_keys.specs.Shows.{ShowsPrinc}
 use Rattle.row_keys.specs.Sides.{AreBoth}
 
 -- ---- the call that a command stands for

@@ -1,6 +1,6 @@
 -- Plans of setstr and delstr.
-use Rattle.std.proofs.Common.{◌≡◌, ℕ, ◌≤◌, Bool, true, false, List, [], ◌∷◌, length, Option, Some, None, refl, sym, ap, subst, ◌∙◌}
-use Rattle.std.specs.Prelude.{Result, Ok, Err, IsTrue, nat_lt, not}
+use Rattle.std.proofs.Common.{◌≡◌, ℕ, Bool, true, false, List, length, Some, refl, sym, ap, subst, ◌∙◌}
+use Rattle.std.specs.Prelude.{Result, Err, IsTrue, nat_lt}
 use Rattle.std.proofs.lemmas.Bool.{le-ltb}
 use Rattle.kadm_commands.specs.Commands.{IsCommand}
 use Rattle.kadm_commands.specs.declared.commands.Command.TheVariants as command
@@ -33,7 +33,6 @@ use Rattle.kdb_plain.specs.Strings.{has_room_for, has_string, with_string, witho
 use Rattle.kdb_plain.specs.declared.princs.PlainPrinc.{PlainPrinc}
 use Rattle.kdb_plain.specs.declared.states.State.{State}
 use Rattle.plain_keys.specs.declared.items.PlainItem.{PlainItem}
-use Rattle.princ_entries.specs.declared.entries.Op.{Op}
 use Rattle.princ_entries.specs.declared.entries.Op.TheVariants as op
 use Rattle.princ_name.specs.Realms.{IsRealm}
 use Rattle.princ_record.specs.Princs.{IsPrinc}

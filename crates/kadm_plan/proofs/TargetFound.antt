@@ -1,5 +1,5 @@
 -- How a target is found.
-use Rattle.std.proofs.Common.{◌≡◌, ℕ, Bool, false, List, [], ◌∷◌, Option, Some, None, refl, sym, ap, ◌∙◌}
+use Rattle.std.proofs.Common.{◌≡◌, ℕ, List, [], ◌∷◌, Option, Some, None, refl, sym, ap, ◌∙◌}
 use Rattle.std.specs.Prelude.{Result, Ok, Err, IfOk, is_none, option_map}
 use Rattle.std.specs.List.{list_any}
 use Rattle.kadm_plan.specs.Causes.{denial_of}

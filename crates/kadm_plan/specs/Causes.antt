@@ -1,5 +1,5 @@
 -- Causes as they are told of rows.
-use Rattle.std.specs.Prelude.{ℕ, Bool, false, List, Option, Some, None, if◌then◌else◌}
+use Rattle.std.specs.Prelude.{Bool, false, List, Option, Some, None, if◌then◌else◌}
 use Rattle.acl_text.specs.declared.rules.AclLine.{AclLine}
 use Rattle.kdb_base.specs.declared.outcomes.Refusal.{Refusal}
 use Rattle.kdb_model.specs.Access.{Asking, denied_in}

@@ -1,5 +1,5 @@
 -- What a plan is given, which calls on which states that stands for, and what a plan comes to there.
-use Rattle.std.specs.Prelude.{ℕ, ◌≡◌, Bool, true, false, List, Option, Some, None, Result, Ok, Err, option_map}
+use Rattle.std.specs.Prelude.{ℕ, ◌≡◌, true, false, List, Option, Some, None, Result, Ok, Err, option_map}
 use Rattle.acl_text.specs.declared.rules.AclLine.{AclLine}
 use Rattle.kadm_commands.specs.declared.commands.Command.{Command}
 use Rattle.kadm_commands.specs.declared.replies.Reply.{Reply}

@@ -3,3 +3,4 @@ pub mod Causes
 pub mod ShownRecords
 pub mod Given
 pub mod Targets
+pub mod Renaming

@@ -1,5 +1,5 @@
 -- What is shown of records.
-use Rattle.std.specs.Prelude.{ℕ, List, map}
+use Rattle.std.specs.Prelude.{map}
 use Rattle.kadm_commands.specs.declared.shown.KeyShown.{KeyShown}
 use Rattle.kadm_commands.specs.declared.shown.PrincShown.{PrincShown}
 use Rattle.kdb_model.specs.Steps.{is_special}

@@ -1,5 +1,5 @@
 -- The record that a command changes, and a record that is put.
-use Rattle.std.specs.Prelude.{ℕ, ◌≡◌, ◌≤◌, ◌<◌, ◌^◌, Bool, false, List, [], ◌∷◌, length, Option, Some, None, Result, Ok, Err, is_none, option_map}
+use Rattle.std.specs.Prelude.{ℕ, ◌≡◌, ◌≤◌, ◌<◌, ◌^◌, false, [], ◌∷◌, length, Option, Some, None, Result, Ok, Err, is_none, option_map}
 use Rattle.std.specs.List.{list_any}
 use Rattle.kadm_plan.specs.Causes.{denial_of}
 use Rattle.kadm_plan.specs.declared.given.Given.{Given}
@@ -12,7 +12,6 @@ use Rattle.kdb_model.specs.Access.{asking}
 use Rattle.kdb_model.specs.Fields.{By}
 use Rattle.kdb_model.specs.Refusals.{first, is_protected, when}
 use Rattle.princ_entries.specs.declared.entries.Op.{Op}
-use Rattle.princ_entries.specs.declared.entries.Op.TheVariants.{PutPrinc}
 use Rattle.princ_name.specs.Names.{NameParts, printed}
 use Rattle.princ_name.specs.Printed.{IsPrinted}
 use Rattle.princ_record.specs.Princs.{princ}

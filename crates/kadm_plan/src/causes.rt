@@ -52,7 +52,7 @@ pub(crate) fn has_bit(bit: u32, attributes: u32) -> bool
 /// The refusal of one operation by an access list, where it is not allowed, or where `plainly` is set and the line has
 /// restrictions.
 #[tactic(auto, unfolding(kdb_model::specs::Access::denied_in))]
-fn denied_in(
+pub(crate) fn denied_in(
     acl: &Acl,
     client: &Name,
     letter: u8,

@@ -8,6 +8,8 @@ mod listing;
 pub mod planned;
 mod policies;
 mod purging;
+mod reading;
+mod renaming;
 mod shown_records;
 mod strings;
 mod targets;

@@ -1,4 +1,4 @@
-use Rattle.std.proofs.Common.{◌≡◌, rules}
+use Rattle.std.proofs.Common.{rules}
 use Rattle.std.proofs.lemmas.Fn.{filter_same}
 use Rattle.kadm_values.specs.Globs.{matches}
 use Rattle.kadm_plan.proofs.listing.matching.Goals as goal

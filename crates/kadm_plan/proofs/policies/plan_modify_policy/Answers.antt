@@ -1,10 +1,9 @@
-use Rattle.std.proofs.Common.{◌≡◌, Option, Some, sym, ap, ◌∙◌, rules}
+use Rattle.std.proofs.Common.{◌≡◌, Some, sym, ap, ◌∙◌, rules}
 use Rattle.std.specs.Prelude.{option_map}
 use Rattle.kadm_commands.specs.declared.commands.Command.TheVariants as command
 use Rattle.kdb_base.specs.declared.outcomes.Refusal.TheVariants.{UnknownPolicy}
 use Rattle.kdb_model.specs.Records.{changed_policy}
 use Rattle.kdb_plain.specs.States.{policy_named}
-use Rattle.policy_rules.specs.Rules.{Rules}
 use Rattle.kadm_plan.proofs.Lists.{missing_alike}
 use Rattle.kadm_plan.proofs.PolicyPlans.{modifies, modifies_well, modify_comes}
 use Rattle.kadm_plan.proofs.Seen.{refused}

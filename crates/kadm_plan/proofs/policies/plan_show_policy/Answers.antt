@@ -1,4 +1,4 @@
-use Rattle.std.proofs.Common.{◌≡◌, Option, Some, sym, ap, ◌∙◌, rules}
+use Rattle.std.proofs.Common.{◌≡◌, Some, sym, ap, ◌∙◌, rules}
 use Rattle.std.specs.Prelude.{option_map}
 use Rattle.kadm_commands.specs.declared.commands.Command.TheVariants as command
 use Rattle.kdb_base.specs.declared.outcomes.Refusal.TheVariants.{UnknownPolicy}

@@ -1,4 +1,4 @@
-use Rattle.std.proofs.Common.{◌≡◌, sym, subst}
+use Rattle.std.proofs.Common.{sym, subst}
 use Rattle.kadm_plan.specs.Targets.{IsPut}
 use Rattle.kadm_plan.proofs.PurgePlans.{purge_so, purges}
 use Rattle.princ_entries.specs.declared.entries.Op.TheVariants as op

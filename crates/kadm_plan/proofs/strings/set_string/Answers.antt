@@ -1,6 +1,6 @@
 use Rattle.std.proofs.Common.{◌≡◌, true, false, sym, subst, rules}
 use Rattle.kadm_plan.specs.Targets.{IsPut}
-use Rattle.kadm_plan.proofs.StringPlans.{set_full, set_made, set_so, sets}
+use Rattle.kadm_plan.proofs.StringPlans.{set_full, set_so, sets}
 use Rattle.kdb_plain.specs.Strings.{has_room_for}
 use Rattle.princ_entries.specs.declared.entries.Op.TheVariants as op
 use Rattle.princ_record.specs.Princs.{IsPrinc}

@@ -1,4 +1,4 @@
-use Rattle.std.proofs.Common.{◌≡◌, [], ◌∷◌, Option, Some, sym, ap, ◌∙◌, rules}
+use Rattle.std.proofs.Common.{[], ◌∷◌, Option, sym, ap, ◌∙◌}
 use Rattle.std.specs.Prelude.{is_none, option_map}
 use Rattle.kadm_plan.specs.Targets.{IsTarget}
 use Rattle.kadm_plan.proofs.TargetFound.{ok_from, target_found, target_missed}
