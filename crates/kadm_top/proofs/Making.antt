@@ -17,9 +17,9 @@ use Rattle.kdb_control.specs.Force.{in_force}
 use Rattle.kdb_control.specs.declared.force.Force.{Force}
 use Rattle.kdb_control.specs.declared.force.Force.TheVariants.{Nothing, Is, Broken}
 use Rattle.princ_name.specs.Realms.{is_realm}
-use Rattle.kdb_store.specs.Places.{recovers}
-use Rattle.kdb_store.specs.Moments.{Creates, Destroys}
-use Rattle.kdb_store.specs.Stores.{AnswersMade, AnswersEnded, IsChosen, RefusesEnd}
+use Rattle.image_store.specs.Places.{recovers}
+use Rattle.image_store.specs.Moments.{Creates, Destroys}
+use Rattle.image_store.specs.Stores.{AnswersMade, AnswersEnded, IsChosen, RefusesEnd}
 use Rattle.kdb_ports.specs.Parts.{SaidPart}
 use Rattle.std.specs.List.Sorted.{IsStrictlySortedBy}
 use Rattle.std.proofs.lemmas.List.Elements.{All-from_recursion}

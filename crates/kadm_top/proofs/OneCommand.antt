@@ -11,9 +11,9 @@ use Rattle.kdb_disk.specs.Files.{Files}
 use Rattle.kdb_disk.specs.View.{View}
 use Rattle.kdb_disk.specs.Moments.{LeavesOnly}
 use Rattle.kdb_disk.proofs.Runs.{at_end, weaken, started}
-use Rattle.kdb_store.specs.Places.{Place, Holds, place_in, place_of, recovers}
-use Rattle.kdb_store.specs.Moments.{RecoversEither}
-use Rattle.kdb_store.specs.declared.opened.Opened.{Opened}
+use Rattle.image_store.specs.Places.{Place, Holds, place_in, place_of, recovers}
+use Rattle.image_store.specs.Moments.{RecoversEither}
+use Rattle.image_store.specs.declared.opened.Opened.{Opened}
 use Rattle.keyless_model.specs.declared.commands.Command.{Command}
 use Rattle.keyless_model.specs.declared.replies.Reply.{Reply}
 use Rattle.keyless_model.specs.declared.replies.Reply.TheVariants as reply

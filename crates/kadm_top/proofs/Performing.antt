@@ -19,7 +19,7 @@ use Rattle.keyless_model.specs.declared.replies.Reply.{Reply}
 use Rattle.keyless_model.specs.declared.replies.Reply.TheVariants.{Done, Refused}
 use Rattle.keyless_model.specs.declared.states.State.{State}
 use Rattle.keyless_model.proofs.Ends.{end_keeps_refusal, end_lets_read, end_refuses_change, makes_entry, makes_none}
-use Rattle.kdb_store.specs.Places.{Place}
+use Rattle.image_store.specs.Places.{Place}
 use Rattle.kadm_top.specs.Changes.{changed_to, committed_at, kept_with}
 use Rattle.kadm_top.specs.Steps.{call_of, is_last, local_client, outcome, state_of}
 

@@ -12,9 +12,9 @@ use Rattle.kdb_disk.specs.Files.{Files}
 use Rattle.kdb_disk.specs.View.{View}
 use Rattle.kdb_disk.specs.Moments.{Keeps, LeavesOnly}
 use Rattle.kdb_disk.proofs.Runs.{weaken, kept_first}
-use Rattle.kdb_store.specs.Places.{Place, Holds, found_in, place_in, place_of, recovers}
-use Rattle.kdb_store.specs.Moments.{IsLike, RecoversToNone}
-use Rattle.kdb_store.specs.declared.opened.Opened.{Opened}
+use Rattle.image_store.specs.Places.{Place, Holds, found_in, place_in, place_of, recovers}
+use Rattle.image_store.specs.Moments.{IsLike, RecoversToNone}
+use Rattle.image_store.specs.declared.opened.Opened.{Opened}
 use Rattle.kadm_lines.specs.Lines.{lines_from}
 use Rattle.kadm_lines.specs.Reader.{ReaderState, to_come}
 use Rattle.kadm_top.specs.declared.halts.SessionHalt.{SessionHalt}

@@ -9,7 +9,7 @@ use Rattle.kdb_base.specs.Moment.{Moment}
 use Rattle.kdb_disk.specs.View.{View}
 use Rattle.kdb_disk.specs.Moments.{LeavesOnly}
 use Rattle.kdb_disk.proofs.Runs.{weaken}
-use Rattle.kdb_store.specs.Places.{Place}
+use Rattle.image_store.specs.Places.{Place}
 use Rattle.kadm_lines.specs.Reader.{ReaderState}
 use Rattle.kadm_top.specs.Standing.{Stands}
 use Rattle.kadm_top.specs.declared.intake.Asked.{Asked}

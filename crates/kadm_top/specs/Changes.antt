@@ -7,8 +7,8 @@ use Rattle.princ_entries.specs.declared.entries.Op.{Op}
 use Rattle.keyless_model.specs.Calls.{Outcome}
 use Rattle.keyless_model.specs.declared.replies.Reply.{Reply}
 use Rattle.keyless_model.specs.declared.replies.Reply.TheVariants.{Done, Refused}
-use Rattle.kdb_store.specs.Places.{Place}
-use Rattle.kdb_store.specs.Steps.{committed}
+use Rattle.image_store.specs.Places.{Place}
+use Rattle.image_store.specs.Steps.{committed}
 use Rattle.kadm_top.specs.Steps.{is_last, state_of}
 
 -- the place of the change itself; its time does not go back

@@ -14,9 +14,9 @@ use Rattle.kdb_control.specs.Force.{in_force}
 use Rattle.kdb_control.specs.declared.force.Force.{Force}
 use Rattle.kdb_control.specs.declared.force.Force.TheVariants.{Nothing, Is, Broken}
 use Rattle.princ_name.specs.Realms.{is_realm}
-use Rattle.kdb_store.specs.Places.{Place, recovers}
-use Rattle.kdb_store.specs.Moments.{IsLike, Creates, Destroys}
-use Rattle.kdb_store.specs.Steps.{created}
+use Rattle.image_store.specs.Places.{Place, recovers}
+use Rattle.image_store.specs.Moments.{IsLike, Creates, Destroys}
+use Rattle.image_store.specs.Steps.{created}
 use Rattle.kadm_lines.specs.Lines.{seen_lines}
 use Rattle.kdb_ports.specs.Parts.{SaidPart}
 use Rattle.keyless_wire.specs.Replies.{reply_text}

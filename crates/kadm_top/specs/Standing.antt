@@ -4,7 +4,7 @@ use Rattle.std.specs.List.{Contains}
 use Rattle.kdb_base.specs.declared.outcomes.Refusal.{Refusal}
 use Rattle.kdb_disk.specs.Files.{Files}
 use Rattle.kdb_disk.specs.View.{View}
-use Rattle.kdb_store.specs.Places.{Place, recovers}
+use Rattle.image_store.specs.Places.{Place, recovers}
 
 -- whatever a crash leaves recovers to this: a place, or why there is none
 pub record Stands (found : Result Place Refusal) (now : View) : Type 0 where

@@ -10,7 +10,7 @@ use Rattle.keyless_model.specs.declared.commands.Command.{Command}
 use Rattle.keyless_model.specs.declared.replies.Reply.{Reply}
 use Rattle.keyless_model.specs.declared.replies.Reply.TheVariants as reply
 use Rattle.keyless_model.specs.declared.states.State.{State}
-use Rattle.kdb_store.specs.Places.{Place}
+use Rattle.image_store.specs.Places.{Place}
 use Rattle.kadm_top.specs.Replies.{text_of}
 use Rattle.kadm_top.specs.declared.intake.Asked.{Asked}
 use Rattle.kadm_top.specs.declared.intake.Asked.TheVariants.{Nothing, Refused, Does}

@@ -3,7 +3,7 @@ use Rattle.std.specs.Prelude.{ℕ, ◌≡◌, ◌≤◌, ◌+◌, ◌⊎◌, Lis
 use Rattle.kdb_base.specs.Moment.{Moment}
 use Rattle.kdb_ports.specs.Told.{after_told}
 use Rattle.kdb_disk.specs.View.{View}
-use Rattle.kdb_store.specs.Places.{Place}
+use Rattle.image_store.specs.Places.{Place}
 use Rattle.kdb_ports.specs.Parts.{SaidPart}
 use Rattle.kadm_top.specs.Standing.{Stands, StandsEither}
 use Rattle.kadm_top.specs.declared.intake.Asked.{Asked}

@@ -2,7 +2,7 @@ ghost use Rattle.std.specs.Prelude.{◌≡◌, List, Option, Some, ℕ};
 ghost use Rattle.kdb_base.specs.Moment.{Moment};
 ghost use Rattle.kdb_base.specs.declared.outcomes.Refusal.{Refusal};
 ghost use Rattle.keyless_model.specs.declared.replies.Reply.TheVariants.{Refused};
-ghost use Rattle.kdb_store.specs.Places.{Place};
+ghost use Rattle.image_store.specs.Places.{Place};
 ghost use Rattle.kadm_top.specs.declared.intake.Asked.{Asked};
 ghost use Rattle.kadm_top.specs.Steps.{place_after, reply_to};
 ghost use Rattle.kadm_top.specs.Stops.{HasStoppedAfter, MayStop};

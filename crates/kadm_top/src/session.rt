@@ -1,7 +1,7 @@
 ghost use Rattle.std.specs.Prelude.{◌≡◌, ◌≢◌, ◌<◌, ◌≤◌, ◌∷◌, ◌||◌, ⊤, IsTrue, Bool, false, List, ℕ, Option, Some, None, Ok, Err, IfOk, OnOk, OnErr};
 ghost use Rattle.kdb_base.specs.Causes.{Rose};
 ghost use Rattle.kdb_disk.specs.Moments.{LeavesOnly};
-ghost use Rattle.kdb_store.specs.Places.{Holds, place_of};
+ghost use Rattle.image_store.specs.Places.{Holds, place_of};
 ghost use Rattle.kadm_top.specs.declared.intake.Asked.{Asked as Asks};
 ghost use Rattle.kadm_top.specs.Input.{IsAsked};
 ghost use Rattle.kadm_top.specs.Run.{among_places, AmongWithin};
@@ -20,7 +20,7 @@ use kadm_lines::LineReader;
 use kdb_base::Halt;
 use kdb_disk::Disk;
 use kdb_ports::{Clock, Sink, Source};
-use kdb_store::Opened;
+use image_store::Opened;
 use keyless_model::Reply;
 use std::alloc::Global;
 

@@ -2,7 +2,7 @@ use Rattle.std.proofs.Common.{◌∙◌, sym, ap, refl}
 use Rattle.kdb_base.specs.Moment.{Moment}
 use Rattle.keyless_model.specs.Calls.{before_end_of}
 use Rattle.keyless_model.specs.Plans.{IsGiven}
-use Rattle.kdb_store.specs.Places.{place_of}
+use Rattle.image_store.specs.Places.{place_of}
 use Rattle.kadm_top.specs.Steps.{call_of, local_client, state_of}
 use Rattle.kadm_top.proofs.Performing.{answered_step, changed_step, given, new_name, refused_step}
 use Rattle.kadm_top.proofs.changes.plan_local.Goals.{After-drop-client-inside}

@@ -11,7 +11,7 @@ use Rattle.keyless_model.specs.Refusals.{refusal}
 use Rattle.keyless_model.specs.Steps.{performed, step, unless_refused}
 use Rattle.keyless_model.specs.declared.replies.Reply.TheVariants as reply
 use Rattle.keyless_model.specs.declared.states.State.{State}
-use Rattle.kdb_store.specs.Places.{Place}
+use Rattle.image_store.specs.Places.{Place}
 use Rattle.kadm_top.specs.Steps.{call_of, outcome, place_after, place_at, reply_to, state_of}
 use Rattle.kadm_top.specs.declared.intake.Asked.{Asked}
 use Rattle.kadm_top.specs.declared.intake.Asked.TheVariants.{Nothing, Refused, Does}

@@ -3,7 +3,7 @@ use Rattle.std.proofs.Common.{◌≡◌, ℕ, suc, List, [], ◌∷◌, ◌++◌
 use Rattle.std.specs.Prelude.{Option, Some}
 use Rattle.std.proofs.lemmas.List.{take-append-drop}
 use Rattle.kdb_base.specs.Moment.{Moment}
-use Rattle.kdb_store.specs.Places.{Place}
+use Rattle.image_store.specs.Places.{Place}
 use Rattle.kdb_ports.specs.Parts.{SaidPart}
 use Rattle.kadm_top.specs.declared.intake.Asked.{Asked}
 use Rattle.kadm_top.specs.Steps.{said, text_to, place_after, moments_after}

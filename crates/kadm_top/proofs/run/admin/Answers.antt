@@ -1,6 +1,6 @@
 use Rattle.std.proofs.Common.{◌≡◌, ◌∙◌, ap, refl, rules}
 use Rattle.kadm_top.specs.Run.{admin_of}
-use Rattle.kdb_store.specs.Places.{place_of, recovers}
+use Rattle.image_store.specs.Places.{place_of, recovers}
 use Rattle.kadm_top.proofs.Running.{nothing_done, opens_as, opened_ended, opened_leaves, opened_rests, unopened_stops}
 use Rattle.kadm_top.proofs.run.admin.Goals as goal
 

@@ -3,7 +3,7 @@ use Rattle.std.specs.Prelude.{IfOk}
 use Rattle.kdb_base.specs.Moment.{Moment}
 use Rattle.kdb_control.specs.Force.{in_force}
 use Rattle.kdb_disk.proofs.Runs.{kept, started}
-use Rattle.kdb_store.specs.Moments.{Creates}
+use Rattle.image_store.specs.Moments.{Creates}
 use Rattle.kadm_top.specs.Run.{RunEndsAs, made}
 use Rattle.kadm_top.proofs.Running.{like_itself}
 use Rattle.kadm_top.proofs.Making.{make_leaves, make_stops}

@@ -2,9 +2,9 @@ use Rattle.std.proofs.Common.{◌∙◌, sym, subst}
 use Rattle.std.specs.Prelude.{Result, None, Ok, OnOk}
 use Rattle.kdb_base.specs.declared.outcomes.Stop.{Stop}
 use Rattle.kdb_disk.specs.Moments.{LeavesOnly}
-use Rattle.kdb_store.specs.Places.{Place}
-use Rattle.kdb_store.specs.Moments.{Creates}
-use Rattle.kdb_store.specs.Steps.{created}
+use Rattle.image_store.specs.Places.{Place}
+use Rattle.image_store.specs.Moments.{Creates}
+use Rattle.image_store.specs.Steps.{created}
 use Rattle.kadm_top.specs.Run.{made}
 use Rattle.kadm_top.specs.Standing.{Stands}
 use Rattle.kadm_top.proofs.Running.{opened_stands}

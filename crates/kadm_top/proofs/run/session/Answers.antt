@@ -1,6 +1,6 @@
 use Rattle.std.proofs.Common.{◌∙◌, ap, subst, List, Option, false}
 use Rattle.kdb_disk.specs.Moments.{LeavesOnly}
-use Rattle.kdb_store.specs.Places.{place_of}
+use Rattle.image_store.specs.Places.{place_of}
 use Rattle.kadm_top.specs.Run.{among_places, input_commands}
 use Rattle.kadm_top.specs.declared.intake.Asked.{Asked}
 use Rattle.kadm_top.specs.Steps.{ending}

@@ -1,5 +1,5 @@
 use Rattle.std.proofs.Common.{◌∷◌, ◌∙◌, ap, Some}
-use Rattle.kdb_store.specs.Places.{Place, place_of}
+use Rattle.image_store.specs.Places.{Place, place_of}
 use Rattle.kadm_top.specs.declared.intake.Asked.TheVariants.{Does}
 use Rattle.kadm_top.proofs.OneCommand.{decides_nothing, decides_refused, decides_done, realm_stays, among_still, among_run, stops_run, holds_stands}
 use Rattle.kadm_top.proofs.Turning.{stops_here}

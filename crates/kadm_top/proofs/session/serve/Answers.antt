@@ -1,7 +1,7 @@
 use Rattle.std.proofs.Common.{◌∙◌, refl, ap, sym, arith, Bool, Ok, Option}
 use Rattle.std.specs.Prelude.{IfOk}
 use Rattle.kdb_disk.proofs.Runs.{then_on}
-use Rattle.kdb_store.specs.Places.{place_of}
+use Rattle.image_store.specs.Places.{place_of}
 use Rattle.kadm_top.specs.Intake.{coming}
 use Rattle.kadm_top.specs.Steps.{ending}
 use Rattle.kadm_top.specs.Turns.{GoesOn}

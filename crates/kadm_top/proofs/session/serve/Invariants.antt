@@ -1,6 +1,6 @@
 use Rattle.std.proofs.Common.{◌≡◌, ◌≤◌, ℕ, List, Option, false}
 use Rattle.kdb_disk.specs.Moments.{LeavesOnly}
-use Rattle.kdb_store.specs.Places.{Holds, place_of}
+use Rattle.image_store.specs.Places.{Holds, place_of}
 use Rattle.kadm_lines.specs.Reader.{work_left}
 use Rattle.kadm_top.specs.Intake.{coming, HasTaken}
 use Rattle.kadm_top.specs.Run.{among_places, AmongWithin}

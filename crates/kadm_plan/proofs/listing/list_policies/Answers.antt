@@ -1,9 +1,0 @@
-use Rattle.std.proofs.Common.{◌≡◌, rules}
-use Rattle.princ_rows.specs.Rows.{policy_keys}
-use Rattle.kadm_plan.proofs.NameLists.{same_order}
-use Rattle.kadm_plan.proofs.listing.list_policies.Goals as goal
-
-pub from_vec-requires : goal.from_vec-requires
-from_vec-requires c =
-    let is : c.in_ok-names.names.items ≡ policy_keys c.args.given.now.rows.now.policies = search rules in
-    same_order c.in_ok-names.names.items (policy_keys c.args.given.now.rows.now.policies) is c.policies.ensures.rows.policy_order

@@ -1,5 +1,0 @@
-use Rattle.kadm_plan.proofs.ReadPlans.{tells_privileges}
-use Rattle.kadm_plan.proofs.listing.plan_privileges.Goals as goal
-
-pub returns : goal.returns
-returns c = tells_privileges c.args.given.now c.in_ok-letters.letters c.in_ok-letters.ensures
