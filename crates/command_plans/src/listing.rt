@@ -145,10 +145,7 @@ fn privileges(alloc: Global, given: &Given) -> Result<Blob, MemoryOut>
 }
 
 /// `getprivs`.
-pub fn plan_privileges(
-    alloc: Global,
-    given: &Given,
-) -> Result<Result<Planned, Refusal>, MemoryOut>
+pub fn plan_privileges(alloc: Global, given: &Given) -> Result<Result<Planned, Refusal>, MemoryOut>
     ensures { IfOk result (λ plan. IsJudged given.now command.GetPrivs plan) }
 {
     let letters = privileges(alloc, given)?;

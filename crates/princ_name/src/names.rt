@@ -56,6 +56,31 @@ impl Name {
     {
         self.printed_len
     }
+
+    /// A copy of the name. Only want of memory can refuse it.
+    pub fn copied(&self, alloc: Global) -> Result<Name, MemoryOut>
+        ensures { IfOk result (λ name. name ≡ self.now) }
+    {
+        let parts = copied_texts(alloc, &self.parts)?;
+        let realm = Blob::from_bytes(alloc, self.realm.as_slice())?;
+        Ok(Name {
+            parts,
+            realm,
+            printed_len: self.printed_len,
+        })
+    }
+}
+
+/// The same texts in the same order.
+fn copied_texts(alloc: Global, texts: &[Blob]) -> Result<Vec<Blob>, MemoryOut>
+    ensures { IfOk result (λ v. v.items ≡ texts.now) }
+{
+    let mut out = Vec::with_capacity(alloc, texts.len())?;
+    for text in texts {
+        let text = Blob::from_bytes(alloc, text.as_slice())?;
+        out.push(text)?;
+    }
+    Ok(out)
 }
 
 /// Names are the same where they have the same components and the same realm.
