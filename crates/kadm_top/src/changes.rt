@@ -18,9 +18,9 @@ ghost use Rattle.kadm_top.specs.declared.intake.Asked.TheVariants.{Does};
 
 use crate::clients::local_client;
 use crate::replies::{Printed, print};
+use image_store::Opened;
 use kdb_base::{Halt, Point, Refusal, Stop, Time};
 use kdb_disk::Disk;
-use image_store::Opened;
 use keyless_model::{Command, Planned, Reply, plan};
 use princ_rows::Op;
 use std::alloc::Global;

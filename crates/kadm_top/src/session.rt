@@ -16,11 +16,11 @@ use crate::changes::perform;
 use crate::halts::{AnswerHalt, SessionHalt};
 use crate::intake::{Asked, Next, next_command};
 use crate::replies::{Printed, print, write_any};
+use image_store::Opened;
 use kadm_lines::LineReader;
 use kdb_base::Halt;
 use kdb_disk::Disk;
 use kdb_ports::{Clock, Sink, Source};
-use image_store::Opened;
 use keyless_model::Reply;
 use std::alloc::Global;
 
