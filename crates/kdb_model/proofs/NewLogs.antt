@@ -201,6 +201,10 @@ module _ (s : State) (call : Call) where
   anew_entry : (o : Option PlainOp) → entry s call ≡ o → entry s (told true call) ≡ o
   anew_entry o is = entry_same ∙ next_entry o is
 
+  pub entry_told : (due : Bool) → entry s (told due call) ≡ entry s call
+  entry_told false = next_entry (entry s call) refl
+  entry_told true = anew_entry (entry s call) refl
+
   pub reads_both : refusal s (told false call) ≡ None → entry s call ≡ None → step s (told true call) ≡ step s (told false call)
   reads_both accepted is =
       step_reads s (told true call) (accepted_anew accepted None (next_entry None is)) (anew_entry None is)
@@ -210,7 +214,7 @@ module _ (s : State) (call : Call) where
   pub ended_anew : (op : PlainOp) → refusal s (told false call) ≡ None → entry s call ≡ Some op → is_last s.point.time ≡ true → refusal s (told true call) ≡ Some TimeEnd
   ended_anew op accepted is last = accepted_anew accepted (Some op) (next_entry (Some op) is) ∙ ap (λ (b : Bool). when b TimeEnd) last
 
-  not_ended : (op : PlainOp) → refusal s (told false call) ≡ None → entry s call ≡ Some op → is_last s.point.time ≡ false → refusal s (told true call) ≡ None
+  pub not_ended : (op : PlainOp) → refusal s (told false call) ≡ None → entry s call ≡ Some op → is_last s.point.time ≡ false → refusal s (told true call) ≡ None
   not_ended op accepted is more = accepted_anew accepted (Some op) (next_entry (Some op) is) ∙ ap (λ (b : Bool). when b TimeEnd) more
 
   anew_is : (op : PlainOp) → refusal s (told false call) ≡ None → entry s call ≡ Some op → is_last s.point.time ≡ false → step s (told true call) ≡ committed s (told true call) op

@@ -12,17 +12,17 @@ use std::alloc::Global;
 use tagged_data::StringAttributes;
 
 /// The password has to be changed at the next use.
-pub(crate) const NEEDCHANGE: u32 = 0x200;
+pub const NEEDCHANGE: u32 = 0x200;
 /// The keys may be taken and set by nobody over a connection.
-pub(crate) const LOCKDOWN_KEYS: u32 = 0x800000;
+pub const LOCKDOWN_KEYS: u32 = 0x800000;
 
-pub(crate) fn has_bit(bit: u32, attributes: u32) -> bool
+pub fn has_bit(bit: u32, attributes: u32) -> bool
     ensures { result ≡ has_bit bit attributes }
 {
     attributes & bit == bit
 }
 
-pub(crate) fn copy_policy(alloc: Global, name: &Option<Blob>) -> Result<Option<Blob>, MemoryOut>
+pub fn copy_policy(alloc: Global, name: &Option<Blob>) -> Result<Option<Blob>, MemoryOut>
     ensures { IfOk result (λ x. x ≡ name.now) }
 {
     match name {
@@ -35,7 +35,7 @@ pub(crate) fn copy_policy(alloc: Global, name: &Option<Blob>) -> Result<Option<B
 }
 
 /// Who changed the record last, and when.
-pub(crate) fn marked(mut head: Princ, client: Blob, secs: u32) -> Princ
+pub fn marked(mut head: Princ, client: Blob, secs: u32) -> Princ
     ensures { result ≡ marked (record { client = client; secs = secs }) head }
 {
     head.modified = secs;
@@ -44,7 +44,7 @@ pub(crate) fn marked(mut head: Princ, client: Blob, secs: u32) -> Princ
 }
 
 /// The value that is given, or the standing one.
-pub(crate) fn or_standing(given: Option<u32>, standing: u32) -> u32
+pub fn or_standing(given: Option<u32>, standing: u32) -> u32
     ensures { result ≡ unwrap_or given standing }
 {
     match given {
@@ -55,7 +55,7 @@ pub(crate) fn or_standing(given: Option<u32>, standing: u32) -> u32
 
 /// The options of a line, over a record.
 #[tactic(auto, unfolding(crate::specs::Fields::with_options))]
-pub(crate) fn with_options(mut head: Princ, options: &PrincOptions) -> Princ
+pub fn with_options(mut head: Princ, options: &PrincOptions) -> Princ
     ensures { result ≡ with_options options.now head }
 {
     head.attributes = with_flags(head.attributes, options.flags.as_slice());
@@ -67,7 +67,7 @@ pub(crate) fn with_options(mut head: Princ, options: &PrincOptions) -> Princ
 }
 
 /// The policy of a line's options, or the standing one.
-pub(crate) fn chosen(
+pub fn chosen(
     alloc: Global,
     choice: &Option<PolicyChoice>,
     standing: Option<Blob>,
@@ -85,7 +85,7 @@ pub(crate) fn chosen(
 }
 
 /// What restrictions leave of the policy.
-pub(crate) fn forced(
+pub fn forced(
     alloc: Global,
     limits: Option<&Limits>,
     policy: Option<Blob>,
@@ -129,7 +129,7 @@ fn restricted(
 }
 
 /// The same, where there are restrictions.
-pub(crate) fn limited(
+pub fn limited(
     alloc: Global,
     head: Princ,
     limits: Option<&Limits>,
@@ -156,7 +156,7 @@ fn expiry(life: u32, secs: u32) -> u32
 }
 
 /// New keys were set at `secs`, under a policy of this greatest life.
-pub(crate) fn keyed(mut head: Princ, life: u32, secs: u32) -> Princ
+pub fn keyed(mut head: Princ, life: u32, secs: u32) -> Princ
     ensures { result ≡ keyed life secs head }
 {
     head.pw_changed = Some(secs);
@@ -165,7 +165,7 @@ pub(crate) fn keyed(mut head: Princ, life: u32, secs: u32) -> Princ
 }
 
 /// The password need not be changed at the next use.
-pub(crate) fn without_needchange(mut head: Princ) -> Princ
+pub fn without_needchange(mut head: Princ) -> Princ
     ensures { result ≡ record head { attributes = without_bit needchange head.attributes } }
 {
     head.attributes &= !NEEDCHANGE;
@@ -174,7 +174,7 @@ pub(crate) fn without_needchange(mut head: Princ) -> Princ
 
 /// A new principal of this printed name, under this version of the master key.
 #[tactic(auto, unfolding(crate::specs::Fields::blank_head))]
-pub(crate) fn blank_head(alloc: Global, name: Blob, active: u16, policy: Option<Blob>) -> Princ
+pub fn blank_head(alloc: Global, name: Blob, active: u16, policy: Option<Blob>) -> Princ
     ensures { result ≡ blank_head name active policy }
 {
     Princ {

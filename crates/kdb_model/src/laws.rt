@@ -1,6 +1,6 @@
 //! Laws of steps. They do no work.
 
-ghost use Rattle.std.specs.Prelude.{◌≡◌, ◌+◌, ◌<◌, ◌≤◌, ◌≢◌, ◌++◌, List, Some, None, true, false};
+ghost use Rattle.std.specs.Prelude.{◌≡◌, ◌+◌, ◌<◌, ◌≤◌, ◌≢◌, ◌++◌, Bool, List, Some, None, true, false};
 ghost use Rattle.kadm_commands.specs.declared.replies.Reply.{Reply};
 ghost use Rattle.kdb_base.specs.Moments.{ComesBefore, later_moment, micros};
 ghost use Rattle.kdb_base.specs.declared.outcomes.Refusal.{Refusal};
@@ -52,6 +52,8 @@ pub fn new_log_moves_the_point_alone()
     ensures reading { (s : State) (call : Call) → refusal s (told false call) ≡ None → entry s call ≡ None → step s (told true call) ≡ step s (told false call) }
     ensures ended { (s : State) (call : Call) (op : PlainOp) → refusal s (told false call) ≡ None → entry s call ≡ Some op → is_last s.point.time ≡ true → refusal s (told true call) ≡ Some Refusal.TimeEnd }
     ensures state { (s : State) (call : Call) (op : PlainOp) → refusal s (told false call) ≡ None → entry s call ≡ Some op → is_last s.point.time ≡ false → (step s (told true call)).state ≡ at_point (step s (told true call)).state.point (step s (told false call)).state }
+    ensures entry { (s : State) (call : Call) (due : Bool) → entry s (told due call) ≡ entry s call }
+    ensures accepted { (s : State) (call : Call) (op : PlainOp) → refusal s (told false call) ≡ None → entry s call ≡ Some op → is_last s.point.time ≡ false → refusal s (told true call) ≡ None }
     ensures reply { (s : State) (call : Call) (op : PlainOp) → refusal s (told false call) ≡ None → entry s call ≡ Some op → is_last s.point.time ≡ false → (step s (told true call)).reply ≡ reply_at (step s (told true call)).state.point (step s (told false call)).reply }
 {}
 
