@@ -9,14 +9,16 @@ use Rattle.kdb_control.specs.declared.force.Force.TheVariants.{Is}
 use Rattle.princ_entries.specs.declared.entries.Op.{Op}
 use Rattle.princ_entries.specs.declared.entries.Op.TheVariants.{PutPrinc, DropPrinc, Rename, PutPolicy, DropPolicy}
 use Rattle.princ_entries.specs.declared.entries.Logged.{Logged}
-use Rattle.update_log.specs.Logs.{newest}
+use Rattle.princ_rows.specs.Rows.{RowLists, AreRows}
+use Rattle.update_log.specs.Logs.{Journal, newest}
 use Rattle.update_log.specs.Runs.{log_in}
 use Rattle.kdb_cells.specs.declared.units.StoredRow.{StoredRow}
 use Rattle.kdb_cells.specs.declared.units.StoredRow.TheVariants.{Princ, Policy}
 use Rattle.kdb_cells.specs.Cells.{Cell}
 use Rattle.kdb_cells.specs.Sheets.{Sheet, count_of, sheet_in}
-use Rattle.kdb_cells.specs.Changes.{cell_no}
-use Rattle.kdb_cells.specs.FileCells.{MayStand}
+use Rattle.kdb_cells.specs.Changes.{rows_of, cell_no}
+use Rattle.kdb_cells.specs.FileCells.{AreCellsOf, MayStand}
+use Rattle.kdb_cells.specs.Leads.{Units, IsFree}
 use Rattle.kdb_cells.specs.Scanning.{skipping}
 use Rattle.store_files.specs.Found.{Found, unit_changed, left_by, with_unit, redone, last_of, stash_in, found_in}
 
@@ -113,7 +115,32 @@ pub record IsUnitFor (op : Op) (unit : Option ℕ) (cells : List Cell) : Type 0 
   pub others : (j : ℕ) → unit ≢ Some j → has_old op (cell_no j cells) ≡ false
   pub own : (i : ℕ) (r : StoredRow) → unit ≡ Some i → cell_no i cells ≡ Some r → has_old op (Some r) ≡ true
 
+-- The unit that is given for a key: its own, or one to which no key leads, in the file or the next one.
+pub record IsGivenFor (key : List ℕ) (i : ℕ) (u : Units) : Type 0 where
+  pub from : 1 ≤ i
+  pub within : i ≤ u.next
+  pub own : (j : ℕ) → u.of key ≡ Some j → i ≡ j
+  pub new : u.of key ≡ None → IsFree i u
+
+-- The rows in memory are those of the cells to which the index leads.
+pub record AreRowCells (u : Units) (cells : List Cell) (rows : RowLists) : Type 0 where
+  pub are : AreCellsOf u cells
+  pub rows_is : rows_of cells ≡ rows
+  pub sound : AreRows rows
+
 -- The entry is a change of this database, in a unit that it may change.
 pub record IsChange (o : Found) (l : Logged) : Type 0 where
   pub fits : MayChange o.control.format (unit_changed l) (left_by l.entry.op) o.sheet.cells
   pub newer : o.control.format ≡ 2
+
+-- A log in memory is that of what is found, whatever is prepared.
+pub record IsLogOf (log : Journal) (o : Found) : Type 0 where
+  pub file_is : log.file ≡ o.control.log
+  pub base_is : log.base ≡ o.control.base
+  pub size_is : log.size ≡ o.control.size
+  pub block_is : log.block ≡ o.control.block
+  pub held_is : log.held ≡ o.held
+
+-- nothing of the change is done, or its entry is open
+abbrev pub IsUnderWay : Logged → Found → Files → Type 0
+IsUnderWay l o files = StandsOnDisk o files ⊎ Pending l o files
