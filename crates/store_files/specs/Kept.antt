@@ -29,11 +29,13 @@ pub record Kept : Type 0 where
 abbrev pub place_kept : Kept → Place
 place_kept k = record { realm = k.realm; rows = k.rows; held = map entry_of k.log.held; stash = k.stash; size = k.control.size; block = k.control.block; format = k.control.format }
 
--- These are cells of the rows that are kept: each key leads to the cell of its row, and there are no other rows.
-pub record HasCells (k : Kept) (cells : List Cell) : Type 0 where
-  pub leads : AreCellsOf (units k.cells) cells
-  pub many : count k.cells ≡ taken cells
-  pub rows : rows_of cells ≡ k.rows
+-- The index leads to cells of these rows: each key to the cell of its row, and there are no other rows. It is known
+-- whatever a disk tells of its files.
+pub record AreIndexed (c : CellFile) (rows : RowLists) : Type 0 where
+  pub cells : List Cell
+  pub leads : AreCellsOf (units c) cells
+  pub many : count c ≡ taken cells
+  pub rows_is : rows_of cells ≡ rows
 
 -- the log and the file of cells are those that the choice names
 pub record HasChosen (k : Kept) : Type 0 where
@@ -44,11 +46,14 @@ pub record HasChosen (k : Kept) : Type 0 where
   pub image : k.cells.file ≡ k.control.image
   pub format : k.cells.format ≡ k.control.format
 
--- What is kept hangs together, whatever the disk tells of its files.
+-- What is kept hangs together.
 pub record IsKept (k : Kept) : Type 0 where
   pub chosen : HasChosen k
-  pub cells : List Cell
-  pub has : HasCells k cells
+  pub indexed : AreIndexed k.cells k.rows
+
+-- the same, with another log, other cells and other rows
+abbrev pub with_parts : Journal → CellFile → RowLists → Kept → Kept
+with_parts log cells rows k = record { control = k.control; log = log; cells = cells; rows = rows; realm = k.realm; stash = k.stash; broken = k.broken }
 
 abbrev pub sheet_with : Kept → List Cell → Sheet
 sheet_with k cells = record { realm = k.realm; cells = cells }
