@@ -1,2 +1,4 @@
 pub mod Lengths
 pub mod Given
+pub mod WrittenUnits
+pub mod Entries

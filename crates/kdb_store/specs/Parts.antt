@@ -1,5 +1,10 @@
 -- What stays of a log and of a file of cells in memory.
 use Rattle.std.specs.Prelude.{◌≡◌}
+use Rattle.kdb_disk.specs.Files.{Files}
+use Rattle.kdb_disk.specs.View.{View}
+use Rattle.princ_entries.specs.declared.entries.Logged.{Logged}
+use Rattle.store_files.specs.Found.{Found}
+use Rattle.store_files.specs.Standing.{Pending}
 use Rattle.kdb_cells.specs.CellFiles.{CellFile, units, count}
 use Rattle.update_log.specs.Logs.{Journal}
 
@@ -18,3 +23,7 @@ pub record HoldsAlike (old new : Journal) : Type 0 where
   pub size_is : new.size ≡ old.size
   pub block_is : new.block ≡ old.block
   pub held_is : new.held ≡ old.held
+
+-- Whatever a crash leaves has the entry open in the log, and its unit may have any bytes.
+pub record ArePending (l : Logged) (o : Found) (now : View) : Type 0 where
+  pub each : (c : Files) → now.images c → Pending l o c

@@ -3,6 +3,8 @@
 #![tactic(auto)]
 
 pub mod database;
+mod entry_writes;
+mod unit_writes;
 mod writing;
 
 pub use database::Database;
