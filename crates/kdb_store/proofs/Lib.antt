@@ -2,3 +2,4 @@ pub mod Lengths
 pub mod Given
 pub mod WrittenUnits
 pub mod Entries
+pub mod DiskChanges

@@ -4,8 +4,9 @@ use Rattle.kdb_disk.specs.Files.{Files}
 use Rattle.kdb_disk.specs.View.{View}
 use Rattle.princ_entries.specs.declared.entries.Logged.{Logged}
 use Rattle.store_files.specs.Found.{Found}
-use Rattle.store_files.specs.Standing.{Pending}
+use Rattle.store_files.specs.Standing.{Holds, Pending, IsLogOf, IsChange}
 use Rattle.kdb_cells.specs.CellFiles.{CellFile, units, count}
+use Rattle.kdb_cells.specs.FileCells.{IsFileOf}
 use Rattle.update_log.specs.Logs.{Journal}
 
 -- Each key leads where it led, whatever unit is given.
@@ -27,3 +28,12 @@ pub record HoldsAlike (old new : Journal) : Type 0 where
 -- Whatever a crash leaves has the entry open in the log, and its unit may have any bytes.
 pub record ArePending (l : Logged) (o : Found) (now : View) : Type 0 where
   pub each : (c : Files) → now.images c → Pending l o c
+
+-- A log and a file of cells in memory are those of what stands on the disk, and the entry is a change of it.
+pub record MayCommit (log : Journal) (cells : CellFile) (l : Logged) (o : Found) (now : View) : Type 0 where
+  pub log_is : IsLogOf log o
+  pub stands : Holds o now
+  pub change : IsChange o l
+  pub file_is : cells.file ≡ o.control.image
+  pub format_is : cells.format ≡ o.control.format
+  pub tie : IsFileOf cells o.sheet (now.seen cells.file)
