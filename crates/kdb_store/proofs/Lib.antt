@@ -1,2 +1,5 @@
 pub mod Lengths
 pub mod Given
+pub mod WrittenUnits
+pub mod Entries
+pub mod DiskChanges

@@ -1,6 +1,12 @@
 -- What stays of a log and of a file of cells in memory.
 use Rattle.std.specs.Prelude.{◌≡◌}
+use Rattle.kdb_disk.specs.Files.{Files}
+use Rattle.kdb_disk.specs.View.{View}
+use Rattle.princ_entries.specs.declared.entries.Logged.{Logged}
+use Rattle.store_files.specs.Found.{Found}
+use Rattle.store_files.specs.Standing.{Holds, Pending, IsLogOf, IsChange}
 use Rattle.kdb_cells.specs.CellFiles.{CellFile, units, count}
+use Rattle.kdb_cells.specs.FileCells.{IsFileOf}
 use Rattle.update_log.specs.Logs.{Journal}
 
 -- Each key leads where it led, whatever unit is given.
@@ -18,3 +24,16 @@ pub record HoldsAlike (old new : Journal) : Type 0 where
   pub size_is : new.size ≡ old.size
   pub block_is : new.block ≡ old.block
   pub held_is : new.held ≡ old.held
+
+-- Whatever a crash leaves has the entry open in the log, and its unit may have any bytes.
+pub record ArePending (l : Logged) (o : Found) (now : View) : Type 0 where
+  pub each : (c : Files) → now.images c → Pending l o c
+
+-- A log and a file of cells in memory are those of what stands on the disk, and the entry is a change of it.
+pub record MayCommit (log : Journal) (cells : CellFile) (l : Logged) (o : Found) (now : View) : Type 0 where
+  pub log_is : IsLogOf log o
+  pub stands : Holds o now
+  pub change : IsChange o l
+  pub file_is : cells.file ≡ o.control.image
+  pub format_is : cells.format ≡ o.control.format
+  pub tie : IsFileOf cells o.sheet (now.seen cells.file)

@@ -8,7 +8,11 @@ use Rattle.princ_entries.specs.declared.entries.Op.TheVariants.{PutPrinc, DropPr
 use Rattle.kdb_cells.specs.declared.units.StoredRow.{StoredRow}
 use Rattle.kdb_cells.specs.Cells.{Cell, IsRowText}
 use Rattle.kdb_cells.specs.CellFiles.{CellFile, units, count}
-use Rattle.kdb_cells.specs.Changes.{cell_after}
+use Rattle.kdb_cells.specs.FileCells.{AreCellsOf}
+use Rattle.kdb_cells.specs.Sheets.{Sheet, taken}
+use Rattle.store_files.specs.Found.{unit_numbered, with_unit}
+use Rattle.kdb_disk.specs.Files.{Files, written}
+use Rattle.kdb_disk.specs.View.{View}
 use Rattle.kdb_cells.specs.Leads.{IsFree}
 use Rattle.kdb_store.specs.declared.writing.UnitWrite.{UnitWrite}
 use Rattle.kdb_store.specs.declared.writing.UnitWrite.TheVariants.{Nothing, Put, Free}
@@ -28,8 +32,8 @@ Writes (Free cell) c = c ≡ None
 -- the unit was given for it
 abbrev pub IsGivenTo : UnitWrite → CellFile → Type 0
 IsGivenTo Nothing c = Unit {0}
-IsGivenTo (Put cell key row kind) c = (units c).placed ≡ Some cell
-IsGivenTo (Free cell) c = (units c).placed ≡ Some cell
+IsGivenTo (Put cell key row kind) c = (1 ≤ cell) × ((units c).placed ≡ Some cell)
+IsGivenTo (Free cell) c = (1 ≤ cell) × ((units c).placed ≡ Some cell)
 
 -- A row may be put into the unit: its key leads to no other, and there is room for it.
 pub record MayPut (cell : ℕ) (key : List ℕ) (c : CellFile) : Type 0 where
@@ -48,3 +52,20 @@ HasNoRow (DropPrinc name) rows = All (λ q. q.name ≡ name → ⊥) rows.princs
 HasNoRow (Rename old p) rows = ⊥
 HasNoRow (PutPolicy p) rows = ⊥
 HasNoRow (DropPolicy name) rows = All (λ q. q.name ≡ name → ⊥) rows.policies
+
+-- ---- what was written
+
+-- Bytes were written at this place of the file, on the disk.
+pub record IsWritten (file at : ℕ) (old new : View) : Type 0 where
+  pub bytes : List ℕ
+  pub seen : new.seen ≡ written file at bytes old.seen
+  pub durable : (c : Files) → new.images c → c file ≡ new.seen file
+
+-- The index leads to these cells.
+pub record HoldsCells (c : CellFile) (cells : List Cell) : Type 0 where
+  pub leads : AreCellsOf (units c) cells
+  pub many : count c ≡ taken cells
+
+-- what a file of cells holds once the unit of this number has another cell, or none where it is 0
+abbrev pub changed_sheet : ℕ → Cell → Sheet → Sheet
+changed_sheet cell c sheet = record { realm = sheet.realm; cells = with_unit (unit_numbered cell) c sheet.cells }

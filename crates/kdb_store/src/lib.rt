@@ -3,6 +3,9 @@
 #![tactic(auto)]
 
 pub mod database;
+mod disk_changes;
+mod entry_writes;
+mod unit_writes;
 mod writing;
 
 pub use database::Database;
