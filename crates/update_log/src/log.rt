@@ -393,8 +393,9 @@ impl Log {
         }
     }
 
-    // Takes what is prepared as the newest entry, and lets go of the oldest where there are too many.
-    fn take_prepared(&mut self)
+    /// Takes what is prepared as the newest entry, and lets go of the oldest where there are too many. It
+    /// takes no memory.
+    pub fn take_prepared(&mut self)
         ensures { self.new ≡ log_committed self.old }
     {
         add_prepared(&mut self.held, &mut self.prepared);
@@ -414,7 +415,25 @@ impl Log {
         }
     }
 
-    /// Opens the gate of the entry that is prepared. It takes no memory.
+    /// Opens the gate of the entry that is prepared, on the disk. In memory it is prepared still, until
+    /// [`Log::take_prepared`]. It takes no memory.
+    ///
+    /// At each moment a crash leaves the old entries or the new ones, and all other files as before.
+    /// After `Ok` it leaves of the log's file what a read gives.
+    pub fn open_prepared<D: Disk>(&self, disk: &mut D) -> Result<(), DiskFailed>
+        requires ready { self.now.prepared ≢ None }
+        requires log { D.tells → HasPrepared self.now (D.view disk.old) }
+        ensures crash { IsCrashSafe D.Disk disk.old disk.new (LeavesEither self.now (log_committed self.now) (D.view disk.old)) }
+        ensures log { D.tells → OnOk result (HasLog (log_committed self.now) (D.view disk.new)) }
+        ensures durable { D.tells → OnOk result (IsDurable self.now.file (D.view disk.new)) }
+        ensures others { D.tells → OnOk result (ReadsOthers self.now.file (D.view disk.old) (D.view disk.new)) }
+        ensures call { IsCall D.Disk disk.old disk.new (IsErr result) }
+    {
+        let at = self.prepared_place();
+        open_gate(disk, self.in_file(), at)
+    }
+
+    /// Opens the gate of the entry that is prepared, and takes it as the newest. It takes no memory.
     ///
     /// At each moment a crash leaves the old entries or the new ones, and all other files as before.
     /// After `Ok` it leaves of the log's file what a read gives.
@@ -429,8 +448,7 @@ impl Log {
         ensures err { OnErr result (self.new ≡ self.old) }
         ensures call { IsCall D.Disk disk.old disk.new (IsErr result) }
     {
-        let at = self.prepared_place();
-        match open_gate(disk, self.in_file(), at) {
+        match self.open_prepared(disk) {
             Ok(()) => {
                 self.take_prepared();
                 Ok(())

@@ -1,0 +1,8 @@
+//! A database on a disk that may crash at any moment, over an update log and cells: each change is opened
+//! in the log, then written into its unit, and a crash leaves it done or not done.
+#![tactic(auto)]
+
+pub mod database;
+mod writing;
+
+pub use database::Database;
