@@ -1,16 +1,16 @@
 -- What a put and a taking out leave of the tie between an index and its file.
-use Rattle.std.proofs.Common.{◌≡◌, ◌≢◌, ℕ, suc, ◌+◌, ◌*◌, ◌/◌, ◌<◌, ◌≤◌, ◌⊎◌, inl, inr, ⊎_elim, max, Bool, true, false, cond, List, length, Option, Some, None, refl, sym, ◌∙◌, ap, subst, arith}
-use Rattle.std.specs.Prelude.{nat_eq, Ok, Result}
+use Rattle.std.proofs.Common.{◌≡◌, ◌≢◌, ℕ, ◌+◌, ◌*◌, ◌<◌, ◌≤◌, ◌⊎◌, inl, inr, ⊎_elim, Bool, true, false, cond, List, length, Option, Some, None, refl, sym, ◌∙◌, ap, subst, arith}
+use Rattle.std.specs.Prelude.{nat_eq}
 use Rattle.std.specs.Str.{bytes_eq}
-use Rattle.std.proofs.lemmas.Bool.{cases_eq, cases_Bool, cond-true, cond-false, false_from_ne_true, true≢false, ne_eqb, eqb-false, le-ltb}
+use Rattle.std.proofs.lemmas.Bool.{cases_eq, cond-true, cond-false, false_from_ne_true, eqb-false, le-ltb}
 use Rattle.std.proofs.lemmas.Option.{same_Some}
 use Rattle.kdb_base.specs.Limits.{most_rows}
 use Rattle.kdb_disk.specs.Files.{put}
 use Rattle.princ_entries.specs.EntryLaws.{same_bytes, bytes_same}
 use Rattle.kdb_cells.specs.declared.units.StoredRow.{StoredRow}
 use Rattle.kdb_cells.specs.declared.units.StoredRow.TheVariants.{Princ, Policy}
-use Rattle.kdb_cells.specs.Cells.{Cell, unit_size, unit_text, IsCell, IsStored, name_of}
-use Rattle.kdb_cells.specs.Sheets.{count_of, same_key, clash, taken_by, taken, last_unit, is_too_far, Sheet, sheet_in, set_cell, put_cell}
+use Rattle.kdb_cells.specs.Cells.{Cell, unit_size, unit_text, IsStored, name_of}
+use Rattle.kdb_cells.specs.Sheets.{count_of, same_key, clash, taken_by, taken, last_unit, Sheet, sheet_in, set_cell, put_cell}
 use Rattle.kdb_cells.specs.Changes.{cell_no}
 use Rattle.kdb_cells.specs.Leads.{Units, IsFree, unless, freed, leading}
 use Rattle.kdb_cells.specs.CellFiles.{CellFile, units, count}

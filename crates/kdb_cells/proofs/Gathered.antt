@@ -1,9 +1,9 @@
 -- What is gathered of the units of a file, unit by unit.
-use Rattle.std.proofs.Common.{◌≡◌, ◌≢◌, ℕ, zero, suc, ◌+◌, ◌*◌, ◌<◌, ◌≤◌, ◌⊎◌, inl, inr, ⊎_elim, max, Bool, true, false, ◌||◌, cond, ltb, eqb, List, [], ◌∷◌, ◌++◌, length, take, drop, Option, Some, None, refl, sym, ◌∙◌, ap, subst, arith, append_assoc}
+use Rattle.std.proofs.Common.{◌≡◌, ◌≢◌, ℕ, zero, suc, ◌+◌, ◌*◌, ◌<◌, ◌≤◌, ◌⊎◌, inl, inr, ⊎_elim, Bool, true, false, ◌||◌, cond, ltb, eqb, List, [], ◌∷◌, ◌++◌, length, take, drop, Option, Some, None, refl, sym, ◌∙◌, ap, subst, arith, append_assoc}
 use Rattle.std.specs.Prelude.{Result, Ok, Err, OnOk}
 use Rattle.kdb_format.specs.Readings.{padded, bytes_at}
 use Rattle.std.specs.Str.{bytes_eq}
-use Rattle.std.proofs.lemmas.Bool.{cases_eq, cases_lt, cond-true, cond-false, false_from_ne_true, true≢false, lt-ltb, le-ltb, ltb-true, ltb-false, eqb-false, ne_eqb, eq-eqb}
+use Rattle.std.proofs.lemmas.Bool.{cases_eq, cases_lt, cond-true, cond-false, false_from_ne_true, true≢false, lt-ltb, le-ltb, eqb-false, ne_eqb, eq-eqb}
 use Rattle.std.proofs.lemmas.List.{append-nil, drop-drop}
 use Rattle.std.proofs.lemmas.Option.{same_Some}
 use Rattle.kdb_base.specs.Limits.{most_rows}
@@ -19,9 +19,9 @@ use Rattle.kdb_cells.specs.Cells.{Cell, unit_size, unit_at, cell_of, IsCell, IsS
 use Rattle.kdb_cells.specs.Changes.{cell_no}
 use Rattle.kdb_cells.specs.FileCells.{HasKey, AreCellsOf}
 use Rattle.kdb_cells.specs.Keys.{one_kind}
-use Rattle.kdb_cells.specs.Leads.{Units, more_led, more_free, more_given, no_units}
+use Rattle.kdb_cells.specs.Leads.{Units, more_led, no_units}
 use Rattle.kdb_cells.specs.Scanning.{princ_in, policy_in, princs_of, policies_of, is_torn, placed_at, cell_next, skipping, MaySkip, AreCellsIn, IsDamaged, UnitAnswers, IsMore, AreGathered, IsGathered, IsRefused}
-use Rattle.kdb_cells.specs.Sheets.{unit_bytes, realm_in, count_of, cell_in, cell_or_free, clash, clashes, taken_by, taken, last_unit, is_too_far, is_fault, same_key, set_cell}
+use Rattle.kdb_cells.specs.Sheets.{unit_bytes, realm_in, count_of, cell_in, cell_or_free, clash, clashes, taken_by, taken, last_unit, is_too_far, is_fault, set_cell}
 use Rattle.kdb_cells.proofs.Cellwise.{same_key_name}
 use Rattle.kdb_cells.proofs.Sheeting.{before, skip_here, skip_other, sheet_fault, no_cell_past, set_here, set_other, length-set, taken_set, IsSheet, taken_to, clash_none}
 
@@ -170,7 +170,7 @@ read_more format file c cells read here i lt = ⊎_elim
     (λ other. read i (omega (arith, lt, length-more c cells, other)) ∙ ap Some (sym (others_here c cells i other)))
     (cases_eq i (length cells))
 
-clash_free : (u : Units) (cells : List Cell) (i j : ℕ) (c d : Cell) → AreCellsOf u cells → i < j → cell_no j cells ≡ c → cell_no i cells ≡ d → clash c d ≡ false
+pub clash_free : (u : Units) (cells : List Cell) (i j : ℕ) (c d : Cell) → AreCellsOf u cells → i < j → cell_no j cells ≡ c → cell_no i cells ≡ d → clash c d ≡ false
 clash_free u cells i j None d are lt a b = refl
 clash_free u cells i j (Some r) None are lt a b = refl
 clash_free u cells i j (Some r) (Some s) are lt a b = false_from_ne_true _ (λ e.

@@ -1,32 +1,32 @@
 -- The steps of an index: a unit is taken from the free ones and given back, and a key is put and taken out.
-use Rattle.std.proofs.Common.{◌≡◌, ◌≢◌, ℕ, zero, suc, ◌+◌, ◌<◌, ◌≤◌, min, max, Bool, true, false, cond, ◌&&◌, ltb, leb, eqb, Vec, List, [], ◌∷◌, ◌++◌, length, get_or, slice_get, Option, Some, None, Result, Ok, Err, refl, sym, ap, subst, ◌∙◌, arith, inl, inr, length-append}
+use Rattle.std.proofs.Common.{◌≡◌, ◌≢◌, ℕ, zero, suc, ◌+◌, ◌<◌, ◌≤◌, max, Bool, true, false, cond, ◌&&◌, ltb, leb, eqb, Vec, List, [], ◌∷◌, ◌++◌, length, get_or, slice_get, Option, Some, None, Result, Ok, Err, refl, sym, ap, subst, ◌∙◌, arith, inl, inr, length-append}
 use Rattle.std.specs.Prelude.{IfSome, IsOk, OnOk, is_some}
 use Rattle.std.specs.declared.alloc.Global.{Global}
 use Rattle.indexmap.specs.IndexMap.{IndexMap, Updates}
 use Rattle.std.specs.declared.cmp.Ordering.{Ordering}
 use Rattle.std.specs.declared.cmp.Reverse.{Reverse}
 use Rattle.std.specs.BinaryHeap.{IsHeap, IsUpperBound}
-use Rattle.std.specs.List.{IsDistinct, AllByRecursion, swap_remove, sum_by}
+use Rattle.std.specs.List.{IsDistinct, swap_remove, sum_by}
 use Rattle.std.specs.List.Sorted.{IsPermutation}
 use Rattle.std.specs.Str.{bytes_eq}
 use mathlib.Core.Path.{fun_ext}
-use Rattle.std.specs.Map.{keys_of, lookup, KeepsOthers}
-use Rattle.std.specs.Ordering.{nat_cmp, is_lt}
+use Rattle.std.specs.Map.{keys_of, lookup}
+use Rattle.std.specs.Ordering.{nat_cmp}
 use Rattle.std.proofs.lemmas.Bool.{and_parts, cases_lt, eqb-true, eq-eqb, ltb-true, lt-ltb, leb-true, le-leb}
-use Rattle.std.proofs.lemmas.List.Sorted.{sum_by_pushed, sum_by_popped, sum_by-IsPermutation, length_permutation, IsPermutation-swap_remove}
-use Rattle.std.proofs.lemmas.List.Sums.{sum_by-append, sum_by-cons}
+use Rattle.std.proofs.lemmas.List.Sorted.{sum_by_popped, sum_by-IsPermutation, length_permutation, IsPermutation-swap_remove}
+use Rattle.std.proofs.lemmas.List.Sums.{sum_by-cons}
 use Rattle.std.proofs.lemmas.List.{get_or_append_left}
 use Rattle.std.proofs.lemmas.Map.Entries.{lookup_from_place}
 use Rattle.std.proofs.lemmas.Map.Keys.{ge_from_not_lt}
-use Rattle.std.proofs.lemmas.Option.{slice_get-get_or, get_or_from_slice_get}
+use Rattle.std.proofs.lemmas.Option.{get_or_from_slice_get}
 use Rattle.kdb_base.specs.Limits.{most_rows}
 use Rattle.kdb_cells.specs.Sheets.{last_unit}
-use Rattle.kdb_cells.specs.Leads.{IsFree, IsLeastFree, Units, no_units, unless, freed, leading, more_led}
+use Rattle.kdb_cells.specs.Leads.{IsLeastFree, Units, unless, freed, leading, more_led}
 use Rattle.kdb_cells.specs.Indexes.{Entries, Heap, Index, unit_of, unit_given, units, one_at, led, waiting, given, in_file, IsAtSpot, IsGiven, IsIndex}
 use Rattle.kdb_cells.specs.declared.index.Placed.{Placed}
 use Rattle.kdb_cells.specs.declared.index.Spot.{Spot}
 use Rattle.kdb_cells.specs.declared.index.Spot.TheVariants.{Led, Taken, Next}
-use Rattle.kdb_cells.proofs.Entries.{key_eq, key_equiv, one_same, led-cons, place_led, led_place, led_free, free_led, led_more, removed, unless_other}
+use Rattle.kdb_cells.proofs.Entries.{key_eq, key_equiv, one_same, place_led, led_place, led_free, free_led, led_more, removed, unless_other}
 
 abbrev by_falling : Reverse ℕ → Reverse ℕ → Ordering
 by_falling x y = nat_cmp y.0 x.0

@@ -8,3 +8,4 @@ pub mod Gathered
 pub mod Wholly
 pub mod Entries
 pub mod Indexing
+pub mod Apart

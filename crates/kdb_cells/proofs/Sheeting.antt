@@ -1,15 +1,12 @@
 -- What a file of cells holds, unit by unit, and what another cell in one of its units makes of it.
-use Rattle.std.proofs.Common.{◌≡◌, ◌≢◌, ℕ, zero, suc, ◌+◌, ◌-◌, ◌*◌, ◌<◌, ◌≤◌, ◌⊎◌, inl, inr, ⊎_elim, max, Bool, true, false, ◌||◌, cond, ltb, List, [], ◌∷◌, ◌++◌, length, Option, Some, None, refl, sym, ◌∙◌, ap, subst, arith}
+use Rattle.std.proofs.Common.{◌≡◌, ◌≢◌, ℕ, zero, suc, ◌+◌, ◌-◌, ◌*◌, ◌<◌, ◌≤◌, ⊎_elim, max, Bool, true, false, ◌||◌, cond, ltb, List, [], ◌∷◌, length, Option, Some, None, refl, sym, ◌∙◌, ap, subst, arith}
 use Rattle.std.specs.Prelude.{Result, Ok, Err}
-use Rattle.std.specs.Str.{bytes_eq}
-use Rattle.std.proofs.lemmas.Bool.{cases_eq, cases_lt, or_cases, cond-true, cond-false, false_from_ne_true, true≢false, ltb-true, lt-ltb, le-ltb, ltb-false}
-use Rattle.std.proofs.lemmas.Option.{same_Some}
+use Rattle.std.proofs.lemmas.Bool.{cases_eq, cases_lt, cond-true, cond-false, false_from_ne_true, true≢false, le-ltb, ltb-false}
 use Rattle.kdb_base.specs.Limits.{most_rows}
 use Rattle.princ_entries.specs.EntryLaws.{same_bytes, bytes_same}
-use Rattle.kdb_cells.specs.declared.units.StoredRow.{StoredRow}
 use Rattle.kdb_cells.specs.declared.units.StoredRow.TheVariants.{Princ, Policy}
-use Rattle.kdb_cells.specs.Cells.{Cell, unit_size, unit_text, IsCell, name_of}
-use Rattle.kdb_cells.specs.Sheets.{realm_in, cell_in, cell_or_free, cells_from, cells_of, count_of, same_key, clash, clashes, taken_by, taken, last_unit, is_too_far, is_fault, fault_from, Sheet, sheet_with, sheet_in, set_cell, put_cell}
+use Rattle.kdb_cells.specs.Cells.{Cell, unit_size, unit_text}
+use Rattle.kdb_cells.specs.Sheets.{realm_in, cell_in, cell_or_free, cells_from, cells_of, count_of, clash, clashes, taken_by, taken, is_too_far, is_fault, fault_from, Sheet, sheet_with, sheet_in, set_cell, put_cell}
 use Rattle.kdb_cells.specs.Changes.{cell_no}
 use Rattle.kdb_cells.specs.FileCells.{MayStand}
 use Rattle.kdb_cells.proofs.UnitTexts.{length-unit}

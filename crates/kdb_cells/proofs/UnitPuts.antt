@@ -6,7 +6,6 @@ use Rattle.std.proofs.lemmas.Bool.{cases_lt, cond-false, ne_eqb}
 use Rattle.std.proofs.lemmas.List.{drop-take}
 use Rattle.kdb_disk.specs.Files.{put}
 use Rattle.kdb_disk.proofs.Puts.{length-put, take-put, drop-put_behind, between-put}
-use Rattle.kdb_format.specs.Spellings.{zeros}
 use Rattle.kdb_format.specs.Readings.{padded}
 use Rattle.kdb_cells.specs.Cells.{Cell, IsCell, unit_size, unit_text, cell_of, front_of}
 use Rattle.kdb_cells.specs.Sheets.{unit_bytes, heading_at, realm_in, cell_in, count_of, put_cell}

@@ -3,7 +3,7 @@ use Rattle.std.proofs.Common.{◌≡◌, ℕ, zero, suc, ◌+◌, ◌-◌, ◌<�
 use Rattle.std.specs.Prelude.{IfOk, option_and_then}
 use Rattle.std.specs.List.{list_all}
 use Rattle.std.proofs.lemmas.Bool.{le-ltb}
-use Rattle.std.proofs.lemmas.List.{append-nil, drop-replicate, take_all, drop_all, drop-drop, nil_from_length}
+use Rattle.std.proofs.lemmas.List.{append-nil, drop-replicate, take_all, drop_all, nil_from_length}
 use Rattle.std.proofs.lemmas.Option.{same_Some}
 use Rattle.kdb_format.specs.declared.faults.FormatFault.{FormatFault}
 use Rattle.kdb_format.specs.declared.faults.FormatFault.TheVariants as faults

@@ -1,5 +1,5 @@
 -- A whole file of cells that was read.
-use Rattle.std.proofs.Common.{◌≡◌, ◌≢◌, ℕ, ◌+◌, ◌*◌, ◌/◌, ◌<◌, ◌≤◌, ⊎_elim, max, Bool, true, false, cond, eqb, ltb, List, length, take, drop, Option, Some, None, refl, sym, ◌∙◌, ap, subst, arith, length-take}
+use Rattle.std.proofs.Common.{◌≡◌, ℕ, ◌+◌, ◌*◌, ◌<◌, ◌≤◌, ⊎_elim, max, eqb, ltb, List, length, take, drop, Option, Some, None, refl, sym, ◌∙◌, ap, subst, arith, length-take}
 use Rattle.std.proofs.lemmas.Bool.{cases_eq, cases_lt, cond-true, cond-false, eq-eqb, ne_eqb, lt-ltb}
 use Rattle.policy_rules.specs.Rules.{Rules}
 use Rattle.princ_record.specs.declared.princs.Princ.{Princ as Principal}
@@ -7,7 +7,7 @@ use Rattle.kdb_base.specs.declared.outcomes.Refusal.{Refusal}
 use Rattle.kdb_base.specs.declared.outcomes.Refusal.TheVariants.{Damaged}
 use Rattle.kdb_cells.specs.Cells.{unit_size}
 use Rattle.kdb_cells.specs.CellFiles.{CellFile, units, count}
-use Rattle.kdb_cells.specs.Scanning.{heading_of, skipping, is_torn, placed_at, end_of, MaySkip, IsDamaged, AreGathered, IsScanned}
+use Rattle.kdb_cells.specs.Scanning.{heading_of, skipping, placed_at, end_of, MaySkip, IsDamaged, AreGathered, IsScanned}
 use Rattle.kdb_cells.specs.Sheets.{unit_bytes, realm_in, count_of}
 use Rattle.kdb_cells.proofs.Gathered.{gathered_sheet}
 use Rattle.kdb_cells.proofs.Headed.{short_heading, realm_heading}

@@ -1,16 +1,16 @@
 -- What is read as a cell or a unit is spelled so, and the other way round.
-use Rattle.std.proofs.Common.{◌≡◌, ℕ, ◌+◌, ◌-◌, ◌^◌, ◌<◌, ◌≤◌, Bool, true, false, cond, List, [], ◌++◌, length, Option, Some, None, refl, sym, ap, ◌∙◌, arith, length-append}
+use Rattle.std.proofs.Common.{◌≡◌, ℕ, ◌+◌, ◌^◌, ◌<◌, ◌≤◌, Bool, true, false, cond, [], length, Some, None, refl, sym, ap, ◌∙◌, arith, length-append}
 use Rattle.std.specs.Prelude.{nat_eq}
 use Rattle.std.proofs.lemmas.Bool.{eqb-true, eq-eqb}
 use Rattle.kdb_base.specs.Limits.{longest_row, longest_row_1}
-use Rattle.kdb_format.specs.Readings.{Reading, done}
-use Rattle.kdb_format.specs.Spellings.{big, counted, zeros}
+use Rattle.kdb_format.specs.Readings.{Reading}
+use Rattle.kdb_format.specs.Spellings.{big, counted}
 use Rattle.kdb_format.specs.Fields.{IsField}
 use Rattle.kdb_format.specs.Lengths.{length-counted}
 use Rattle.kdb_format.specs.Numbers.{length-big}
 use Rattle.kdb_format.specs.Laws.{same_field, first_field, made_field, done_field, big_field, checked_field, choice_field, refuse_field, padded_field}
 use Rattle.policy_rules.specs.Rules.{Rules}
-use Rattle.princ_record.specs.RowLimits.{IsRow, IsRow1, is_row_1}
+use Rattle.princ_record.specs.RowLimits.{IsRow, is_row_1}
 use Rattle.princ_record.specs.RowLaws.{row_1_from, row_1_test, row_field, policy_row_field}
 use Rattle.princ_record.specs.PolicyLaws.{policy_short}
 use Rattle.princ_record.specs.Policies.{policy, IsPolicy}

@@ -1,5 +1,5 @@
 -- The rows that cells hold, and what a change does to one cell.
-use Rattle.std.specs.Prelude.{ℕ, zero, suc, List, [], ◌∷◌, Option, Some, None}
+use Rattle.std.specs.Prelude.{ℕ, zero, suc, List, [], ◌∷◌, Some, None}
 use Rattle.princ_rows.specs.Rows.{RowLists}
 use Rattle.princ_rows.specs.Effects.{put_princ, drop_princ, put_policy, drop_policy}
 use Rattle.princ_entries.specs.declared.entries.Op.{Op}

@@ -1,5 +1,5 @@
 -- What ties the index of a file of cells to the bytes of the file.
-use Rattle.std.specs.Prelude.{◌≡◌, ◌≢◌, ◌≤◌, ◌+◌, ℕ, false, List, length, Option, Some, None, Ok}
+use Rattle.std.specs.Prelude.{◌≡◌, ◌≢◌, ◌≤◌, ◌+◌, ℕ, false, List, length, Some, None, Ok}
 use Rattle.kdb_base.specs.Limits.{most_rows}
 use Rattle.kdb_cells.specs.declared.units.StoredRow.{StoredRow}
 use Rattle.kdb_cells.specs.Cells.{Cell, name_of, IsCell}

@@ -1,5 +1,7 @@
 -- What a scan of a file of cells reads, and what it answers.
-use Rattle.std.specs.Prelude.{Bool, true, false, nat_eq, nat_lt, if◌then◌else◌, ℕ, ◌≡◌, ◌≢◌, ◌≤◌, ◌<◌, ◌+◌, ◌*◌, ◌⊎◌, List, [], ◌∷◌, ◌++◌, length, Option, Some, None, Result, Ok, Err}
+use Rattle.std.specs.Prelude.{Bool, false, nat_eq, nat_lt, if◌then◌else◌, ℕ, ◌≡◌, ◌≢◌, ◌≤◌, ◌<◌, ◌+◌, ◌*◌, ◌⊎◌, List, [], ◌∷◌, ◌++◌, length, Option, Some, None, Result, Ok, Err}
+use Rattle.std.specs.List.{All, IsDistinct}
+use Rattle.std.specs.Str.{bytes_eq}
 use Rattle.kdb_base.specs.Limits.{most_rows}
 use Rattle.kdb_base.specs.declared.outcomes.Refusal.{Refusal}
 use Rattle.kdb_base.specs.declared.outcomes.Refusal.TheVariants.{Damaged}
@@ -7,10 +9,13 @@ use Rattle.kdb_base.specs.declared.outcomes.Stop.{Stop}
 use Rattle.kdb_base.specs.declared.outcomes.Stop.TheVariants.{Refused, Halt}
 use Rattle.kdb_format.specs.Readings.{padded}
 use Rattle.policy_rules.specs.Rules.{Rules}
+use Rattle.princ_record.specs.Policies.{IsPolicy}
+use Rattle.princ_record.specs.RowLimits.{IsRow}
 use Rattle.princ_record.specs.declared.princs.Princ.{Princ as Principal}
+use Rattle.princ_rows.specs.Rows.{princ_keys, policy_keys}
 use Rattle.kdb_cells.specs.declared.units.StoredRow.{StoredRow}
 use Rattle.kdb_cells.specs.declared.units.StoredRow.TheVariants.{Princ, Policy}
-use Rattle.kdb_cells.specs.Cells.{Cell, IsCell, name_of, unit_size, cell_of, front_of}
+use Rattle.kdb_cells.specs.Cells.{Cell, IsCell, unit_size, cell_of, front_of}
 use Rattle.kdb_cells.specs.Changes.{cell_no}
 use Rattle.kdb_cells.specs.CellFiles.{CellFile}
 use Rattle.kdb_cells.specs.FileCells.{AreCellsOf, IsFileOf}
@@ -57,6 +62,14 @@ pub record IsGathered (format : ℕ) (u : Units) (count : ℕ) (princs : List Pr
   pub near : (i : ℕ) (r : StoredRow) → cell_no i cells ≡ Some r → i ≤ last_unit
   pub princs_are : princs ≡ princs_of cells
   pub policies_are : policies ≡ policies_of cells
+
+-- Rows in any order: each has a spelling, no two of one kind have one key, and there are no more than there may be.
+pub record AreApart (princs : List Principal) (policies : List Rules) : Type 0 where
+  pub each_princ : All IsRow princs
+  pub each_policy : All IsPolicy policies
+  pub princ_once : IsDistinct bytes_eq (princ_keys princs)
+  pub policy_once : IsDistinct bytes_eq (policy_keys policies)
+  pub few : length princs + length policies ≤ most_rows
 
 -- the row is refused: it stands too far, is one too many, or has the key of another
 abbrev pub IsRefused : Units → ℕ → List ℕ → Type 0

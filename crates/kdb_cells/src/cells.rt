@@ -1,6 +1,6 @@
 //! A file of cells on a disk: a row is put into a unit or taken out of it by one write, so that a
 //! crash leaves one unit torn and no other.
-ghost use Rattle.std.specs.Prelude.{◌≡◌, ◌≤◌, ◌<◌, ◌+◌, ◌*◌, ◌^◌, ℕ, true, List, Some, None, length, IfOk, OnOk, OnErr, IsErr};
+ghost use Rattle.std.specs.Prelude.{◌≡◌, ◌≢◌, ◌≤◌, ◌<◌, ◌+◌, ◌*◌, ◌^◌, ℕ, true, false, List, Some, None, length, IfOk, OnOk, OnErr, IsErr};
 ghost use Rattle.kdb_base.specs.Limits.{most_rows};
 ghost use Rattle.kdb_disk.specs.View.{View};
 ghost use Rattle.kdb_disk.specs.Frames.{IsCall};
@@ -106,8 +106,8 @@ impl Cells {
         })
     }
 
-    // The cells of a file whose units were gathered.
-    pub(crate) fn with_index(
+    /// The cells of a file that has these units. `file` is 1 or 2.
+    pub fn with_index(
         alloc: Global,
         file: u8,
         format: u16,
@@ -144,6 +144,14 @@ impl Cells {
         ensures { result ≡ count self.now }
     {
         self.index.len()
+    }
+
+    /// Whether the key leads to a unit.
+    pub fn holds(&self, key: &[u8]) -> bool
+        ensures led { result ≡ true → (units self.now).of key.now ≢ None }
+        ensures not_led { result ≡ false → (units self.now).of key.now ≡ None }
+    {
+        self.index.holds(key)
     }
 
     /// Gives a unit for the [`Cells::put`] or [`Cells::take_out`] that comes next: the key's own, or

@@ -1,16 +1,18 @@
 //! The first unit of a file of cells, which names the realm.
-ghost use Rattle.std.specs.Prelude.{◌≡◌, ◌≤◌, true, length};
+ghost use Rattle.std.specs.Prelude.{◌≡◌, ◌≤◌, ◌++◌, true, length, OnOk};
 ghost use Rattle.kdb_format.specs.Answers.{Finds, Gives, ReadsAs};
 ghost use Rattle.kdb_format.specs.Readings.{literal_at, checked, counted_at};
 ghost use Rattle.princ_name.specs.Realms.{is_realm as is_realm_text};
 ghost use Rattle.kdb_cells.specs.CellFiles.{is_format};
 ghost use Rattle.kdb_cells.specs.Cells.{unit_size as size_of_unit};
-ghost use Rattle.kdb_cells.specs.Sheets.{magic, heading_at};
+ghost use Rattle.kdb_cells.specs.Sheets.{magic, heading_at, heading};
 ghost use Rattle.kdb_cells.specs.Scanning.{heading_of};
 
 use crate::cells::unit_size;
-use kdb_format::moments::read_point;
+use kdb_base::{MemoryOut, Point};
+use kdb_format::moments::{push_point, read_point};
 use kdb_format::reader::is_zero;
+use kdb_format::writing::{push_bytes, push_counted};
 use kdb_format::{FormatFault, Malformed, Reader};
 use princ_name::{Realm, is_realm};
 use std::alloc::Global;
@@ -43,6 +45,49 @@ fn read_magic(format: u16, reader: &mut Reader) -> Result<(), Malformed>
     } else {
         read_magic_2(reader)
     }
+}
+
+#[tactic(auto, unfolding(crate::specs::Sheets::magic, kdb_format::specs::Spellings::big))]
+fn push_magic_1(out: &mut Vec<u8>) -> Result<(), MemoryOut>
+    ensures { OnOk result (out.new.items ≡ out.old.items ++ magic 1) }
+{
+    push_bytes(out, &MAGIC_1)
+}
+
+#[tactic(auto, unfolding(crate::specs::Sheets::magic, kdb_format::specs::Spellings::big))]
+fn push_magic_2(out: &mut Vec<u8>) -> Result<(), MemoryOut>
+    ensures { OnOk result (out.new.items ≡ out.old.items ++ magic 2) }
+{
+    push_bytes(out, &MAGIC_2)
+}
+
+fn push_magic(format: u16, out: &mut Vec<u8>) -> Result<(), MemoryOut>
+    requires { is_format format ≡ true }
+    ensures { OnOk result (out.new.items ≡ out.old.items ++ magic format) }
+{
+    if format == 1 {
+        push_magic_1(out)
+    } else {
+        push_magic_2(out)
+    }
+}
+
+/// Adds what the first unit of a file of this format has before its zeros: the realm, and the point at
+/// which the file is made. Only want of memory can refuse it.
+#[tactic(auto, unfolding(crate::specs::Sheets::heading), using(princ_name::specs::Realms::realm_length))]
+pub fn push_heading(
+    out: &mut Vec<u8>,
+    format: u16,
+    realm: &Realm,
+    made: &Point,
+) -> Result<(), MemoryOut>
+    requires { is_format format ≡ true }
+    ensures { OnOk result (out.new.items ≡ out.old.items ++ heading format realm.now made.now) }
+{
+    push_magic(format, out)?;
+    push_counted(out, realm.as_slice())?;
+    push_point(out, *made)?;
+    Ok(())
 }
 
 // A realm with its length in two bytes.

@@ -252,7 +252,8 @@ fn extend_free(
 impl UnitIndex {
     /// No keys, and the file's first unit, in which no row stands.
     pub fn new(alloc: Global) -> UnitIndex
-        ensures { units result ≡ no_units }
+        ensures units { units result ≡ no_units }
+        ensures count { count result ≡ 0 }
     {
         UnitIndex {
             entries: IndexMap::new(alloc),

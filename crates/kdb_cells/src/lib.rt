@@ -12,6 +12,7 @@ pub mod units;
 
 pub use cells::{Cells, unit_size};
 pub use files::{Scanned, scan};
+pub use headings::push_heading;
 pub use index::UnitIndex;
 pub use units::{StoredRow, clear_unit, fill_unit, read_unit};
 

@@ -1,5 +1,5 @@
 -- What a crash may leave of a log file while it is made or changed.
-use Rattle.std.specs.Prelude.{ℕ, ◌+◌, ◌*◌, ◌<◌, ◌≡◌, ◌≢◌, ◌⊎◌, List, ◌∷◌, length, slice_index, Some}
+use Rattle.std.specs.Prelude.{ℕ, ◌+◌, ◌*◌, ◌<◌, ◌≤◌, ◌≡◌, ◌≢◌, ◌⊎◌, List, [], ◌∷◌, length, slice_index, Some}
 use Rattle.kdb_disk.specs.Files.{Files}
 use Rattle.kdb_disk.specs.View.{View}
 use Rattle.kdb_base.specs.declared.moments.Point.{Point}
@@ -86,3 +86,13 @@ pub record IsMarker (base : Point) (size block : ℕ) (marker : Logged) (body : 
   pub long : length body + 1 ≡ block
   pub is : marker ≡ marker_of base
   pub spelled : Spells block (0 ∷ body) marker
+
+-- What is kept of a log that is to be made: numbers in their ranges, the base marker alone, and the body that spells it.
+pub record IsMaking (file : ℕ) (base : Point) (size block : ℕ) (body : List ℕ) (held : List Logged) (len : ℕ) : Type 0 where
+  pub in_file : (3 ≤ file) × (file ≤ 4)
+  pub some_size : (2 ≤ size) × (size ≤ 10000)
+  pub some_block : (2048 ≤ block) × (block ≤ 16384)
+  pub long : length body + 1 ≡ block
+  pub spelled : Spells block (0 ∷ body) (marker_of base)
+  pub alone : held ≡ marker_of base ∷ []
+  pub many : len ≡ 1

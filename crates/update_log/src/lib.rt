@@ -5,6 +5,7 @@
 mod bodies;
 pub mod laws;
 pub mod log;
+pub mod making;
 mod reading;
 mod running;
 mod scanning;
@@ -12,6 +13,7 @@ mod slots;
 mod writes;
 
 pub use log::Log;
+pub use making::NewLog;
 
 #[cfg(test)]
 mod tests;

@@ -75,7 +75,7 @@ fn holds_marker(marker: &Logged, base: &Point, block: u32)
 }
 
 // What is written for the base marker.
-fn marker_body(alloc: Global, base: &Point, block: u32) -> Result<Vec<u8>, MemoryOut>
+pub(crate) fn marker_body(alloc: Global, base: &Point, block: u32) -> Result<Vec<u8>, MemoryOut>
     requires block { (2048 ≤ block) × (block ≤ 16384) }
     ensures long { IfOk result (λ body. length body.items + 1 ≡ block) }
     ensures range { IfOk result (λ body. (1 ≤ length body.items) × (length body.items < 2 ^ 32)) }
@@ -87,7 +87,7 @@ fn marker_body(alloc: Global, base: &Point, block: u32) -> Result<Vec<u8>, Memor
 }
 
 // The base marker alone, with room for the entry that comes next, where one is to come.
-fn queue_of(alloc: Global, base: &Point, with_next: bool) -> Result<VecDeque<Logged>, MemoryOut>
+pub(crate) fn queue_of(alloc: Global, base: &Point, with_next: bool) -> Result<VecDeque<Logged>, MemoryOut>
     ensures items { IfOk result (λ held. held.items ≡ marker_of base.now ∷ []) }
     ensures len { IfOk result (λ held. deque_len held ≡ 1) }
     ensures room { IfOk result (λ held. IsTrue with_next → 2 ≤ deque_capacity held) }
@@ -116,7 +116,7 @@ fn log_under(control: &Control, held: VecDeque<Logged>) -> Log
 }
 
 // The log of the base marker alone.
-fn log_of(file: u8, base: Point, size: u32, block: u32, held: VecDeque<Logged>) -> Log
+pub(crate) fn log_of(file: u8, base: Point, size: u32, block: u32, held: VecDeque<Logged>) -> Log
     requires file { (3 ≤ file) × (file ≤ 4) }
     requires size { (2 ≤ size) × (size ≤ 10000) }
     requires block { (2048 ≤ block) × (block ≤ 16384) }

@@ -1,6 +1,4 @@
-use Rattle.std.proofs.Common.{◌≡◌, ℕ, ◌≤◌, ◌/◌, ◌∙◌, Some, None, List, max, length, take, ap, sym, subst, arith}
-use Rattle.std.specs.Prelude.{Err}
-use Rattle.kdb_base.specs.declared.outcomes.Stop.TheVariants.{Refused}
+use Rattle.std.proofs.Common.{◌≡◌, ℕ, ◌≤◌, ◌/◌, ◌∙◌, Some, List, max, take, ap, sym, subst, arith}
 use Rattle.kdb_disk.specs.Files.{Files}
 use Rattle.kdb_disk.proofs.Runs.{kept, keeps_on, keeps_then}
 use Rattle.kdb_disk.specs.Reader.{left_of}
@@ -9,6 +7,7 @@ use Rattle.kdb_cells.specs.CellFiles.{CellFile}
 use Rattle.kdb_cells.specs.Indexes.{units, count}
 use Rattle.kdb_cells.specs.Scanning.{heading_of, end_of, skipping, IsDamaged, IsScanned, AreGathered}
 use Rattle.kdb_cells.specs.Sheets.{realm_in, count_of}
+use Rattle.kdb_cells.proofs.Apart.{gathered_apart}
 use Rattle.kdb_cells.proofs.Wholly.{wholly, unnamed_damaged, named_skipping, realm_first, named_count, scan_end}
 use Rattle.kdb_cells.proofs.files.scan.Goals as goal
 
@@ -67,3 +66,9 @@ returns-in-Ok-with_index-clause-keeps g c = λ tells.
 pub returns-clause-keeps : goal.returns-clause-keeps
 returns-clause-keeps g c = λ tells.
     keeps_then (keeps_then (keeps_on (keeps_on (kept (g.D.Disk.view c.args.disk.now)) (c.length.ensures.looks tells)) (c.open.ensures.looks tells)) (c.read_realm.ensures.keeps tells)) (c.gather.ensures.keeps tells)
+
+pub returns-in-Ok-with_index-clause-apart : goal.returns-in-Ok-with_index-clause-apart
+returns-in-Ok-with_index-clause-apart g c =
+    let all = c.in-Ok-gather.gathered in
+    let from = c.in-Ok-gather.ensures.gathered in
+    gathered_apart c.args.format (units all.index) (count all.index) all.princs.items all.policies.items from.cells from.gathered

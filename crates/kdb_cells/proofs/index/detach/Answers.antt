@@ -1,9 +1,8 @@
-use Rattle.std.proofs.Common.{heap_items, refl, sym, Some, arith, ap, subst}
+use Rattle.std.proofs.Common.{heap_items, Some, arith, subst}
 use Rattle.kdb_cells.specs.Indexes.{IsIndex}
 use Rattle.kdb_cells.specs.declared.index.Spot.{Spot}
-use Rattle.kdb_cells.specs.declared.index.Spot.TheVariants.{Led, Taken, Next}
 use Rattle.kdb_cells.proofs.Entries.{led_free, free_led}
-use Rattle.kdb_cells.proofs.Indexing.{key_out, of_taken, past_end, joined, taken_parts}
+use Rattle.kdb_cells.proofs.Indexing.{key_out, of_taken, past_end, taken_parts}
 use Rattle.kdb_cells.proofs.index.detach.Goals as goal
 
 pub returns-in-Led-clause-index : goal.returns-in-Led-clause-index

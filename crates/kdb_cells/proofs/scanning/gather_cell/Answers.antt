@@ -1,11 +1,11 @@
-use Rattle.std.proofs.Common.{◌≡◌, ℕ, ◌+◌, ◌++◌, List, length, Some, None, Option, ap, sym, subst, ◌∙◌}
+use Rattle.std.proofs.Common.{ℕ, ◌+◌, List, length, Some, None, ap, sym, subst, ◌∙◌}
 use Rattle.std.specs.Prelude.{OnOk}
 use Rattle.std.proofs.lemmas.Result.{on_ok_weaker}
 use Rattle.policy_rules.specs.Rules.{Rules}
 use Rattle.princ_record.specs.declared.princs.Princ.{Princ as Principal}
-use Rattle.kdb_cells.specs.Cells.{Cell, IsCell, name_of}
+use Rattle.kdb_cells.specs.Cells.{Cell, IsCell}
 use Rattle.kdb_cells.specs.Indexes.{units, count}
-use Rattle.kdb_cells.specs.Leads.{Units, more_led}
+use Rattle.kdb_cells.specs.Leads.{Units}
 use Rattle.kdb_cells.specs.Scanning.{IsGathered}
 use Rattle.kdb_cells.specs.Sheets.{set_cell}
 use Rattle.kdb_cells.proofs.Gathered.{on_both, gathered_row, gathered_free, led_next, led_placed, row_placed, with_more}

@@ -1,11 +1,9 @@
-use Rattle.std.proofs.Common.{◌≡◌, Bool, Some, take, ap, sym, ◌∙◌}
-use Rattle.std.specs.Prelude.{Err}
+use Rattle.std.proofs.Common.{◌≡◌, Bool, take, ap, sym, ◌∙◌}
 use Rattle.kdb_base.specs.declared.outcomes.Stop.TheVariants.{Refused}
 use Rattle.kdb_disk.specs.Reader.{left_of}
 use Rattle.kdb_cells.specs.Cells.{unit_size}
 use Rattle.kdb_cells.specs.Indexes.{units, count}
-use Rattle.kdb_cells.specs.Scanning.{skipping, is_torn, cell_next}
-use Rattle.kdb_cells.specs.Sheets.{cell_in}
+use Rattle.kdb_cells.specs.Scanning.{cell_next}
 use Rattle.kdb_cells.proofs.Gathered.{next_cell, more_in, none_damaged, row_damaged, same_damaged}
 use Rattle.kdb_cells.proofs.scanning.gather_unit.Goals as goal
 

@@ -1,8 +1,7 @@
-use Rattle.std.proofs.Common.{◌≡◌, ℕ, ◌≤◌, ◌∙◌, ap, subst, sym, length, take, drop, arith}
+use Rattle.std.proofs.Common.{◌≡◌, ℕ, ◌∙◌, ap, sym, length, take, drop, arith}
 use Rattle.std.specs.Prelude.{min}
 use Rattle.std.proofs.lemmas.Bool.Decides.{nat_tests}
 use Rattle.kdb_disk.specs.Reader.{held_of, left_of}
-use Rattle.kdb_cells.specs.Cells.{unit_size}
 use Rattle.kdb_cells.specs.Scanning.{cell_next}
 use Rattle.kdb_cells.proofs.Windows.{window_front}
 use Rattle.kdb_cells.proofs.scanning.read_next.Goals as goal

@@ -1,4 +1,4 @@
-use Rattle.std.proofs.Common.{◌≡◌, ℕ, ◌+◌, List, Some, cond, ap, subst, refl, ◌∙◌}
+use Rattle.std.proofs.Common.{◌≡◌, ℕ, List, Some, cond, ap, subst, refl, ◌∙◌}
 use Rattle.std.specs.Str.{bytes_eq}
 use Rattle.kdb_cells.specs.Leads.{more_led}
 use Rattle.kdb_cells.specs.Indexes.{Entries, Index, unit_given, unit_of, units}

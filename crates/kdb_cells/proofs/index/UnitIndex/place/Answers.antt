@@ -1,4 +1,4 @@
-use Rattle.std.proofs.Common.{◌≡◌, None, ap, sym, ◌∙◌}
+use Rattle.std.proofs.Common.{◌≡◌, None, ap, ◌∙◌}
 use Rattle.kdb_cells.specs.Indexes.{Index, Entries, unit_of}
 use Rattle.kdb_cells.proofs.Indexing.{same_least}
 use Rattle.kdb_cells.proofs.index.UnitIndex.place.Goals as goal
