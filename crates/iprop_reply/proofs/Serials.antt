@@ -10,11 +10,11 @@ use Rattle.iprop_reply.specs.declared.status.Status4.{Status4}
 use Rattle.iprop_reply.specs.declared.status.Status4.TheVariants as status
 
 -- the serials run on one by one from the first
-unfoldable RunsFrom : ℕ → List Entry → Type 0
+unfoldable pub RunsFrom : ℕ → List Entry → Type 0
 RunsFrom first [] = Unit {0}
 RunsFrom first (e ∷ entries) = (e.point.sno ≡ first) × RunsFrom (first + 1) entries
 
-runs_by : (first : ℕ) (entries : List Entry) → ((i : ℕ) (d : Entry) → i < length entries → (slice_index_or entries i d).point.sno ≡ first + i) → RunsFrom first entries
+pub runs_by : (first : ℕ) (entries : List Entry) → ((i : ℕ) (d : Entry) → i < length entries → (slice_index_or entries i d).point.sno ≡ first + i) → RunsFrom first entries
 unfolding RunsFrom
 runs_by first [] serials = tt
 runs_by first (e ∷ entries) serials =
@@ -31,22 +31,22 @@ moment_is a b s u = ap (λ (n : ℕ). record { secs = n; usecs = a.usecs }) s �
 point_from : (a b : Point) → a.sno ≡ b.sno → a.time ≡ b.time → a ≡ b
 point_from a b s t = ap (λ (n : ℕ). record { sno = n; time = a.time }) s ∙ ap (λ (m : Moment). record { sno = b.sno; time = m }) t
 
-point_is : (a b : Point) → is_point a b ≡ true → a ≡ b
+pub point_is : (a b : Point) → is_point a b ≡ true → a ≡ b
 point_is a b same =
     let parts = and_parts (nat_eq a.sno b.sno) (is_moment a.time b.time) same in
     let times = and_parts (nat_eq a.time.secs b.time.secs) (nat_eq a.time.usecs b.time.usecs) parts.1 in
     point_from a b (eqb-true a.sno b.sno parts.0) (moment_is a.time b.time (eqb-true a.time.secs b.time.secs times.0) (eqb-true a.time.usecs b.time.usecs times.1))
 
-point_same : (a b : Point) → a.sno ≡ b.sno → a.time ≡ b.time → is_point a b ≡ true
+pub point_same : (a b : Point) → a.sno ≡ b.sno → a.time ≡ b.time → is_point a b ≡ true
 point_same a b s t = rw (s, t, eq-eqb b.sno b.sno refl, eq-eqb b.time.secs b.time.secs refl, eq-eqb b.time.usecs b.time.usecs refl) refl
 
 -- ---- what is held, and what is not
 
 -- the entry with the serial has the time, and so many come behind it
-record IsFound (first : ℕ) (asked : Point) (entries us : List Entry) : Type 0 where
-  time : time_of asked.sno entries ≡ Some asked.time
-  from : first ≤ asked.sno
-  count : asked.sno + 1 + length us ≡ first + length entries
+pub record IsFound (first : ℕ) (asked : Point) (entries us : List Entry) : Type 0 where
+  pub time : time_of asked.sno entries ≡ Some asked.time
+  pub from : first ≤ asked.sno
+  pub count : asked.sno + 1 + length us ≡ first + length entries
 
 found_here : (first : ℕ) (asked : Point) (e : Entry) (entries : List Entry) → e.point.sno ≡ first → e.point ≡ asked → IsFound first asked (e ∷ entries) entries
 unfolding time_of
@@ -82,7 +82,7 @@ found_by first asked e entries us true is s others f =
     subst (IsFound first asked (e ∷ entries)) same (found_here first asked e entries s (point_is e.point asked is))
 found_by first asked e entries us false is s others f = found_later first asked e entries us s (others f)
 
-found : (first : ℕ) (asked : Point) (entries us : List Entry) → RunsFrom first entries → updates_after asked entries ≡ Some us → IsFound first asked entries us
+pub found : (first : ℕ) (asked : Point) (entries us : List Entry) → RunsFrom first entries → updates_after asked entries ≡ Some us → IsFound first asked entries us
 unfolding updates_after RunsFrom
 found first asked [] us r f = absurd cc
 found first asked (e ∷ entries) us r f =

@@ -1,0 +1,4 @@
+pub mod Members
+pub mod Leading
+pub mod Polling
+pub mod Lengths

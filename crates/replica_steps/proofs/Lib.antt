@@ -1,0 +1,4 @@
+pub mod Copies
+pub mod ReplicaRuns
+pub mod Wholes
+pub mod Bridging

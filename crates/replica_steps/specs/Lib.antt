@@ -1,0 +1,4 @@
+pub mod Judging
+pub mod Replicas
+pub mod Wholes
+pub mod Bridges
