@@ -1,0 +1,4 @@
+pub mod ReadyKeys
+pub mod Targets
+pub mod Opening
+pub mod Changing
