@@ -1,0 +1,9 @@
+//! A database over an update log and cells, made anew on a disk that may crash at any moment.
+#![tactic(auto)]
+
+pub mod creating;
+pub mod parts;
+mod putting;
+
+pub use creating::create_parts;
+pub use parts::Parts;
