@@ -1,0 +1,11 @@
+pub mod Times
+pub mod Deeds
+pub mod Entries
+pub mod Changed
+pub mod Growing
+pub mod Paths
+pub mod Formats
+pub mod SiteRuns
+pub mod Naming
+pub mod Bridging
+pub mod Resetting

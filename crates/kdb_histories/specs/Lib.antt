@@ -1,0 +1,9 @@
+pub mod Asks
+pub mod Stages
+pub mod Moves
+pub mod Seen
+pub mod Calls
+pub mod Leaving
+pub mod Histories
+pub mod Sites
+pub mod Bridges
