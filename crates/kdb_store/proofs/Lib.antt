@@ -3,3 +3,5 @@ pub mod Given
 pub mod WrittenUnits
 pub mod Entries
 pub mod DiskChanges
+pub mod Planned
+pub mod Changed

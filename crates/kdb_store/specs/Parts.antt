@@ -1,5 +1,9 @@
 -- What stays of a log and of a file of cells in memory.
 use Rattle.std.specs.Prelude.{◌≡◌}
+use Rattle.kdb_base.specs.declared.moments.Point.{Point}
+use Rattle.kdb_places.specs.Places.{next_point}
+use Rattle.princ_rows.specs.Rows.{RowLists}
+use Rattle.store_files.specs.Kept.{Kept, HasChosen, IsOnDisk, place_kept, with_parts}
 use Rattle.kdb_disk.specs.Files.{Files}
 use Rattle.kdb_disk.specs.View.{View}
 use Rattle.princ_entries.specs.declared.entries.Logged.{Logged}
@@ -37,3 +41,16 @@ pub record MayCommit (log : Journal) (cells : CellFile) (l : Logged) (o : Found)
   pub file_is : cells.file ≡ o.control.image
   pub format_is : cells.format ≡ o.control.format
   pub tie : IsFileOf cells o.sheet (now.seen cells.file)
+
+-- The log's file and its numbers stay.
+pub record SameNumbers (old new : Journal) : Type 0 where
+  pub file_is : new.file ≡ old.file
+  pub base_is : new.base ≡ old.base
+  pub size_is : new.size ≡ old.size
+  pub block_is : new.block ≡ old.block
+
+-- What is kept with these parts stands on the disk, and the point is the one of its next change.
+pub record StandsOn (log : Journal) (cells : CellFile) (rows : RowLists) (k : Kept) (point : Point) (now : View) : Type 0 where
+  pub chosen : HasChosen (with_parts log cells rows k)
+  pub on : IsOnDisk (with_parts log cells rows k) now
+  pub next_is : point ≡ next_point point.time (place_kept (with_parts log cells rows k))

@@ -1,5 +1,5 @@
 -- What a change writes into its unit.
-use Rattle.std.specs.Prelude.{◌≡◌, ◌≤◌, ◌<◌, ℕ, List, Option, Some, None}
+use Rattle.std.specs.Prelude.{◌≡◌, ◌≢◌, ◌≤◌, ◌<◌, ℕ, List, Option, Some, None}
 use Rattle.std.specs.List.{All}
 use Rattle.kdb_base.specs.Limits.{most_rows}
 use Rattle.princ_rows.specs.Rows.{RowLists}
@@ -9,11 +9,14 @@ use Rattle.kdb_cells.specs.declared.units.StoredRow.{StoredRow}
 use Rattle.kdb_cells.specs.Cells.{Cell, IsRowText}
 use Rattle.kdb_cells.specs.CellFiles.{CellFile, units, count}
 use Rattle.kdb_cells.specs.FileCells.{AreCellsOf}
-use Rattle.kdb_cells.specs.Sheets.{Sheet, taken}
+use Rattle.kdb_cells.specs.Changes.{cell_after}
+use Rattle.princ_entries.specs.Entries.{key_of}
+use Rattle.store_files.specs.Standing.{IsGivenFor}
+use Rattle.kdb_cells.specs.Sheets.{Sheet, taken, last_unit}
 use Rattle.store_files.specs.Found.{unit_numbered, with_unit}
 use Rattle.kdb_disk.specs.Files.{Files, written}
 use Rattle.kdb_disk.specs.View.{View}
-use Rattle.kdb_cells.specs.Leads.{IsFree}
+use Rattle.kdb_cells.specs.Leads.{Units, IsFree}
 use Rattle.kdb_store.specs.declared.writing.UnitWrite.{UnitWrite}
 use Rattle.kdb_store.specs.declared.writing.UnitWrite.TheVariants.{Nothing, Put, Free}
 
@@ -69,3 +72,10 @@ pub record HoldsCells (c : CellFile) (cells : List Cell) : Type 0 where
 -- what a file of cells holds once the unit of this number has another cell, or none where it is 0
 abbrev pub changed_sheet : ℕ → Cell → Sheet → Sheet
 changed_sheet cell c sheet = record { realm = sheet.realm; cells = with_unit (unit_numbered cell) c sheet.cells }
+
+-- What is written for a change: into the unit that is given for its key, or nothing where it drops what is not there.
+pub record IsPlan (w : UnitWrite) (op : Op) (u : Units) (rows : RowLists) : Type 0 where
+  pub writes : Writes w (cell_after op)
+  pub given : number_of w ≢ 0 → IsGivenFor (key_of (Some op)) (number_of w) u
+  pub none : number_of w ≡ 0 → HasNoRow op rows
+  pub near : number_of w ≤ last_unit

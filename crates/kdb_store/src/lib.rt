@@ -3,6 +3,7 @@
 #![tactic(auto)]
 
 pub mod database;
+mod changing;
 mod disk_changes;
 mod entry_writes;
 mod unit_writes;
