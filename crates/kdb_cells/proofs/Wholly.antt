@@ -7,7 +7,7 @@ use Rattle.kdb_base.specs.declared.outcomes.Refusal.{Refusal}
 use Rattle.kdb_base.specs.declared.outcomes.Refusal.TheVariants.{Damaged}
 use Rattle.kdb_cells.specs.Cells.{unit_size}
 use Rattle.kdb_cells.specs.CellFiles.{CellFile, units, count}
-use Rattle.kdb_cells.specs.Scanning.{heading_of, skipping, placed_at, end_of, MaySkip, IsDamaged, AreGathered, IsScanned}
+use Rattle.kdb_cells.specs.Scanning.{heading_of, skipping, placed_at, end_of, MaySkip, IsDamaged, AreGathered, AreScanned, IsScanned}
 use Rattle.kdb_cells.specs.Sheets.{unit_bytes, realm_in, count_of}
 use Rattle.kdb_cells.proofs.Gathered.{gathered_sheet}
 use Rattle.kdb_cells.proofs.Headed.{short_heading, realm_heading}
@@ -86,3 +86,14 @@ wholly c torn told file realm princs policies end tells may named is all placed 
       policies_are = all.gathered.policies_are;
       placed = placed ∙ ap (placed_at torn) is ∙ end_placed format torn file may some;
     }
+
+-- the same, whatever the disk tells
+pub scanned_all : (c : CellFile) (torn : Option ℕ) (told : Type 0) (file realm : List ℕ) (princs : List Principal) (policies : List Rules) (end : ℕ) → AreGathered c.format torn told file (units c) (count c) princs policies end
+    → (told → MaySkip c.format torn file × ((heading_of c.format (take (unit_size c.format) file) ≡ Some realm) × ((end ≡ max 1 (end_of torn (count_of c.format file))) × (c.index.placed ≡ placed_at torn end)))) → AreScanned told c realm princs policies torn file
+unfolding wholly
+scanned_all c torn told file realm princs policies end all known = record {
+  cells = all.cells;
+  gathered = all.gathered;
+  read = λ tells. let k = known tells in (wholly c torn told file realm princs policies end tells k.0 k.1.0 k.1.1.0 all k.1.1.1).tie.read;
+  placed = λ tells. let k = known tells in (wholly c torn told file realm princs policies end tells k.0 k.1.0 k.1.1.0 all k.1.1.1).placed;
+}

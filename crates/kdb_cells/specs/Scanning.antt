@@ -17,7 +17,7 @@ use Rattle.kdb_cells.specs.declared.units.StoredRow.{StoredRow}
 use Rattle.kdb_cells.specs.declared.units.StoredRow.TheVariants.{Princ, Policy}
 use Rattle.kdb_cells.specs.Cells.{Cell, IsCell, unit_size, cell_of, front_of}
 use Rattle.kdb_cells.specs.Changes.{cell_no}
-use Rattle.kdb_cells.specs.CellFiles.{CellFile}
+use Rattle.kdb_cells.specs.CellFiles.{CellFile, units, count}
 use Rattle.kdb_cells.specs.FileCells.{AreCellsOf, IsFileOf}
 use Rattle.kdb_cells.specs.Leads.{Units}
 use Rattle.kdb_cells.specs.Sheets.{Sheet, heading_at, cell_in, last_unit, put_cell, set_cell, sheet_in, taken}
@@ -136,3 +136,11 @@ pub record IsScanned (c : CellFile) (realm : List ℕ) (princs : List Principal)
   pub princs_are : princs ≡ princs_of sheet.cells
   pub policies_are : policies ≡ policies_of sheet.cells
   pub placed : c.index.placed ≡ torn
+
+-- What was gathered of a file: the index leads to cells that have these rows, and where the disk tells, they are those of the
+-- file, and the unit that was passed over is given.
+pub record AreScanned (told : Type 0) (c : CellFile) (realm : List ℕ) (princs : List Principal) (policies : List Rules) (torn : Option ℕ) (file : List ℕ) : Type 0 where
+  pub cells : List Cell
+  pub gathered : IsGathered c.format (units c) (count c) princs policies cells
+  pub read : told → sheet_in c.format (skipping c.format torn file) ≡ Ok (record { realm = realm; cells = cells })
+  pub placed : told → c.index.placed ≡ torn

@@ -146,6 +146,13 @@ impl Cells {
         self.index.len()
     }
 
+    /// The unit that was given for the change that comes next.
+    pub fn given(&self) -> Option<u32>
+        ensures { result ≡ (units self.now).placed }
+    {
+        self.index.given()
+    }
+
     /// Whether the key leads to a unit.
     pub fn holds(&self, key: &[u8]) -> bool
         ensures led { result ≡ true → (units self.now).of key.now ≢ None }

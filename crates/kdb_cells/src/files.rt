@@ -10,7 +10,7 @@ ghost use Rattle.kdb_disk.specs.Reader.{left_of, IsOver};
 ghost use Rattle.kdb_disk.specs.View.{View};
 ghost use Rattle.kdb_cells.specs.Cells.{unit_size as size_of_unit};
 ghost use Rattle.kdb_cells.specs.CellFiles.{is_image, is_format};
-ghost use Rattle.kdb_cells.specs.Scanning.{heading_of, end_of, MaySkip, IsDamaged, AreApart, IsScanned};
+ghost use Rattle.kdb_cells.specs.Scanning.{heading_of, end_of, MaySkip, IsDamaged, AreApart, AreScanned, IsScanned};
 
 use crate::cells::{Cells, unit_size};
 use crate::headings::read_first;
@@ -101,6 +101,7 @@ pub fn scan<D: Disk>(
     requires low { (i : ℕ) → torn ≡ Some i → 1 ≤ i }
     requires torn { D.tells → MaySkip format torn ((D.view disk.old).seen file) }
     ensures scanned { D.tells → IfOk result (λ s. IsScanned s.cells s.realm s.princs.items s.policies.items torn ((D.view disk.old).seen file)) }
+    ensures gathered { IfOk result (λ s. AreScanned D.tells s.cells s.realm s.princs.items s.policies.items torn ((D.view disk.old).seen file)) }
     ensures apart { IfOk result (λ s. AreApart s.princs.items s.policies.items) }
     ensures file { IfOk result (λ s. s.cells.file ≡ file) }
     ensures format { IfOk result (λ s. s.cells.format ≡ format) }

@@ -277,6 +277,16 @@ impl UnitIndex {
         self.next
     }
 
+    /// The unit that was given for the change that comes next.
+    pub fn given(&self) -> Option<u32>
+        ensures { result ≡ self.now.placed }
+    {
+        match self.placed {
+            Some(placed) => Some(placed.unit),
+            None => None,
+        }
+    }
+
     /// Whether the key leads to a unit.
     pub fn holds(&self, key: &[u8]) -> bool
         ensures led { result ≡ true → (units self.now).of key.now ≢ None }

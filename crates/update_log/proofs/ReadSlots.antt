@@ -1,8 +1,9 @@
 -- What is read of the slots of a log's file, and what the log then holds.
-use Rattle.std.proofs.Common.{◌≡◌, ◌≢◌, ℕ, zero, suc, ◌+◌, ◌-◌, ◌*◌, ◌/◌, ◌%◌, ◌<◌, ◌≤◌, ⊎_elim, Bool, cond, ltb, List, [], ◌∷◌, ◌++◌, length, get_or, take, drop, Option, Some, None, refl, sym, ◌∙◌, ap, subst, arith, length-drop, length-append, take-append-drop, take-suc}
-use Rattle.std.specs.Prelude.{Result, Ok, Err, IfOk, min, option_map}
+use Rattle.std.proofs.Common.{◌≡◌, ◌≢◌, ℕ, zero, suc, ◌+◌, ◌-◌, ◌*◌, ◌/◌, ◌%◌, ◌<◌, ◌≤◌, ⊎_elim, Bool, true, ◌&&◌, cond, ltb, List, [], ◌∷◌, ◌++◌, length, get_or, take, drop, Option, Some, None, refl, sym, ◌∙◌, ap, subst, arith, length-drop, length-append, take-append-drop, take-suc}
+use Rattle.std.specs.Prelude.{nat_eq, nat_le, Result, Ok, Err, IfOk, min, option_map}
 use Rattle.std.specs.List.{All}
-use Rattle.std.proofs.lemmas.Bool.{cases_eq, cases_lt}
+use Rattle.std.proofs.lemmas.Bool.{cases_eq, cases_lt, and_parts}
+use Rattle.std.proofs.lemmas.List.Elements.{All-drop}
 use Rattle.std.proofs.lemmas.List.{get_or_past, get_or-drop, nil_from_length, append-nil, take_all, take-append-le, drop_all, drop-drop, get_or_append_left, get_or_push, length_push}
 use Rattle.std.proofs.Math.Nat.{div-add-mod, mod-lt, mul-le-mul_right}
 use Rattle.kdb_base.specs.declared.moments.Point.{Point}
@@ -25,7 +26,7 @@ use Rattle.princ_entries.specs.declared.entries.Logged.{Logged}
 use Rattle.update_log.specs.Slots.{slot_of, slot_bytes, IsSpelled}
 use Rattle.update_log.specs.Logs.{IsMarked, IsJournal, Journal, newest, log_of}
 use Rattle.update_log.specs.Moments.{HasLog, IsDurable}
-use Rattle.update_log.specs.Runs.{entry_in, is_wrong, is_missing, first_of, later, last_upto, if_before, before, back, is_left, if_whole, if_right, run_in, log_in}
+use Rattle.update_log.specs.Runs.{belongs, stands_in, is_marked, entry_in, is_wrong, is_missing, first_of, later, last_upto, if_before, before, back, is_left, if_whole, if_right, run_in, log_in}
 use Rattle.update_log.specs.Scanning.{log_found, scanned, Scans, SlotAnswers, read_at, IsRead, AreRead, slot_of_file, HasSlots, run_to, last_in, held_in, IsRunEnd}
 use Rattle.update_log.proofs.Rounds.{slot_low, slots_apart}
 use Rattle.update_log.proofs.SlotWrites.{not_whole}
@@ -208,6 +209,18 @@ run_journal choice slots last read is file size block =
       marked = here.marked;
       spelled = here.spelled;
     }
+
+stands_belongs : (format : ℕ) (base : Point) (size k : ℕ) (l : Logged) → belongs format base size k l ≡ true → stands_in format l ≡ true
+unfolding belongs
+stands_belongs format base size k l e = (and_parts (nat_le base.sno l.entry.point.sno && nat_eq (slot_of base size l.entry.point.sno) k && is_marked base l) (stands_in format l) e).1
+
+-- each of them may stand in the format
+pub run_stands : (choice : Choice) (slots : List (Option Logged)) (last : Logged) → AreRead choice slots → last_in choice slots ≡ Some last → All (λ l. stands_in choice.format l ≡ true) (newest choice.size (run_to choice slots last))
+run_stands choice slots last read is =
+    let run = run_to choice slots last in
+    let runs = run_ends choice slots last read is in
+    let all : All (λ (l : Logged). stands_in choice.format l ≡ true) run = λ i d lt. stands_belongs choice.format choice.base choice.size _ (get_or run i d) (read _ (get_or run i d) (runs.there i d lt)).here in
+    All-drop (λ (l : Logged). stands_in choice.format l ≡ true) (length run - choice.size) run all
 
 -- how many entries are held
 pub count_held : (choice : Choice) (slots : List (Option Logged)) (last : Logged) (count : ℕ) → count ≡ min (length (run_to choice slots last)) choice.size → length (newest choice.size (run_to choice slots last)) ≡ count

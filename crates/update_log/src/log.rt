@@ -1,4 +1,4 @@
-ghost use Rattle.std.specs.Prelude.{◌≡◌, ◌≢◌, ◌≤◌, ◌<◌, ◌-◌, ◌+◌, ◌*◌, ◌^◌, ◌∷◌, ◌++◌, All, Contains, length, map, slice_index_or, IfSome, IfOk, OnOk, OnErr, IsErr, IsErrOf, IsTrue, option_to_list, None, Some, Err, [], ℕ};
+ghost use Rattle.std.specs.Prelude.{◌≡◌, ◌≢◌, ◌≤◌, ◌<◌, ◌-◌, ◌+◌, ◌*◌, ◌^◌, ◌∷◌, ◌++◌, All, Contains, length, map, slice_index_or, IfSome, IfOk, OnOk, OnErr, IsErr, IsErrOf, IsTrue, option_to_list, None, Some, Err, [], ℕ, true};
 ghost use Rattle.kdb_base.specs.declared.outcomes.Halt.TheVariants.{MemoryOut as IsMemoryOut, DiskFault as IsDiskFault};
 ghost use Rattle.kdb_disk.specs.View.{View, IsAfter};
 ghost use Rattle.kdb_base.specs.declared.outcomes.Stop.TheVariants.{Halt as Halts};
@@ -10,6 +10,7 @@ ghost use Rattle.princ_entries.specs.Entries.{IsOp, logged};
 ghost use Rattle.update_log.specs.Slots.{slot_of, Spells, IsSpelled};
 ghost use Rattle.update_log.specs.Logs.{IsJournal, ComesNext, entry_of, log_of, marker_of, with_prepared, log_committed, newest, begun};
 ghost use Rattle.update_log.specs.Moments.{HasLog, HasPrepared, IsDurable, LeavesLog, LeavesEither, ReadsOthers};
+ghost use Rattle.update_log.specs.Runs.{stands_in};
 ghost use Rattle.update_log.specs.Scanning.{scanned, Scans};
 
 use crate::bodies::{holds_entry, write_body};
@@ -228,6 +229,9 @@ impl Log {
     pub fn scan<D: Disk>(alloc: Global, disk: &mut D, control: &Control) -> Result<Log, Stop>
         ensures answer { D.tells → Scans result (scanned control.now ((D.view disk.old).seen control.now.log)) }
         ensures log { D.tells → IsDurable control.now.log (D.view disk.old) → IfOk result (λ log. HasLog log (D.view disk.new)) }
+        // whatever the disk tells
+        ensures chosen { IfOk result (λ log. log ≡ log_of control.now.log control.now.base control.now.size control.now.block log.held) }
+        ensures stands { IfOk result (λ log. All (λ l. stands_in control.now.format l ≡ true) log.held) }
         ensures keeps { D.tells → Keeps (D.view disk.old) (D.view disk.new) }
         ensures call { IsCall D.Disk disk.old disk.new (result ≡ Err (Halts IsDiskFault)) }
     {
@@ -289,6 +293,13 @@ impl Log {
         ensures { (d : Logged) → result ≡ (slice_index_or self.now.held (length self.now.held - 1) d).cell }
     {
         self.held[self.held.len() - 1].cell
+    }
+
+    /// The last entry.
+    pub fn last(&self) -> &Entry
+        ensures { (d : Logged) → result.now ≡ (slice_index_or self.now.held (length self.now.held - 1) d).entry }
+    {
+        &self.held[self.held.len() - 1].entry
     }
 
     /// The file of the log, 3 or 4.

@@ -1,12 +1,13 @@
 //! The entries that run on to the last one of a log, among those that stand in its slots.
-ghost use Rattle.std.specs.Prelude.{◌≡◌, ◌≢◌, ◌≤◌, ◌+◌, ◌*◌, ℕ, Ok, Err, length, min, option_map, IfOk, IfErr, IfSome};
+ghost use Rattle.std.specs.Prelude.{◌≡◌, ◌≢◌, ◌≤◌, ◌+◌, ◌*◌, ℕ, true, Ok, Err, length, min, option_map, IfOk, IfErr, IfSome};
+ghost use Rattle.std.specs.List.{All};
 ghost use Rattle.std.specs.VecDeque.{deque_len};
 ghost use Rattle.kdb_base.specs.Moments.{micros as micros_of};
 ghost use Rattle.kdb_base.specs.declared.outcomes.Stop.TheVariants.{Refused, Halt as Halts};
 ghost use Rattle.kdb_base.specs.declared.outcomes.Halt.TheVariants.{DiskFault as IsDiskFault};
 ghost use Rattle.kdb_base.specs.declared.outcomes.Refusal.TheVariants.{Damaged};
 ghost use Rattle.update_log.specs.Logs.{log_of, IsJournal};
-ghost use Rattle.update_log.specs.Runs.{later, goes_before, if_before, before, is_left, first_of};
+ghost use Rattle.update_log.specs.Runs.{stands_in, later, goes_before, if_before, before, is_left, first_of};
 ghost use Rattle.update_log.specs.Scanning.{log_found, read_at, AreRead, run_to, last_in, held_in, IsRunEnd};
 
 use crate::slots::slot_of;
@@ -204,6 +205,7 @@ fn take_run(
     ensures held { IfOk result (λ held. held_in control.now slots.items ≡ Ok held.items) }
     ensures len { IfOk result (λ held. deque_len held ≡ length held.items) }
     ensures journal { IfOk result (λ held. IsJournal (log_of control.now.log control.now.base control.now.size control.now.block held.items)) }
+    ensures stands { IfOk result (λ held. All (λ l. stands_in control.now.format l ≡ true) held.items) }
 {
     holds_ranges(control);
     let count = held_count(run, control.size);
@@ -242,6 +244,7 @@ pub(crate) fn hold(
     ensures held { IfOk result (λ held. held_in control.now slots.items ≡ Ok held.items) }
     ensures len { IfOk result (λ held. deque_len held ≡ length held.items) }
     ensures journal { IfOk result (λ held. IsJournal (log_of control.now.log control.now.base control.now.size control.now.block held.items)) }
+    ensures stands { IfOk result (λ held. All (λ l. stands_in control.now.format l ≡ true) held.items) }
     ensures refused { (r : Refusal) → result ≡ Err (Refused r) → log_found control.now (held_in control.now slots.items) ≡ Err r }
     ensures cause { result ≡ Err (Halts IsDiskFault) → ⊥ }
 {

@@ -5,10 +5,10 @@ use Rattle.kdb_disk.specs.Reader.{left_of}
 use Rattle.kdb_cells.specs.Cells.{unit_size}
 use Rattle.kdb_cells.specs.CellFiles.{CellFile}
 use Rattle.kdb_cells.specs.Indexes.{units, count}
-use Rattle.kdb_cells.specs.Scanning.{heading_of, end_of, skipping, IsDamaged, IsScanned, AreGathered}
+use Rattle.kdb_cells.specs.Scanning.{heading_of, end_of, skipping, IsDamaged, IsScanned, AreGathered, AreScanned, AreCellsIn}
 use Rattle.kdb_cells.specs.Sheets.{realm_in, count_of}
 use Rattle.kdb_cells.proofs.Apart.{gathered_apart}
-use Rattle.kdb_cells.proofs.Wholly.{wholly, unnamed_damaged, named_skipping, realm_first, named_count, scan_end}
+use Rattle.kdb_cells.proofs.Wholly.{wholly, scanned_all, unnamed_damaged, named_skipping, realm_first, named_count, scan_end}
 use Rattle.kdb_cells.proofs.files.scan.Goals as goal
 
 pub returns-in-Err-read_realm-clause-refused : goal.returns-in-Err-read_realm-clause-refused
@@ -72,3 +72,29 @@ returns-in-Ok-with_index-clause-apart g c =
     let all = c.in-Ok-gather.gathered in
     let from = c.in-Ok-gather.ensures.gathered in
     gathered_apart c.args.format (units all.index) (count all.index) all.princs.items all.policies.items from.cells from.gathered
+
+pub returns-in-Ok-with_index-clause-gathered : goal.returns-in-Ok-with_index-clause-gathered
+unfolding count_of
+returns-in-Ok-with_index-clause-gathered g c =
+    let a = c.args in
+    let v = g.D.Disk.view a.disk.now in
+    let bytes = v.seen a.file in
+    let all = c.in-Ok-gather.gathered in
+    let realm = c.in-Ok-read_realm.realm in
+    let cells : CellFile = record { file = a.file; format = a.format; index = all.index } in
+    let from = c.in-Ok-gather.ensures.gathered in
+    let end = c.unit_end-end.result in
+    let same : AreGathered a.format a.torn g.D.Disk.tells bytes (units all.index) (count all.index) all.princs.items all.policies.items end = record {
+      cells = from.cells;
+      long = from.long;
+      gathered = from.gathered;
+      read = λ tells.
+          let keeps = keeps_then (keeps_on (keeps_on (kept v) (c.length.ensures.looks tells)) (c.open.ensures.looks tells)) (c.read_realm.ensures.keeps tells) in
+          subst (λ (s : Files). AreCellsIn a.format a.torn (s a.file) from.cells) keeps.seen (from.read tells);
+    } in
+    subst (λ (x : CellFile). AreScanned g.D.Disk.tells x realm all.princs.items all.policies.items a.torn bytes) (sym c.in-Ok-with_index.ensures)
+    (scanned_all cells a.torn g.D.Disk.tells bytes realm all.princs.items all.policies.items end same (λ tells.
+    let left : left_of c.in-Ok-open.reader (g.D.Disk.view c.open.new.disk).seen ≡ bytes = c.in-Ok-open.ensures.left tells ∙ ap (λ (s : Files). s a.file) (c.length.ensures.looks tells).seen in
+    let named = ap (λ (l : List ℕ). heading_of a.format (take (unit_size a.format) l)) (sym left) ∙ c.in-Ok-read_realm.ensures.found tells in
+    let is = c.unit_end-end.ensures.value ∙ ap (λ (n : ℕ). max 1 (end_of a.torn (n / unit_size a.format))) (c.in-Ok.ensures.value tells) in
+    (c.requires.torn tells, (named, (is, c.in-Ok-gather.ensures.placed)))))

@@ -1,7 +1,8 @@
-use Rattle.std.proofs.Common.{◌≡◌, ℕ, ◌+◌, ◌-◌, ◌∙◌, Some, None, refl, ap, subst, sym, length, take, get_or, List, arith, take_all}
+use Rattle.std.proofs.Common.{◌≡◌, ℕ, ◌+◌, ◌-◌, ◌∙◌, true, Some, None, refl, ap, subst, sym, length, take, get_or, List, arith, take_all}
 use Rattle.std.specs.Prelude.{Ok, Result}
 use Rattle.std.proofs.lemmas.Option.{same_Some}
 use Rattle.std.proofs.lemmas.List.{length_push}
+use Rattle.std.specs.List.{All}
 use Rattle.std.specs.VecDeque.{deque_len}
 use Rattle.std.specs.declared.alloc.Global.{Global}
 use Rattle.std.specs.declared.collections.VecDeque.{VecDeque}
@@ -9,8 +10,9 @@ use Rattle.kdb_control.specs.Choice.{Choice}
 use Rattle.princ_entries.specs.declared.entries.Logged.{Logged}
 use Rattle.update_log.specs.Slots.{slot_of}
 use Rattle.update_log.specs.Logs.{newest, log_of, IsJournal}
+use Rattle.update_log.specs.Runs.{stands_in}
 use Rattle.update_log.specs.Scanning.{run_to, read_at}
-use Rattle.update_log.proofs.ReadSlots.{counted_by, count_held, run_ends, held_stands, left_after, take_more, run_journal}
+use Rattle.update_log.proofs.ReadSlots.{counted_by, count_held, run_ends, held_stands, left_after, take_more, run_journal, run_stands}
 use Rattle.update_log.proofs.running.take_run.Goals as goal
 use Rattle.update_log.proofs.running.take_run.Goals.{in-Some+in_ok-push_back, in_default}
 
@@ -109,3 +111,16 @@ returns-clause-journal c =
     subst (λ (l : List Logged). IsJournal (log_of choice.log choice.base choice.size choice.block l))
     (sym (c.loop-more.invariant.taken run.last run.is_last ∙ take_all c.loop-more.more entries (omega (arith, long, c.loop-more-test.false))))
     (run_journal choice before run.last c.requires.read run.is_last ranges.file ranges.size ranges.block)
+
+pub returns-clause-stands : goal.returns-clause-stands
+returns-clause-stands c =
+    let choice = c.args.control.now in
+    let before = c.args.slots.items in
+    let run = c.requires.run in
+    let count = c.held_count-count.result in
+    let counted = counted_by choice before run.last c.args.run.now.len c.control.inside.size count run.long (ap (λ (ch : Choice). ch.size) c.control.view_is) c.held_count-count.ensures in
+    let entries = newest choice.size (run_to choice before run.last) in
+    let long = count_held choice before run.last count counted in
+    subst (All (λ (l : Logged). stands_in choice.format l ≡ true))
+    (sym (c.loop-more.invariant.taken run.last run.is_last ∙ take_all c.loop-more.more entries (omega (arith, long, c.loop-more-test.false))))
+    (run_stands choice before run.last c.requires.read run.is_last)
