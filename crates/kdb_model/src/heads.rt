@@ -12,17 +12,17 @@ use std::alloc::Global;
 use tagged_data::StringAttributes;
 
 /// The password has to be changed at the next use.
-pub const NEEDCHANGE: u32 = 0x200;
+pub(crate) const NEEDCHANGE: u32 = 0x200;
 /// The keys may be taken and set by nobody over a connection.
-pub const LOCKDOWN_KEYS: u32 = 0x800000;
+pub(crate) const LOCKDOWN_KEYS: u32 = 0x800000;
 
-pub fn has_bit(bit: u32, attributes: u32) -> bool
+pub(crate) fn has_bit(bit: u32, attributes: u32) -> bool
     ensures { result ≡ has_bit bit attributes }
 {
     attributes & bit == bit
 }
 
-pub fn copy_policy(alloc: Global, name: &Option<Blob>) -> Result<Option<Blob>, MemoryOut>
+pub(crate) fn copy_policy(alloc: Global, name: &Option<Blob>) -> Result<Option<Blob>, MemoryOut>
     ensures { IfOk result (λ x. x ≡ name.now) }
 {
     match name {
@@ -35,7 +35,7 @@ pub fn copy_policy(alloc: Global, name: &Option<Blob>) -> Result<Option<Blob>, M
 }
 
 /// Who changed the record last, and when.
-pub fn marked(mut head: Princ, client: Blob, secs: u32) -> Princ
+pub(crate) fn marked(mut head: Princ, client: Blob, secs: u32) -> Princ
     ensures { result ≡ marked (record { client = client; secs = secs }) head }
 {
     head.modified = secs;
@@ -44,7 +44,7 @@ pub fn marked(mut head: Princ, client: Blob, secs: u32) -> Princ
 }
 
 /// The value that is given, or the standing one.
-pub fn or_standing(given: Option<u32>, standing: u32) -> u32
+pub(crate) fn or_standing(given: Option<u32>, standing: u32) -> u32
     ensures { result ≡ unwrap_or given standing }
 {
     match given {
@@ -67,6 +67,10 @@ pub fn with_options(mut head: Princ, options: &PrincOptions) -> Princ
 }
 
 /// The policy of a line's options, or the standing one.
+///
+/// # Errors
+///
+/// `MemoryOut` where memory is wanted and not given.
 pub fn chosen(
     alloc: Global,
     choice: &Option<PolicyChoice>,
@@ -85,6 +89,10 @@ pub fn chosen(
 }
 
 /// What restrictions leave of the policy.
+///
+/// # Errors
+///
+/// `MemoryOut` where memory is wanted and not given.
 pub fn forced(
     alloc: Global,
     limits: Option<&Limits>,
@@ -128,7 +136,11 @@ fn restricted(
     Ok(head)
 }
 
-/// The same, where there are restrictions.
+/// What restrictions, where there are some, leave of the fields of a record that is changed at this moment.
+///
+/// # Errors
+///
+/// `MemoryOut` where memory is wanted and not given.
 pub fn limited(
     alloc: Global,
     head: Princ,
