@@ -1,7 +1,9 @@
 pub mod Lengths
 pub mod Given
+pub mod Ranges
 pub mod WrittenUnits
 pub mod Entries
 pub mod DiskChanges
 pub mod Planned
 pub mod Changed
+pub mod Committed

@@ -181,9 +181,13 @@ pub(crate) fn change<D: Disk>(
     holds_rows(rows);
     entries_have_their_lengths();
     match begin_change(alloc, cells, rows, op, point) {
-        Ok(Planned { entry, begun, write }) => {
-            write_begun(alloc, disk, log, cells, rows, entry, begun, write)
-        }
+        Ok(
+            Planned {
+                entry,
+                begun,
+                write,
+            },
+        ) => { write_begun(alloc, disk, log, cells, rows, entry, begun, write) }
         Err(_) => Err(Halt::MemoryOut),
     }
 }

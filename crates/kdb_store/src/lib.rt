@@ -2,8 +2,9 @@
 //! in the log, then written into its unit, and a crash leaves it done or not done.
 #![tactic(auto)]
 
-pub mod database;
 mod changing;
+pub mod committing;
+pub mod database;
 mod disk_changes;
 mod entry_writes;
 mod unit_writes;

@@ -18,9 +18,9 @@ use kdb_base::{Blob, MemoryOut};
 use kdb_cells::Cells;
 use kdb_cells::units::{POLICY, PRINC};
 use policy_rules::Policy;
+use princ_record::Princ;
 use princ_record::policies::encode_policy;
 use princ_record::princs::encode;
-use princ_record::Princ;
 use princ_rows::{Op, Rows};
 use std::alloc::Global;
 

@@ -40,7 +40,14 @@ returns-in-Ok-clause-crash g c tells k stands =
     let now = g.D.Disk.view c.args.disk.now in
     let n = number_of c.in-Ok.field-0.write in
     let is : IsReady c.args.log.now c.args.cells.now c.begin_change.new.cells c.args.rows.now k c.args.point c.args.op c.in-Ok.field-0.write now = record {
-      newer = c.requires.format; same = c.begin_change.ensures.alike; sound = c.holds_rows.ensures; plan = c.in-Ok.ensures.plan; fits = c.requires.op; name = c.requires.name; room = c.requires.room; stands = stands;
+      newer = c.requires.format;
+      same = c.begin_change.ensures.alike;
+      sound = c.holds_rows.ensures;
+      plan = c.in-Ok.ensures.plan;
+      fits = c.requires.op;
+      name = c.requires.name;
+      room = c.requires.room;
+      stands = stands;
     } in
     let o : Found = found_with (with_parts c.args.log.now c.args.cells.now c.args.rows.now k) stands.on.cells in
     let may = may_commit c.args.log.now c.args.cells.now c.begin_change.new.cells c.args.rows.now k c.args.point c.args.op c.in-Ok.field-0.write now is in
@@ -54,7 +61,14 @@ returns-in-Ok-clause-on g c tells k stands =
     let new = g.D.Disk.view c.write_begun.new.disk in
     let n = number_of c.in-Ok.field-0.write in
     let is : IsReady c.args.log.now c.args.cells.now c.begin_change.new.cells c.args.rows.now k c.args.point c.args.op c.in-Ok.field-0.write now = record {
-      newer = c.requires.format; same = c.begin_change.ensures.alike; sound = c.holds_rows.ensures; plan = c.in-Ok.ensures.plan; fits = c.requires.op; name = c.requires.name; room = c.requires.room; stands = stands;
+      newer = c.requires.format;
+      same = c.begin_change.ensures.alike;
+      sound = c.holds_rows.ensures;
+      plan = c.in-Ok.ensures.plan;
+      fits = c.requires.op;
+      name = c.requires.name;
+      room = c.requires.room;
+      stands = stands;
     } in
     let o : Found = found_with (with_parts c.args.log.now c.args.cells.now c.args.rows.now k) stands.on.cells in
     let may = may_commit c.args.log.now c.args.cells.now c.begin_change.new.cells c.args.rows.now k c.args.point c.args.op c.in-Ok.field-0.write now is in
