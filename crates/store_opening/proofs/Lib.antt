@@ -1,3 +1,5 @@
 pub mod Quiet
 pub mod Standing
 pub mod Making
+pub mod Placing
+pub mod Torn

@@ -1,3 +1,4 @@
 pub mod Made
 pub mod Parts
 pub mod Moments
+pub mod Redoing

@@ -2,8 +2,11 @@
 #![tactic(auto)]
 
 pub mod creating;
+pub mod laws;
 pub mod parts;
 mod putting;
+pub mod redoing;
 
 pub use creating::create_parts;
 pub use parts::Parts;
+pub use redoing::is_placed;
