@@ -46,17 +46,27 @@ first_item key = record { from_one = omega arith; kvno = omega arith; salt = rec
 
 pub history_formed : (random : List ℕ) → AreItems (first_items history_types random)
 unfolding items_of random_keys are_ordered
-history_formed random = record { few = omega arith; each = All-from_recursion IsItem (first_items history_types random) (first_item _, tt); ordered = refl }
+history_formed random = record {
+  few = omega arith;
+  each = All-from_recursion IsItem (first_items history_types random) (first_item _, tt);
+  ordered = refl;
+}
 
 pub ticket_formed : (random : List ℕ) → AreItems (first_items ticket_types random)
 unfolding items_of random_keys are_ordered
-ticket_formed random = record { few = omega arith; each = All-from_recursion IsItem (first_items ticket_types random) (first_item _, (first_item _, tt)); ordered = refl }
+ticket_formed random = record {
+  few = omega arith;
+  each = All-from_recursion IsItem (first_items ticket_types random)
+      (first_item _, (first_item _, tt));
+  ordered = refl;
+}
 
 -- a key takes at most 84 bytes of a row
 few_item_bytes : (master : Key) (item : KeyItem) (key : Key) → ShowsItem master item (item_of 1 key) → key_len item ≤ 84
 few_item_bytes master item key f = let blob = few_bytes f.holds in omega (arith, ap (λ s. length (salt_bytes s)) f.salt)
 
-pub few_items_bytes : (master : Key) (items : List KeyItem) (keys : List Key) → AllZip (ShowsItem master) items (items_of 1 keys) → sum_by key_len items ≤ 84 * length keys
+pub few_items_bytes : (master : Key) (items : List KeyItem) (keys : List Key) → AllZip (ShowsItem master) items (items_of 1 keys)
+    → sum_by key_len items ≤ 84 * length keys
 unfolding items_of
 few_items_bytes master [] keys h = omega arith
 few_items_bytes master (i ∷ items) [] h = absurd h
@@ -65,7 +75,8 @@ few_items_bytes master (i ∷ items) (k ∷ keys) h =
 
 -- ---- records other than K/M's
 
-module _ (realm : List ℕ) (is : IsRealm realm) (secs : ℕ) (short : secs < 2 ^ 32) (name : List ℕ) (printed : IsPrinted name) (other : is_master name ≡ false) (master : Key) where
+module _ (realm : List ℕ) (is : IsRealm realm) (secs : ℕ) (short : secs < 2 ^ 32) (name : List ℕ) (printed : IsPrinted name)
+    (other : is_master name ≡ false) (master : Key) where
   fields : AreFields (first_head realm name secs)
   unfolding first_head are_attributes
   fields = record {
@@ -82,7 +93,8 @@ module _ (realm : List ℕ) (is : IsRealm realm) (secs : ℕ) (short : secs < 2 
     policy = tt;
   }
 
-  pub kept_row : (items : List KeyItem) (keys : List Key) → length keys ≤ 2 → AllZip (ShowsItem master) items (items_of 1 keys) → AreItems (items_of 1 keys) → IsRow (first_kept realm name secs items)
+  pub kept_row : (items : List KeyItem) (keys : List Key) → length keys ≤ 2 → AllZip (ShowsItem master) items (items_of 1 keys)
+      → AreItems (items_of 1 keys) → IsRow (first_kept realm name secs items)
   unfolding first_head name_of
   kept_row items keys few h formed =
       let p = first_kept realm name secs items in
@@ -96,11 +108,13 @@ module _ (realm : List ℕ) (is : IsRealm realm) (secs : ℕ) (short : secs < 2 
 module _ (realm : List ℕ) (is : IsRealm realm) (secs : ℕ) (short : secs < 2 ^ 32) (master : Key) (random : List ℕ) (items : List KeyItem) where
   pub history_row : AllZip (ShowsItem master) items (first_items history_types random) → IsRow (first_kept realm (history_name realm) secs items)
   unfolding random_keys
-  history_row h = kept_row realm is secs short (history_name realm) (history_printed realm is) (history_other realm) master items (random_keys random history_types) (omega arith) h (history_formed random)
+  history_row h = kept_row realm is secs short (history_name realm) (history_printed realm is) (history_other realm) master items
+      (random_keys random history_types) (omega arith) h (history_formed random)
 
   pub ticket_row : AllZip (ShowsItem master) items (first_items ticket_types random) → IsRow (first_kept realm (ticket_name realm) secs items)
   unfolding random_keys
-  ticket_row h = kept_row realm is secs short (ticket_name realm) (ticket_printed realm is) (ticket_other realm) master items (random_keys random ticket_types) (omega arith) h (ticket_formed random)
+  ticket_row h = kept_row realm is secs short (ticket_name realm) (ticket_printed realm is) (ticket_other realm) master items
+      (random_keys random ticket_types) (omega arith) h (ticket_formed random)
 
 -- ---- K/M
 
@@ -118,7 +132,8 @@ first_short realm key secs confounder masters is chain =
     let blob = few_key chain.newest _ (reverse masters) chain.under.keys in
     omega (arith, length-princ p, name, admin, blob, length-aux_keys_text [])
 
-pub master_row : (p : Princ) (realm : List ℕ) (key : Key) (secs : ℕ) (confounder : List ℕ) (masters : List Master) → p ≡ first_record realm key secs confounder
+pub master_row : (p : Princ) (realm : List ℕ) (key : Key) (secs : ℕ) (confounder : List ℕ) (masters : List Master)
+    → p ≡ first_record realm key secs confounder
     → IsRealm realm → IsChain p masters → IsPrinc p → IsRow p
 master_row p realm key secs confounder masters e is chain fits =
     let short = first_short realm key secs confounder masters is (subst (λ (q : Princ). IsChain q masters) e chain) in
@@ -127,7 +142,8 @@ master_row p realm key secs confounder masters e is chain fits =
 -- ---- all of them
 
 pub three_rows : (realm : List ℕ) (a b c : Princ) (princs : List Princ) (policies : List Rules) → princs ≡ a ∷ b ∷ c ∷ [] → policies ≡ []
-    → a.name ≡ master_name realm → b.name ≡ history_name realm → c.name ≡ ticket_name realm → IsRow a → IsRow b → IsRow c → AreRows (record { princs = princs; policies = policies })
+    → a.name ≡ master_name realm → b.name ≡ history_name realm → c.name ≡ ticket_name realm → IsRow a → IsRow b → IsRow c
+    → AreRows (record { princs = princs; policies = policies })
 unfolding rises_from
 three_rows realm a b c princs policies e f first second third row_a row_b row_c =
     let order : AreInOrder (a.name ∷ b.name ∷ c.name ∷ []) =
@@ -135,8 +151,16 @@ three_rows realm a b c princs policies e f first second third row_a row_b row_c 
     (subst (λ (n : List ℕ). AreInOrder (master_name realm ∷ n ∷ c.name ∷ [])) (sym second)
     (subst (λ (n : List ℕ). AreInOrder (master_name realm ∷ history_name realm ∷ n ∷ [])) (sym third) (names_rise realm))) in
     let rows : AreRows (record { princs = a ∷ b ∷ c ∷ []; policies = [] }) =
-    record { princ_order = order; policy_order = in_order [] refl; few = omega arith; princs = All-from_recursion IsRow (a ∷ b ∷ c ∷ []) (row_a, (row_b, (row_c, tt))); policies = All-nil IsPolicy } in
-    subst (λ (ps : List Princ). AreRows (record { princs = ps; policies = policies })) (sym e) (subst (λ (qs : List Rules). AreRows (record { princs = a ∷ b ∷ c ∷ []; policies = qs })) (sym f) rows)
+    record {
+      princ_order = order;
+      policy_order = in_order [] refl;
+      few = omega arith;
+      princs = All-from_recursion IsRow (a ∷ b ∷ c ∷ [])
+          (row_a, (row_b, (row_c, tt)));
+      policies = All-nil IsPolicy;
+    } in
+    subst (λ (ps : List Princ). AreRows (record { princs = ps; policies = policies })) (sym e)
+    (subst (λ (qs : List Rules). AreRows (record { princs = a ∷ b ∷ c ∷ []; policies = qs })) (sym f) rows)
 
 pub some_there : {A : Type 0} (o : Option A) → (o ≡ None → ⊥) → IsSome o
 some_there None never = absurd (never refl)

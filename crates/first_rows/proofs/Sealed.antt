@@ -26,13 +26,16 @@ abbrev IsByte : ℕ → Type 0
 IsByte b = b < 2 ^ 8
 
 pub both_bytes : (xs ys : List ℕ) → AreBytes xs → AreBytes ys → AreBytes (xs ++ ys)
-both_bytes xs ys h k = All-from_recursion IsByte (xs ++ ys) (sums.AreBytes-append xs ys (recursion_from_All IsByte xs h) (recursion_from_All IsByte ys k))
+both_bytes xs ys h k = All-from_recursion IsByte (xs ++ ys)
+    (sums.AreBytes-append xs ys (recursion_from_All IsByte xs h) (recursion_from_All IsByte ys k))
 
-module _ (key : Key) (usage : ℕ) (confounder plain : List ℕ) (long : length key.bytes ≡ key_len key.etype) (whole : length confounder ≡ 16) (bytes : AreBytes (confounder ++ plain)) where
+module _ (key : Key) (usage : ℕ) (confounder plain : List ℕ) (long : length key.bytes ≡ key_len key.etype) (whole : length confounder ≡ 16)
+    (bytes : AreBytes (confounder ++ plain)) where
   tag_1 : is_sha2 key.etype ≡ false → (text : List ℕ) → length (Sha1.tag key usage text) ≡ tag_len key.etype
   unfolding Sha1.tag
   tag_1 other text =
-      length-take-le (tag_len key.etype) (hmac (Sha1.integrity_key key usage) text) (omega (arith, length-hmac (Sha1.integrity_key key usage) text, short_tag key.etype other))
+      length-take-le (tag_len key.etype) (hmac (Sha1.integrity_key key usage) text)
+      (omega (arith, length-hmac (Sha1.integrity_key key usage) text, short_tag key.etype other))
 
   text_1 : length (cts (Sha1.encryption_key key usage) (confounder ++ plain)) ≡ length (confounder ++ plain)
   unfolding Sha1.encryption_key Sha1.usage_key
@@ -48,7 +51,14 @@ module _ (key : Key) (usage : ℕ) (confounder plain : List ℕ) (long : length 
     confounder = confounder;
     whole = whole;
     bytes = bytes;
-    long = omega (arith, length-append (cts (Sha1.encryption_key key usage) (confounder ++ plain)) (Sha1.tag key usage (confounder ++ plain)), text_1, tag_1 other (confounder ++ plain), whole, length-append confounder plain);
+    long = omega (
+      arith,
+      length-append (cts (Sha1.encryption_key key usage) (confounder ++ plain)) (Sha1.tag key usage (confounder ++ plain)),
+      text_1,
+      tag_1 other (confounder ++ plain),
+      whole,
+      length-append confounder plain,
+    );
     is = refl;
   }
 
@@ -60,7 +70,15 @@ module _ (key : Key) (usage : ℕ) (confounder plain : List ℕ) (long : length 
         confounder = confounder;
         whole = whole;
         bytes = bytes;
-        long = omega (arith, length-append text (Sha2.tag key usage text), text_2 is, length-tag key usage text, whole, length-append confounder plain);
+        long = omega (
+          arith,
+          length-append text (Sha2.tag key usage text),
+          text_2 is,
+          length-tag key usage text,
+          whole,
+          length-append confounder
+              plain,
+        );
         is = refl;
       }
 
@@ -69,12 +87,15 @@ module _ (key : Key) (usage : ℕ) (confounder plain : List ℕ) (long : length 
     where
       by_kind : (kind : Bool) → is_sha2 key.etype ≡ kind → IsSealed key usage (sealed key usage confounder plain) plain
       by_kind false other =
-          subst (λ (blob : List ℕ). IsSealed key usage blob plain) (sym (sealed_sha1 key usage confounder plain other)) (from_sha1 key usage (Sha1.sealed key usage confounder plain) plain other (sealed_1 other))
+          subst (λ (blob : List ℕ). IsSealed key usage blob plain) (sym (sealed_sha1 key usage confounder plain other))
+          (from_sha1 key usage (Sha1.sealed key usage confounder plain) plain other (sealed_1 other))
       by_kind true is =
-          subst (λ (blob : List ℕ). IsSealed key usage blob plain) (sym (sealed_sha2 key usage confounder plain is)) (from_sha2 key usage (Sha2.sealed key usage confounder plain) plain is (sealed_2 is))
+          subst (λ (blob : List ℕ). IsSealed key usage blob plain) (sym (sealed_sha2 key usage confounder plain is))
+          (from_sha2 key usage (Sha2.sealed key usage confounder plain) plain is (sealed_2 is))
 
 -- a whole key, wrapped under a whole master key
-pub is_wrapped : (master key : Key) (confounder : List ℕ) → IsWhole master → IsWhole key → length confounder ≡ 16 → AreBytes confounder → Unwraps master key.etype (wrapped master key confounder) key
+pub is_wrapped : (master key : Key) (confounder : List ℕ) → IsWhole master → IsWhole key → length confounder ≡ 16 → AreBytes confounder
+    → Unwraps master key.etype (wrapped master key confounder) key
 unfolding wrapped
 is_wrapped master key confounder m k whole bytes = record {
   of_type = refl;

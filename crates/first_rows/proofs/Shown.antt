@@ -24,7 +24,8 @@ use Rattle.row_keys.specs.Shows.{Shows, ShowsItem}
 use Rattle.row_keys.specs.Wraps.{wrapped_item, wrapped_items}
 use Rattle.row_keys.proofs.Sides.{found_first}
 use Rattle.row_keys.proofs.Whole.{IsWhole}
-use Rattle.first_rows.specs.Creation.{behind_history, behind_master, first_head, first_items, first_princs, first_records, first_rows, first_state, first_wrapped, history_types, master_confounder, master_key_of, own_len, ticket_name, ticket_types}
+use Rattle.first_rows.specs.Creation.{behind_history, behind_master, first_head, first_items, first_princs, first_records, first_rows}
+use Rattle.first_rows.specs.Creation.{first_state, first_wrapped, history_types, master_confounder, master_key_of, own_len, ticket_name, ticket_types}
 use Rattle.first_rows.specs.Parts.{SpecParts}
 use Rattle.first_rows.proofs.Sealed.{is_wrapped}
 use Rattle.first_rows.proofs.Valid.{history_there}
@@ -48,7 +49,8 @@ drawn_shown master w (e ∷ etypes) random le h =
             is_wrapped master key confounder w (drawn_whole e random (omega (arith, sum, le)) h) (length-take-le 16 behind enough)
             (bytes_from confounder (AreBytes-take 16 behind (AreBytes-drop (key_len e) random h)));
       },
-      drawn_shown master w etypes (drop (drawn_len e) random) (omega (arith, sum, le, length-drop (drawn_len e) random)) (AreBytes-drop (drawn_len e) random h),
+      drawn_shown master w etypes (drop (drawn_len e) random) (omega (arith, sum, le, length-drop (drawn_len e) random))
+          (AreBytes-drop (drawn_len e) random h),
     )
 
 own_short : (password : Option (List ℕ)) (etype : Etype) → own_len password etype ≤ 32
@@ -73,7 +75,8 @@ module _ (spec : SpecParts) (now : Moment) (random : List ℕ) (long : length ra
   unfolding own
   master_unwraps =
       let behind = drop (own_len spec.password spec.etype) random in
-      let enough : 16 ≤ length behind = omega (arith, long, own_short spec.password spec.etype, length-drop (own_len spec.password spec.etype) random) in
+      let enough : 16 ≤ length behind = omega
+      (arith, long, own_short spec.password spec.etype, length-drop (own_len spec.password spec.etype) random) in
       is_wrapped key key (master_confounder spec random) whole whole (length-take-le 16 behind enough)
       (bytes_from (master_confounder spec random) (AreBytes-take 16 behind (AreBytes-drop (own_len spec.password spec.etype) random bytes)))
 
@@ -104,13 +107,17 @@ module _ (spec : SpecParts) (now : Moment) (random : List ℕ) (long : length ra
 
   history_is : history_key spec.realm (first_princs spec now.secs random) ≡ Some history
   unfolding history_key first_princs items_of random_keys history
-  history_is = ap (λ (o : Option PlainPrinc). option_and_then (λ (q : PlainPrinc). first_key q.keys) o) (history_there spec.realm now.secs (item_of 1 (master_key_of spec random) ∷ []) (first_items history_types (behind_master spec random)) (first_items ticket_types (behind_history spec random)))
+  history_is = ap (λ (o : Option PlainPrinc). option_and_then (λ (q : PlainPrinc). first_key q.keys) o)
+      (history_there spec.realm now.secs (item_of 1 (master_key_of spec random) ∷ []) (first_items history_types (behind_master spec random))
+      (first_items ticket_types (behind_history spec random)))
 
   entry_there : record_named (master_name spec.realm) (first_records spec now.secs random) ≡ Some (first_record spec.realm key now.secs (master_confounder spec random))
   unfolding record_named first_records first_record key
   entry_there =
       let name = master_name spec.realm in
-      found_first (has_name name) (first_record spec.realm (master_key_of spec random) now.secs (master_confounder spec random)) (first_wrapped key spec.realm (history_name spec.realm) now.secs history_types (behind_master spec random) ∷ first_wrapped key spec.realm (ticket_name spec.realm) now.secs ticket_types (behind_history spec random) ∷ []) (bytes_same name name refl)
+      found_first (has_name name) (first_record spec.realm (master_key_of spec random) now.secs (master_confounder spec random))
+      (first_wrapped key spec.realm (history_name spec.realm) now.secs history_types (behind_master spec random) ∷ first_wrapped key spec.realm
+      (ticket_name spec.realm) now.secs ticket_types (behind_history spec random) ∷ []) (bytes_same name name refl)
 
   pub first_shows : Shows (first_rows spec now random) (first_state spec now random)
   unfolding first_rows first_state first_records first_princs first_record first_head master_of key history
@@ -118,7 +125,11 @@ module _ (spec : SpecParts) (now : Moment) (random : List ℕ) (long : length ra
     history = history;
     history_is = history_is;
     princs = (
-      record { master = key; named = refl; under = record { fields = refl; keys = (record { kvno = refl; salt = refl; holds = master_unwraps }, tt); old = tt } },
+      record {
+        master = key;
+        named = refl;
+        under = record { fields = refl; keys = (record { kvno = refl; salt = refl; holds = master_unwraps }, tt); old = tt };
+      },
       (
         record { master = key; named = refl; under = record { fields = refl; keys = history_shown; old = tt } },
         (record { master = key; named = refl; under = record { fields = refl; keys = ticket_shown; old = tt } }, tt),
@@ -127,5 +138,10 @@ module _ (spec : SpecParts) (now : Moment) (random : List ℕ) (long : length ra
     policies = refl;
     entry = first_record spec.realm key now.secs (master_confounder spec random);
     there = entry_there;
-    chain = record { chain = first_chain spec.realm key now.secs (master_confounder spec random) master_unwraps; part = record { activations = record { version = 1; secs = now.secs } ∷ []; aux = [] }; part_is = refl; activations_are = refl };
+    chain = record {
+      chain = first_chain spec.realm key now.secs (master_confounder spec random) master_unwraps;
+      part = record { activations = record { version = 1; secs = now.secs } ∷ []; aux = [] };
+      part_is = refl;
+      activations_are = refl;
+    };
   }

@@ -15,7 +15,8 @@ use Rattle.plain_keys.specs.declared.items.PlainItem.{PlainItem}
 use Rattle.princ_entries.specs.EntryLaws.{bytes_same}
 use Rattle.princ_record.specs.Policies.{IsPolicy}
 use Rattle.princ_rows.specs.Rows.{in_order, rises_from}
-use Rattle.first_rows.specs.Creation.{behind_history, behind_master, first_head, first_items, first_plain, first_princs, first_state, history_types, master_key_of, ticket_name, ticket_types}
+use Rattle.first_rows.specs.Creation.{behind_history, behind_master, first_head, first_items, first_plain}
+use Rattle.first_rows.specs.Creation.{first_princs, first_state, history_types, master_key_of, ticket_name, ticket_types}
 use Rattle.first_rows.specs.Parts.{IsSpec, SpecParts}
 use Rattle.row_keys.proofs.Sides.{found_first, passed}
 use Rattle.first_rows.proofs.Names.{master_is_other, names_rise}
@@ -27,19 +28,22 @@ active_one secs = rw (le-leb secs secs (omega arith)) refl
 
 module _ (realm : List ℕ) (secs : ℕ) where
   abbrev three : List PlainItem → List PlainItem → List PlainItem → List PlainPrinc
-  three a b c = first_plain realm (master_name realm) secs a ∷ first_plain realm (history_name realm) secs b ∷ first_plain realm (ticket_name realm) secs c ∷ []
+  three a b c = first_plain realm (master_name realm) secs a ∷ first_plain realm (history_name realm) secs b ∷ first_plain realm (ticket_name realm)
+      secs c ∷ []
 
   pub master_there : (a b c : List PlainItem) → princ_named (master_name realm) (three a b c) ≡ Some (first_plain realm (master_name realm) secs a)
   unfolding princ_named first_head
   master_there a b c =
       let name = master_name realm in
-      found_first (is_named name) (first_plain realm name secs a) (first_plain realm (history_name realm) secs b ∷ first_plain realm (ticket_name realm) secs c ∷ []) (bytes_same name name refl)
+      found_first (is_named name) (first_plain realm name secs a)
+      (first_plain realm (history_name realm) secs b ∷ first_plain realm (ticket_name realm) secs c ∷ []) (bytes_same name name refl)
 
   pub history_there : (a b c : List PlainItem) → princ_named (history_name realm) (three a b c) ≡ Some (first_plain realm (history_name realm) secs b)
   unfolding princ_named first_head
   history_there a b c =
       let name = history_name realm in
-      passed (is_named name) (first_plain realm (master_name realm) secs a) (first_plain realm name secs b ∷ first_plain realm (ticket_name realm) secs c ∷ []) (master_is_other realm)
+      passed (is_named name) (first_plain realm (master_name realm) secs a)
+      (first_plain realm name secs b ∷ first_plain realm (ticket_name realm) secs c ∷ []) (master_is_other realm)
       ∙ found_first (is_named name) (first_plain realm name secs b) (first_plain realm (ticket_name realm) secs c ∷ []) (bytes_same name name refl)
 
 module _ (spec : SpecParts) (now : Moment) (random : List ℕ) where
@@ -73,11 +77,22 @@ module _ (spec : SpecParts) (now : Moment) (random : List ℕ) where
         policies = All-nil IsPolicy;
         policies_there = All-from_recursion (HasItsPolicy []) s.princs (tt, (tt, (tt, tt)));
         falling = All-from_recursion Falls s.princs (refl, (refl, (refl, tt)));
-        masters = record { entry = first_plain spec.realm (master_name spec.realm) now.secs own; there = master_there spec.realm now.secs own history tickets; keys = refl; newest = refl };
+        masters = record {
+          entry = first_plain spec.realm (master_name spec.realm) now.secs own;
+          there = master_there spec.realm now.secs own
+              history tickets;
+          keys = refl;
+          newest = refl;
+        };
         masters_rise = rising_one 1;
         listed = All-from_recursion IsUnderFirst s.princs (refl, (refl, (refl, tt)));
         activations = All-from_recursion IsOfFirst s.activations (refl, tt);
         activations_rise = rising_one 1;
         begun = ap is_some (active_one now.secs);
-        history = record { entry = first_plain spec.realm (history_name spec.realm) now.secs history; there = history_there spec.realm now.secs own history tickets; one = refl };
+        history = record {
+          entry = first_plain spec.realm (history_name spec.realm) now.secs history;
+          there = history_there spec.realm now.secs own
+              history tickets;
+          one = refl;
+        };
       }

@@ -1,5 +1,6 @@
 -- The keys of a creation have as many bytes as their types ask.
-use Rattle.std.proofs.Common.{◌≡◌, ℕ, zero, suc, ◌<◌, ◌≤◌, ◌^◌, ◌∙◌, Bool, true, false, List, [], ◌∷◌, ◌++◌, codes, length, take, Option, Some, None, refl, ap, length-append, arith}
+use Rattle.std.proofs.Common.{◌≡◌, ℕ, zero, suc, ◌<◌, ◌≤◌, ◌^◌, ◌∙◌, Bool, true, false, List}
+use Rattle.std.proofs.Common.{[], ◌∷◌, ◌++◌, codes, length, take, Option, Some, None, refl, ap, length-append, arith}
 use Rattle.std.specs.List.{fold}
 use Rattle.std.proofs.lemmas.List.{length-take-le}
 use Rattle.std.proofs.lemmas.List.Elements.{All-from_recursion, recursion_from_All}
@@ -95,7 +96,8 @@ made_32 password salt count le =
       bytes = AreBytes-take 32 (a ++ (b ++ [])) (AreBytes-append a (b ++ []) f.bytes (AreBytes-append b [] g.bytes tt));
     }
 
-made_text : (etype : Etype) (password salt : List ℕ) (count : ℕ) → is_sha2 etype ≡ false → 1 ≤ count → IsText (key_len etype) (pbkdf2 password salt count (key_len etype))
+made_text : (etype : Etype) (password salt : List ℕ) (count : ℕ) → is_sha2 etype ≡ false → 1 ≤ count
+    → IsText (key_len etype) (pbkdf2 password salt count (key_len etype))
 made_text Aes128 password salt count other le = made_16 password salt count le
 made_text Aes256 password salt count other le = made_32 password salt count le
 made_text Aes128Sha2 password salt count other le = absurd cc
@@ -103,15 +105,24 @@ made_text Aes256Sha2 password salt count other le = absurd cc
 
 -- ---- the keys of passwords
 
-derived_len : (etype : Etype) (bytes constant : List ℕ) → length bytes ≡ key_len etype → length (Sha1.derived (record { etype = etype; bytes = bytes }) constant) ≡ key_len etype
+derived_len : (etype : Etype) (bytes constant : List ℕ) → length bytes ≡ key_len etype
+    → length (Sha1.derived (record { etype = etype; bytes = bytes }) constant) ≡ key_len etype
 unfolding Sha1.derived Sha1.stream
 derived_len etype bytes constant long =
     let is_long = long_key etype bytes long in
     let first = cipher bytes (n_folded constant 16) in
     length-take-le (key_len etype) (first ++ cipher bytes first)
-    (omega (arith, length-append first (cipher bytes first), length-cipher_at bytes (n_folded constant 16) is_long, length-cipher_at bytes first is_long, key_fits etype))
+    (omega (
+      arith,
+      length-append first (cipher bytes first),
+      length-cipher_at bytes (n_folded constant 16) is_long,
+      length-cipher_at bytes first
+          is_long,
+      key_fits etype,
+    ))
 
-string_text_1 : (etype : Etype) (password salt : List ℕ) (count : ℕ) → is_sha2 etype ≡ false → 1 ≤ count → IsText (key_len etype) (Sha1.string_key etype password salt count)
+string_text_1 : (etype : Etype) (password salt : List ℕ) (count : ℕ) → is_sha2 etype ≡ false → 1 ≤ count
+    → IsText (key_len etype) (Sha1.string_key etype password salt count)
 unfolding Sha1.string_key
 string_text_1 etype password salt count other le =
     let made = pbkdf2 password salt count (key_len etype) in
@@ -131,7 +142,8 @@ kdf_len : (etype : Etype) (key label : List ℕ) → is_sha2 etype ≡ true → 
 unfolding kdf
 kdf_len etype key label is = length-take-le (key_len etype) _ (omega (arith, length-hmac_of etype key, key_inside etype is))
 
-string_text_2 : (etype : Etype) (password salt : List ℕ) (count : ℕ) → is_sha2 etype ≡ true → IsText (key_len etype) (Sha2.string_key etype password salt count)
+string_text_2 : (etype : Etype) (password salt : List ℕ) (count : ℕ) → is_sha2 etype ≡ true
+    → IsText (key_len etype) (Sha2.string_key etype password salt count)
 unfolding Sha2.string_key
 string_text_2 etype password salt count is =
     let made = pbkdf2_of etype password (salt_name etype ++ 0 ∷ salt) count (key_len etype) in
@@ -166,10 +178,16 @@ pub bytes_from : (random : List ℕ) → AreRandom random → blocks_of.AreBytes
 bytes_from random h = All-from_recursion IsByte random h
 
 -- a random key
-pub drawn_whole : (etype : Etype) (random : List ℕ) → key_len etype ≤ length random → AreRandom random → IsWhole (record { etype = etype; bytes = take (key_len etype) random })
-drawn_whole etype random le h = record { long = length-take-le (key_len etype) random le; bytes = bytes_from (take (key_len etype) random) (AreBytes-take (key_len etype) random h) }
+pub drawn_whole : (etype : Etype) (random : List ℕ) → key_len etype ≤ length random → AreRandom random
+    → IsWhole (record { etype = etype; bytes = take (key_len etype) random })
+drawn_whole etype random le h = record {
+  long = length-take-le (key_len etype) random le;
+  bytes = bytes_from (take (key_len etype) random)
+      (AreBytes-take (key_len etype) random h);
+}
 
-pub master_whole : (password : Option (List ℕ)) (realm : List ℕ) (etype : Etype) (random : List ℕ) → 32 ≤ length random → AreRandom random → IsWhole (master_key_from password realm etype random)
+pub master_whole : (password : Option (List ℕ)) (realm : List ℕ) (etype : Etype) (random : List ℕ) → 32 ≤ length random → AreRandom random
+    → IsWhole (master_key_from password realm etype random)
 master_whole None realm etype random le h = drawn_whole etype random (omega (arith, key_fits etype, le)) h
 master_whole (Some password) realm etype random le h =
     let f = string_text etype password (master_salt realm) (product_rounds etype) (some_rounds etype) in
