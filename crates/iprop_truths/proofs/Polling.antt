@@ -1,9 +1,12 @@
 -- A poll's reply is true where what is held leads on, and its updates stand behind a serial.
-use Rattle.std.proofs.Common.{◌≡◌, ℕ, suc, ◌+◌, ◌-◌, Bool, true, false, List, [], ◌∷◌, length, drop, Option, Some, None, refl, ap, subst, ◌∙◌, arith}
+use Rattle.std.proofs.Common.{◌≡◌, ◌≢◌, ℕ, suc, ◌+◌, ◌-◌, inl, inr, Bool, true, false, List, [], ◌∷◌, length, drop, Option, Some, None, refl, sym, ap, subst, ◌∙◌, arith}
 use Rattle.std.specs.Prelude.{if◌then◌else◌}
-use Rattle.iprop_reply.proofs.Serials.{found, point_is, runs_by}
+use Rattle.std.specs.List.{All}
+use Rattle.std.proofs.lemmas.Bool.{true≢false}
+use Rattle.std.proofs.lemmas.List.Elements.{All-cons, All-nil}
+use Rattle.iprop_reply.proofs.Serials.{found, point_is, point_same, runs_by}
 use Rattle.iprop_reply.specs.Polls.{AreHeld, is_point, updates_after}
-use Rattle.iprop_truths.specs.Polls.{poll_reply, told_of}
+use Rattle.iprop_truths.specs.Polls.{WantsDump, poll_reply, told_of}
 use Rattle.iprop_truths.specs.Truths.{GoesOn, HoldsFrom, Reply, IsTrueOf}
 use Rattle.kdb_base.specs.declared.moments.Point.{Point}
 use Rattle.kdb_places.specs.Places.{Place, Contents}
@@ -74,3 +77,34 @@ updates_behind first last asked entries us held f =
     let found_at = (found first.sno asked entries us (runs_by first.sno entries held.serials) f).count in
     let same : b.before ≡ asked.sno + 1 - first.sno = omega arith in
     b.is ∙ ap (λ (k : ℕ). drop k entries) same
+
+-- ---- a dump is wanted
+
+lost_by : (asked : Point) (e : Entry) (entries : List Entry) (here : Bool) → is_point e.point asked ≡ here
+    → (updates_after asked entries ≡ None → All (λ (x : Entry). x.point ≢ asked) entries)
+    → (if here then Some entries else updates_after asked entries) ≡ None
+    → All (λ (x : Entry). x.point ≢ asked) (e ∷ entries)
+lost_by asked e entries true is others f = absurd cc
+lost_by asked e entries false is others f =
+    let other : e.point ≢ asked =
+    λ (same : e.point ≡ asked). true≢false (sym (point_same e.point asked (ap (λ (x : Point). x.sno) same) (ap (λ (x : Point). x.time) same)) ∙ is) in
+    All-cons (λ (x : Entry). x.point ≢ asked) e entries other (others f)
+
+lost : (asked : Point) (entries : List Entry) → updates_after asked entries ≡ None → All (λ (x : Entry). x.point ≢ asked) entries
+unfolding updates_after
+lost asked [] f = All-nil (λ (x : Entry). x.point ≢ asked)
+lost asked (e ∷ entries) f = lost_by asked e entries (is_point e.point asked) refl (λ g. lost asked entries g) f
+
+wanted_by : (busy : Bool) (asked : Point) (held : List Entry) (updates : Option (List Entry)) → updates_after asked held ≡ updates
+    → WantsDump (told_of busy asked updates).code → All (λ (x : Entry). x.point ≢ asked) held
+wanted_by busy asked held None is wants = lost asked held is
+wanted_by busy asked held (Some []) is (inl code) = absurd (omega (arith, code))
+wanted_by busy asked held (Some []) is (inr code) = absurd (omega (arith, code))
+wanted_by busy asked held (Some (u ∷ us)) is (inl code) = absurd (omega (arith, code))
+wanted_by busy asked held (Some (u ∷ us)) is (inr code) = absurd (omega (arith, code))
+
+pub wanted : (denied busy : Bool) (asked : Point) (held : List Entry) → WantsDump (poll_reply denied busy asked held).code
+    → All (λ (x : Entry). x.point ≢ asked) held
+wanted true busy asked held (inl code) = absurd (omega (arith, code))
+wanted true busy asked held (inr code) = absurd (omega (arith, code))
+wanted false busy asked held wants = wanted_by busy asked held (updates_after asked held) refl wants

@@ -1,5 +1,5 @@
 -- What a poll is told by who holds these entries (the codes of MIT's iprop.x).
-use Rattle.std.specs.Prelude.{ℕ, Bool, List, [], Option, Some, None, if◌then◌else◌}
+use Rattle.std.specs.Prelude.{ℕ, ◌≡◌, ◌⊎◌, Bool, List, [], Option, Some, None, if◌then◌else◌}
 use Rattle.iprop_reply.specs.Polls.{status_of, updates_after}
 use Rattle.iprop_reply.specs.declared.status.Status4.{Status4}
 use Rattle.iprop_reply.specs.declared.status.Status4.TheVariants as status
@@ -32,6 +32,10 @@ abbrev pub code_of : Bool → Status4 → ℕ
 code_of busy status.Ok = updates_here
 code_of busy status.Nil = nothing_new
 code_of busy status.Resync = if busy then dumps_busy else resync_needed
+
+-- a dump is wanted, whether one can be begun or not
+abbrev pub WantsDump : ℕ → Type 0
+WantsDump code = (code ≡ resync_needed) ⊎ (code ≡ dumps_busy)
 
 -- ---- replies
 

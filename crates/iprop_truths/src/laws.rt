@@ -1,9 +1,10 @@
 //! Laws of what is told. They do no work.
 
-ghost use Rattle.std.specs.Prelude.{◌≡◌, ◌<◌, ◌+◌, ◌-◌, ◌++◌, ℕ, Bool, List, [], ◌∷◌, drop, Some};
+ghost use Rattle.std.specs.Prelude.{◌≡◌, ◌≢◌, ◌<◌, ◌+◌, ◌-◌, ◌++◌, ℕ, Bool, List, [], ◌∷◌, drop, Some};
+ghost use Rattle.std.specs.List.{All};
 ghost use Rattle.iprop_reply.specs.Polls.{AreHeld, updates_after};
 ghost use Rattle.iprop_truths.specs.Blocks.{block_for};
-ghost use Rattle.iprop_truths.specs.Polls.{poll_reply};
+ghost use Rattle.iprop_truths.specs.Polls.{WantsDump, poll_reply};
 ghost use Rattle.iprop_truths.specs.Truths.{Has, IsNext, Makes, HoldsFrom, Message, Reply, IsTrueOf};
 ghost use Rattle.kdb_base.specs.declared.moments.Point.{Point};
 ghost use Rattle.kdb_places.specs.Places.{Place, Contents, base_marker, last_entries};
@@ -14,6 +15,11 @@ ghost use Rattle.princ_entries.specs.declared.entries.Op.{Op};
 /// Where what is held leads on from a place, the reply to every poll is true of the places.
 pub fn polls_are_told_the_truth()
     ensures { (places : List Place) (denied busy : Bool) (asked : Point) (held : List Entry) (c : Contents) → HoldsFrom places held c → IsTrueOf places (Reply (poll_reply denied busy asked held)) }
+{}
+
+/// A poll is told to take a dump only where no entry that is held has its point.
+pub fn dumps_are_wanted_for_lost_points()
+    ensures { (denied busy : Bool) (asked : Point) (held : List Entry) → WantsDump (poll_reply denied busy asked held).code → All (λ (e : Entry). e.point ≢ asked) held }
 {}
 
 /// What is true of places stays true of more of them.

@@ -11,8 +11,9 @@ use Rattle.kdb_base.specs.declared.moments.Point.{Point}
 use Rattle.kdb_histories.proofs.Entries.{last_more, one_entry}
 use Rattle.kdb_histories.proofs.Times.{before_all, next_behind}
 use Rattle.kdb_histories.specs.Asks.{Ask, state_by}
-use Rattle.kdb_histories.specs.Histories.{HasRoom, HoldsUpTo, IsLater, IsStory}
+use Rattle.kdb_histories.specs.Histories.{HasRoom, HoldsUpTo, IsLater, IsStory, all_seen}
 use Rattle.kdb_histories.specs.Moves.{IsChange, IsLoad, IsReset, IsRestash, Moves}
+use Rattle.kdb_histories.specs.Seen.{Seen, seen}
 use Rattle.kdb_histories.specs.Stages.{Deed, Filled, Did, Anew, Stashed, ShowsAt, Stage, entries_after, epoch, fold, places, state_after}
 use Rattle.kdb_model.specs.Laws.{at_point}
 use Rattle.kdb_places.proofs.Points.{committed_point, first_point}
@@ -41,15 +42,15 @@ shows_at rows point s h = record {
   chain = record { chain = h.chain.chain; part = h.chain.part; part_is = h.chain.part_is; activations_are = h.chain.activations_are };
 }
 
-pub later_all : (p q r : Place) → IsLater p q → IsLater q r → IsLater p r
-later_all p q r (inl a) (inl b) = inl (before_all (point_of p) (point_of q) (point_of r) a b)
-later_all p q r (inl a) (inr f) = inl (subst (λ x. ComesBefore (point_of p) x) (sym (ap (λ c. c.point) f)) a)
-later_all p q r (inr e) (inl b) = inl (subst (λ x. ComesBefore x (point_of r)) (ap (λ c. c.point) e) b)
-later_all p q r (inr e) (inr f) = inr (f ∙ e)
+pub later_all : (a b c : Seen) → IsLater a b → IsLater b c → IsLater a c
+later_all a b c (inl x) (inl y) = inl (before_all (point_of a.place) (point_of b.place) (point_of c.place) x y)
+later_all a b c (inl x) (inr y) = inl (subst (λ p. ComesBefore (point_of a.place) p) (sym (ap (λ d. d.point) y.0)) x)
+later_all a b c (inr x) (inl y) = inl (subst (λ p. ComesBefore p (point_of c.place)) (ap (λ d. d.point) x.0) y)
+later_all a b c (inr x) (inr y) = inr (y.0 ∙ x.0, y.1 ∙ x.1)
 
 -- the next place, where these entries came since the last base marker
 record Grows (p : Place) (older : List Place) (before : State) (entries : List Entry) (deed : Deed) (q : Place) : Type 0 where
-  later : IsLater p q
+  later : IsLater (seen p before) (seen q (state_after deed (point_of q) before))
   sized : 0 < q.size
   held : HoldsFrom (q ∷ p ∷ older) q.held (contents_of q)
   shows : ShowsAt q (state_after deed (point_of q) before)
@@ -139,7 +140,7 @@ module _ (valid : StaysValid) (p : Place) (older : List Place) (before : State) 
   restash q h =
       let q1 = restashed h.bytes p in
       subst (Grows p older before entries Stashed) (sym h.is) (record {
-        later = inr refl;
+        later = inr (refl, refl);
         sized = sized;
         held = holds_more q1 (p ∷ older) p.held (contents_of p) held;
         shows = record { realm = shows.realm; at = shows.at; shows = shows.shows; valid = shows.valid };
@@ -160,25 +161,27 @@ all_hold_more q places some h =
     All-weaker (HoldsUpTo places) (HoldsUpTo (q ∷ places)) (λ p leads. holds_more q places p.held (contents_of p) leads) some h
 
 -- a place that is later than the last one is later than all
-later_than_all : (q p : Place) (older : List Place) → IsLater p q → All (λ r. IsLater r p) older → All (λ r. IsLater r q) (p ∷ older)
-later_than_all q p older later h =
-    All-cons (λ r. IsLater r q) p older later (All-weaker (λ r. IsLater r p) (λ r. IsLater r q) (λ r earlier. later_all r p q earlier later) older h)
+later_than_all : (c b : Seen) (older : List Seen) → IsLater b c → All (λ a. IsLater a b) older → All (λ a. IsLater a c) (b ∷ older)
+later_than_all c b older later h =
+    All-cons (λ a. IsLater a c) b older later (All-weaker (λ a. IsLater a b) (λ a. IsLater a c) (λ a earlier. later_all a b c earlier later) older h)
 
 -- a move from the last place of a story makes another
 pub story_grows : (valid : StaysValid) (t u : Stage) (older : List Stage) → IsStory (t ∷ older) → Moves t.place (fold (t ∷ older)) u.deed u.place
     → IsStory (u ∷ t ∷ older)
 story_grows valid t u older h moves =
     let good = h.good in
-    let here = good.rising in
+    let here = h.rising in
     let then_ = h.folded in
     let full = h.full in
     let sized = All-head HasRoom t.place (places older) good.sized in
     let held = All-head (HoldsUpTo (t.place ∷ places older)) t.place (places older) good.held in
     let g = grows valid t.place (places older) (fold (t ∷ older)) (epoch (t ∷ older)) sized held then_.0 full.0 u.deed u.place moves in
     let before = t.place ∷ places older in
+    let now = seen u.place (fold (u ∷ t ∷ older)) in
+    let last = seen t.place (fold (t ∷ older)) in
     record {
+      rising = (later_than_all now last (all_seen older) g.later here.0, here);
       good = record {
-        rising = (later_than_all u.place t.place (places older) g.later here.0, here);
         held = All-cons (HoldsUpTo (u.place ∷ before)) u.place before g.held (all_hold_more u.place before before good.held);
         sized = All-cons HasRoom u.place before g.sized good.sized;
       };

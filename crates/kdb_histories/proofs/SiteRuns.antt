@@ -1,13 +1,15 @@
 -- What holds of a primary after every run.
 use Rattle.std.proofs.Common.{◌≡◌, ℕ, ◌<◌, inl, Bool, List, [], ◌∷◌, ◌++◌, length, Option, Some, None, refl, sym, ◌∙◌, ap, subst}
 use Rattle.std.specs.Prelude.{take}
-use Rattle.std.proofs.lemmas.List.Elements.{All-cons, All-head, All-nil, All-weaker}
+use Rattle.std.proofs.lemmas.List.Elements.{All-cons, All-head, All-nil, All-tail, All-weaker}
+use Rattle.std.specs.List.{All}
 use Rattle.iprop_truths.proofs.Leading.{true_more}
 use Rattle.iprop_truths.proofs.Members.{contains_first}
 use Rattle.iprop_truths.proofs.Polling.{poll_true}
 use Rattle.iprop_truths.specs.Polls.{poll_reply}
 use Rattle.iprop_truths.specs.Pulling.{denies_pull}
 use Rattle.iprop_truths.specs.Truths.{AreTrue, Dumped, HoldsFrom, IsTrueOf, Message, Reply}
+use Rattle.kdb_base.specs.Moment.{Moment}
 use Rattle.kdb_base.specs.Moments.{ComesBefore, micros}
 use Rattle.kdb_base.specs.declared.moments.Point.{Point}
 use Rattle.kdb_histories.proofs.Entries.{one_entry}
@@ -16,8 +18,9 @@ use Rattle.kdb_histories.proofs.Growing.{StaysValid, all_hold_more, story_grows}
 use Rattle.kdb_histories.proofs.Paths.{call_path, path_front}
 use Rattle.kdb_histories.specs.Asks.{Answer}
 use Rattle.kdb_histories.specs.Calls.{Call, CallMakes}
-use Rattle.kdb_histories.specs.Histories.{HasRoom, HoldsUpTo, IsCreation, IsLater, IsStory}
+use Rattle.kdb_histories.specs.Histories.{HasRoom, HoldsUpTo, IsCreation, IsLater, IsStory, all_seen}
 use Rattle.kdb_histories.specs.Moves.{IsPath}
+use Rattle.kdb_histories.specs.Seen.{Seen, seen}
 use Rattle.kdb_histories.specs.Sites.{Site, SiteEvent, Creates, Calls, Stops, Crashes, Ends, Looks, Polls, Dumps, EndsDump, HappensAt, SiteHolds, SiteRun, also, clock_at, is_busy, no_site, story_of}
 use Rattle.kdb_histories.specs.Stages.{Filled, ShowsAt, Stage, fold, onto, places, stage}
 use Rattle.kdb_model.specs.Laws.{IsMoment}
@@ -44,7 +47,7 @@ path_told valid (u ∷ made) t older sent h path =
     record { story = story_grows valid t u older h.story path.0; told = told_more u.place (t.place ∷ places older) sent h.told } in
     path_told valid made u (t ∷ older) sent next path.1
 
-onto_rest : (made history ended : List Stage) → onto made (history ++ ended) ≡ onto made history ++ ended
+pub onto_rest : (made history ended : List Stage) → onto made (history ++ ended) ≡ onto made history ++ ended
 onto_rest [] history ended = refl
 onto_rest (t ∷ made) history ended = onto_rest made (t ∷ history) ended
 
@@ -83,6 +86,14 @@ whole_is (t ∷ made) = ap (λ (x : List Stage). t ∷ x) (whole_is made)
 
 -- ---- a creation
 
+seen_before : (stages : List Stage) (time : Moment) → All (λ p. micros (point_of p).time < micros time) (places stages)
+    → All (λ (a : Seen). micros (point_of a.place).time < micros time) (all_seen stages)
+seen_before [] time h = All-nil (λ (a : Seen). micros (point_of a.place).time < micros time)
+seen_before (t ∷ older) time h =
+    All-cons (λ (a : Seen). micros (point_of a.place).time < micros time) (seen t.place (fold (t ∷ older))) (all_seen older)
+    (All-head (λ p. micros (point_of p).time < micros time) t.place (places older) h)
+    (seen_before older time (All-tail (λ p. micros (point_of p).time < micros time) t.place (places older) h))
+
 created_told : (t : Stage) (older : List Stage) (sent : List Message) → IsCreation (places older) t → Told older sent → Told (t ∷ older) sent
 created_told t older sent c h =
     let q = created c.realm c.rows c.point c.size c.block c.stash c.format in
@@ -96,14 +107,15 @@ created_told t older sent c h =
     let shown : ShowsAt q c.state = record { realm = c.same; at = c.at ∙ sym at; shows = c.shows; valid = valid } in
     let marked = ap (λ (x : Point). last_entries c.size (base_marker x ∷ [])) (sym at) in
     let full : q.held ≡ last_entries c.size (base_marker (point_of q) ∷ []) = sym (one_entry c.size (base_marker c.point) c.some) ∙ marked in
+    let IsBefore : Seen → Type 0 = λ a. micros (point_of a.place).time < micros c.point.time in
     let new : Told (s ∷ older) sent = record {
       story = record {
+        rising = (
+          All-weaker IsBefore (λ a. IsLater a (seen q c.state)) (λ a lt. inl (subst (λ (x : Point). ComesBefore (point_of a.place) x) (sym at) (inl lt)))
+              (all_seen older) (seen_before older c.point.time c.later),
+          h.story.rising,
+        );
         good = record {
-          rising = (
-            All-weaker (λ p. micros (point_of p).time < micros c.point.time) (λ p. IsLater p q)
-                (λ p lt. inl (subst (λ (x : Point). ComesBefore (point_of p) x) (sym at) (inl lt))) (places older) c.later,
-            good.rising,
-          );
           held = All-cons (HoldsUpTo (q ∷ places older)) q (places older) holds (all_hold_more q (places older) (places older) good.held);
           sized = All-cons HasRoom q (places older) c.some good.sized;
         };
@@ -172,7 +184,7 @@ event_told valid EndsDump old new sent said h e = silent (story_of new) sent sai
 
 -- ---- runs
 
-event_holds : (valid : StaysValid) (event : SiteEvent) (old new : Site) (sent : List Message) (said : Option Message) → SiteHolds old sent
+pub event_holds : (valid : StaysValid) (event : SiteEvent) (old new : Site) (sent : List Message) (said : Option Message) → SiteHolds old sent
     → HappensAt event old new said
     → SiteHolds new (also said sent)
 event_holds valid event old new sent said h e =
@@ -186,11 +198,12 @@ run_holds valid [] old new sent all h run =
 run_holds valid (event ∷ events) old new sent all h run =
     run_holds valid events run.0 new (also run.1 sent) all (event_holds valid event old run.0 sent run.1 h run.2) run.3
 
-nothing_holds : SiteHolds no_site []
+pub nothing_holds : SiteHolds no_site []
 nothing_holds = record {
   fresh = tt;
   story = record {
-    good = record { rising = tt; held = All-nil (HoldsUpTo []); sized = All-nil HasRoom };
+    rising = tt;
+    good = record { held = All-nil (HoldsUpTo []); sized = All-nil HasRoom };
     folded = tt;
     full = tt;
   };

@@ -1,9 +1,10 @@
 -- What holds of all places that there ever were, and of what made them, the newest first.
-use Rattle.std.specs.Prelude.{ℕ, ◌≡◌, ◌<◌, ◌⊎◌, List, [], ◌∷◌, Option}
+use Rattle.std.specs.Prelude.{ℕ, ◌≡◌, ◌<◌, ◌⊎◌, List, [], ◌∷◌, Contains, Option}
 use Rattle.std.specs.List.{All}
 use Rattle.iprop_truths.specs.Truths.{HoldsFrom}
 use Rattle.kdb_base.specs.Moments.{ComesBefore, micros}
 use Rattle.kdb_base.specs.declared.moments.Point.{Point}
+use Rattle.kdb_histories.specs.Seen.{Seen, seen}
 use Rattle.kdb_histories.specs.Stages.{Filled, Stage, ShowsAt, epoch, fold, places}
 use Rattle.kdb_places.specs.Places.{Place, contents_of, created, last_entries, point_of}
 use Rattle.kdb_plain.specs.States.{IsValid}
@@ -11,14 +12,24 @@ use Rattle.kdb_plain.specs.declared.states.State.{State}
 use Rattle.princ_rows.specs.Rows.{RowLists}
 use Rattle.row_keys.specs.Shows.{Shows}
 
--- at a later point, or with the same contents
-abbrev pub IsLater : Place → Place → Type 0
-IsLater p q = ComesBefore (point_of p) (point_of q) ⊎ (contents_of q ≡ contents_of p)
+-- each place, with what all deeds up to it come to
+abbrev pub all_seen : List Stage → List Seen
+all_seen [] = []
+all_seen (t ∷ older) = seen t.place (fold (t ∷ older)) ∷ all_seen older
+
+-- at a later point, or with the same contents and the same state
+abbrev pub IsLater : Seen → Seen → Type 0
+IsLater a b = ComesBefore (point_of a.place) (point_of b.place) ⊎ ((contents_of b.place ≡ contents_of a.place) × (b.state ≡ a.state))
 
 -- each is later than all before it
-abbrev pub IsRising : List Place → Type 0
+abbrev pub IsRising : List Seen → Type 0
 IsRising [] = Unit {0}
-IsRising (q ∷ older) = All (λ p. IsLater p q) older × IsRising older
+IsRising (b ∷ older) = All (λ a. IsLater a b) older × IsRising older
+
+-- A point names one contents and one state.
+abbrev pub IsOneSeen : List Seen → Type 0
+IsOneSeen all = (a b : Seen) → Contains all a → Contains all b → point_of a.place ≡ point_of b.place
+    → (contents_of a.place ≡ contents_of b.place) × (a.state ≡ b.state)
 
 -- what the place holds leads up to it
 abbrev pub HoldsUpTo : List Place → Place → Type 0
@@ -28,9 +39,8 @@ HoldsUpTo places p = HoldsFrom places p.held (contents_of p)
 abbrev pub HasRoom : Place → Type 0
 HasRoom p = 0 < p.size
 
--- Points rise, what a place holds leads from place to place up to it, and some entry may be held.
+-- What a place holds leads from place to place up to it, and some entry may be held.
 pub record IsGood (places : List Place) : Type 0 where
-  pub rising : IsRising places
   pub held : All (HoldsUpTo places) places
   pub sized : All HasRoom places
 
@@ -63,7 +73,9 @@ abbrev pub IsHeldInFull : List Stage → Type 0
 IsHeldInFull [] = Unit {0}
 IsHeldInFull (t ∷ older) = (t.place.held ≡ last_entries t.place.size (epoch (t ∷ older))) × IsHeldInFull older
 
+-- Points rise, and all this holds.
 pub record IsStory (stages : List Stage) : Type 0 where
+  pub rising : IsRising (all_seen stages)
   pub good : IsGood (places stages)
   pub folded : IsFolded stages
   pub full : IsHeldInFull stages

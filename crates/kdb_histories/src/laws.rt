@@ -6,8 +6,9 @@ ghost use Rattle.iprop_truths.specs.Truths.{IsOnePerPoint, Message};
 ghost use Rattle.kdb_histories.specs.Asks.{Answer, Ask, Enters, outcome, state_by};
 ghost use Rattle.kdb_histories.specs.Bridges.{IsReturned, IsStopped};
 ghost use Rattle.kdb_histories.specs.Calls.{Call, CallMakes, Performs, ResetCause};
+ghost use Rattle.kdb_histories.specs.Histories.{IsOneSeen, all_seen};
 ghost use Rattle.kdb_histories.specs.Leaving.{Does, MayReach};
-ghost use Rattle.kdb_histories.specs.Sites.{Site, SiteEvent, SiteHolds, SiteRun, Stands, clock_at, no_site, places_of, state_of, wants_open};
+ghost use Rattle.kdb_histories.specs.Sites.{Site, SiteEvent, SiteHolds, SiteRun, Stands, clock_at, no_site, places_of, state_of, story_of, wants_open};
 ghost use Rattle.kdb_histories.specs.Seen.{outcome_at, seen};
 ghost use Rattle.kdb_histories.specs.Stages.{Anew, ShowsAt, Stage, fold, onto};
 ghost use Rattle.kdb_model.specs.Laws.{IsMoment};
@@ -24,9 +25,10 @@ pub fn changes_lead_to_their_states()
 
 /// The law of a primary's history. After every list of events, crashes and destroys among them: points have risen; the
 /// rows of each place show what all changes up to it come to; each place holds the entries since its base marker in
-/// full; every message that was sent is true of the places; and a point names the contents of one place.
+/// full; every message that was sent is true of the places; and a point names one contents and one state.
 pub fn primary_law()
     ensures holds { (events : List SiteEvent) (s : Site) (sent : List Message) → SiteRun no_site [] events s sent → SiteHolds s sent }
+    ensures states { (events : List SiteEvent) (s : Site) (sent : List Message) → SiteRun no_site [] events s sent → IsOneSeen (all_seen (story_of s)) }
     ensures one { (events : List SiteEvent) (s : Site) (sent : List Message) → SiteRun no_site [] events s sent → IsOnePerPoint (places_of s) }
 {
     valid_later();

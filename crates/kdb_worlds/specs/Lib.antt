@@ -1,0 +1,3 @@
+pub mod Worlds
+pub mod Lawful
+pub mod Examples
