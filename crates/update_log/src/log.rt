@@ -88,7 +88,11 @@ pub(crate) fn marker_body(alloc: Global, base: &Point, block: u32) -> Result<Vec
 }
 
 // The base marker alone, with room for the entry that comes next, where one is to come.
-pub(crate) fn queue_of(alloc: Global, base: &Point, with_next: bool) -> Result<VecDeque<Logged>, MemoryOut>
+pub(crate) fn queue_of(
+    alloc: Global,
+    base: &Point,
+    with_next: bool,
+) -> Result<VecDeque<Logged>, MemoryOut>
     ensures items { IfOk result (λ held. held.items ≡ marker_of base.now ∷ []) }
     ensures len { IfOk result (λ held. deque_len held ≡ 1) }
     ensures room { IfOk result (λ held. IsTrue with_next → 2 ≤ deque_capacity held) }
