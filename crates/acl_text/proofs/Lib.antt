@@ -3,3 +3,6 @@ pub mod TargetLemmas
 pub mod RuleLemmas
 pub mod BitLemmas
 pub mod LimitLemmas
+pub mod Attributes
+pub mod LimitsFit
+pub mod RulesFit

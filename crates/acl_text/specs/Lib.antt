@@ -8,3 +8,4 @@ pub mod Restricting
 pub mod Joining
 pub mod Reading
 pub mod Answers
+pub mod Limits

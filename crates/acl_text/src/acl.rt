@@ -1,7 +1,8 @@
-ghost use Rattle.std.specs.Prelude.{List, ℕ, ◌≡◌, ◌<◌, Err, IfOk, Ok, find, length, option_map};
+ghost use Rattle.std.specs.Prelude.{List, ℕ, ◌≡◌, ◌<◌, Err, IfOk, IfSome, Ok, find, length, option_map};
 ghost use Rattle.acl_text.specs.Answers.{AnswersFault, AnswersRules};
 ghost use Rattle.acl_text.specs.Decisions.{applies, decision};
 ghost use Rattle.acl_text.specs.Letters.{grants};
+ghost use Rattle.acl_text.specs.Limits.{IsLimits};
 ghost use Rattle.acl_text.specs.Rules.{rules_in};
 ghost use Rattle.acl_text.specs.declared.rules.AclLine.{AclLine as Rule};
 
@@ -22,11 +23,15 @@ pub struct Acl {
 
 impl Model for Acl {
     ghost use Rattle.std.specs.Prelude.{List};
+    ghost use Rattle.std.specs.List.{All};
+    ghost use Rattle.acl_text.specs.Limits.{HasLimits};
     ghost use Rattle.acl_text.specs.declared.rules.AclLine.{AclLine};
 
     ghost Value = { List AclLine };
 
     ghost view = { λ acl. acl.lines.items };
+
+    ghost invariant = { λ acl. All HasLimits acl.lines.items };
 }
 
 /// What the rules say of an operation.
@@ -82,12 +87,13 @@ impl Acl {
     }
 
     /// What the rules say of an operation of a client on a target, where it has one. The letters are those of
-    /// the rules; no other is granted.
+    /// the rules; no other is granted. Restrictions force only what a principal may have.
     #[tactic(auto, unfolding(crate::specs::Decisions::decision))]
     pub fn decide(&self, client: &Name, letter: u8, target: Option<&Name>) -> Verdict<'_>
         ensures line { result.line ≡ (decision self.now client.now letter (option_map (λ t. t.now) target.entry)).line }
         ensures allowed { result.allowed ≡ (decision self.now client.now letter (option_map (λ t. t.now) target.entry)).allowed }
         ensures limits { option_map (λ l. l.now) result.limits ≡ (decision self.now client.now letter (option_map (λ t. t.now) target.entry)).limits }
+        ensures fit { IfSome (decision self.now client.now letter (option_map (λ t. t.now) target.entry)).limits IsLimits }
     {
         match find_line(&self.lines, client, target) {
             Some(line) => verdict_of(line, letter),

@@ -1,6 +1,7 @@
 //! Laws of the words of rules. They do no work.
 
-ghost use Rattle.std.specs.Prelude.{List, ℕ, ◌≡◌, ◌↔◌, Some, bit_and, true};
+ghost use Rattle.std.specs.Prelude.{List, ℕ, ◌≡◌, ◌↔◌, IfSome, Option, Some, bit_and, true};
+ghost use Rattle.acl_text.specs.Limits.{IsLimits};
 ghost use Rattle.acl_text.specs.Patterns.{pattern_matches};
 ghost use Rattle.acl_text.specs.Restrictions.{limits_in};
 ghost use Rattle.acl_text.specs.declared.limits.Limits.{Limits as LimitsShape};
@@ -16,4 +17,9 @@ pub fn pattern_is_tested()
 /// The restrictions of words force no bit both on and off.
 pub fn no_bit_is_forced_both_ways()
     ensures { (words : List (List ℕ)) (limits : LimitsShape) → limits_in words ≡ Some (Some limits) → bit_and limits.set limits.clear ≡ 0 }
+{}
+
+/// The restrictions of words force only what a principal may have.
+pub fn restrictions_fit()
+    ensures { (words : List (List ℕ)) (limits : Option LimitsShape) → limits_in words ≡ Some limits → IfSome limits IsLimits }
 {}

@@ -3,6 +3,7 @@
 #![tactic(auto)]
 
 pub mod commands;
+pub mod copies;
 pub mod names;
 pub mod options;
 pub mod policies;
@@ -13,6 +14,7 @@ pub mod versions;
 pub use commands::{
     AddPrinc, ChangeKeys, Command, DelString, ModPrinc, PurgeKeys, RenPrinc, SetString, UseMaster,
 };
+pub use copies::copy_command;
 pub use names::NameList;
 pub use options::{FlagChanges, PrincOptions};
 pub use policies::{ModPolicy, PolicyChoice};

@@ -55,7 +55,7 @@ pub(crate) fn or_standing(given: Option<u32>, standing: u32) -> u32
 
 /// The options of a line, over a record.
 #[tactic(auto, unfolding(crate::specs::Fields::with_options))]
-pub(crate) fn with_options(mut head: Princ, options: &PrincOptions) -> Princ
+pub fn with_options(mut head: Princ, options: &PrincOptions) -> Princ
     ensures { result ≡ with_options options.now head }
 {
     head.attributes = with_flags(head.attributes, options.flags.as_slice());
@@ -67,7 +67,11 @@ pub(crate) fn with_options(mut head: Princ, options: &PrincOptions) -> Princ
 }
 
 /// The policy of a line's options, or the standing one.
-pub(crate) fn chosen(
+///
+/// # Errors
+///
+/// `MemoryOut` where memory is wanted and not given.
+pub fn chosen(
     alloc: Global,
     choice: &Option<PolicyChoice>,
     standing: Option<Blob>,
@@ -85,7 +89,11 @@ pub(crate) fn chosen(
 }
 
 /// What restrictions leave of the policy.
-pub(crate) fn forced(
+///
+/// # Errors
+///
+/// `MemoryOut` where memory is wanted and not given.
+pub fn forced(
     alloc: Global,
     limits: Option<&Limits>,
     policy: Option<Blob>,
@@ -128,8 +136,12 @@ fn restricted(
     Ok(head)
 }
 
-/// The same, where there are restrictions.
-pub(crate) fn limited(
+/// What restrictions, where there are some, leave of the fields of a record that is changed at this moment.
+///
+/// # Errors
+///
+/// `MemoryOut` where memory is wanted and not given.
+pub fn limited(
     alloc: Global,
     head: Princ,
     limits: Option<&Limits>,
@@ -156,7 +168,7 @@ fn expiry(life: u32, secs: u32) -> u32
 }
 
 /// New keys were set at `secs`, under a policy of this greatest life.
-pub(crate) fn keyed(mut head: Princ, life: u32, secs: u32) -> Princ
+pub fn keyed(mut head: Princ, life: u32, secs: u32) -> Princ
     ensures { result ≡ keyed life secs head }
 {
     head.pw_changed = Some(secs);
@@ -165,7 +177,7 @@ pub(crate) fn keyed(mut head: Princ, life: u32, secs: u32) -> Princ
 }
 
 /// The password need not be changed at the next use.
-pub(crate) fn without_needchange(mut head: Princ) -> Princ
+pub fn without_needchange(mut head: Princ) -> Princ
     ensures { result ≡ record head { attributes = without_bit needchange head.attributes } }
 {
     head.attributes &= !NEEDCHANGE;
@@ -174,7 +186,7 @@ pub(crate) fn without_needchange(mut head: Princ) -> Princ
 
 /// A new principal of this printed name, under this version of the master key.
 #[tactic(auto, unfolding(crate::specs::Fields::blank_head))]
-pub(crate) fn blank_head(alloc: Global, name: Blob, active: u16, policy: Option<Blob>) -> Princ
+pub fn blank_head(alloc: Global, name: Blob, active: u16, policy: Option<Blob>) -> Princ
     ensures { result ≡ blank_head name active policy }
 {
     Princ {

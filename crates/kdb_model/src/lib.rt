@@ -4,13 +4,13 @@
 mod access;
 mod asked;
 mod entries;
-mod heads;
+pub mod heads;
 pub mod laws;
 mod masters;
 mod named;
 mod reading;
 mod records;
-mod refusals;
+pub mod refusals;
 mod steps;
 
 pub use steps::step_plain;

@@ -259,7 +259,8 @@ pub(crate) fn password_numbers(
     }
 }
 
-pub(crate) fn too_short(numbers: &Numbers, password: Option<&Blob>) -> Option<Refusal>
+/// The password is shorter than these numbers ask.
+pub fn too_short(numbers: &Numbers, password: Option<&Blob>) -> Option<Refusal>
     ensures { result ≡ when (fails_by is_short numbers.now (option_map (λ text. text.now) password.entry)) Refusal.PassTooShort }
 {
     match password {
@@ -268,7 +269,8 @@ pub(crate) fn too_short(numbers: &Numbers, password: Option<&Blob>) -> Option<Re
     }
 }
 
-pub(crate) fn few_classes(numbers: &Numbers, password: Option<&Blob>) -> Option<Refusal>
+/// The password has bytes of fewer classes than these numbers ask.
+pub fn few_classes(numbers: &Numbers, password: Option<&Blob>) -> Option<Refusal>
     ensures { result ≡ when (fails_by has_few_classes numbers.now (option_map (λ text. text.now) password.entry)) Refusal.PassClasses }
 {
     match password {

@@ -8,6 +8,7 @@ use Rattle.acl_text.specs.declared.faults.AclFault.{AclFault}
 use Rattle.acl_text.specs.declared.faults.AclFault.TheVariants.{BadAcl, MemoryOut}
 use Rattle.acl_text.specs.declared.rules.AclLine.{AclLine}
 use Rattle.acl_text.specs.declared.texts.Line.{Line}
+use Rattle.acl_text.proofs.RulesFit.{rules_fit}
 use Rattle.acl_text.proofs.TextLemmas.{all_numbered}
 use Rattle.acl_text.proofs.acl.Acl.read.Goals as goal
 
@@ -68,3 +69,7 @@ pub returns-clause-only_bad : goal.returns-clause-only_bad
 returns-clause-only_bad c = λ number is.
     same_fault _ number _ _ c.in-Err-read_rules.fault (text_rules c.args.realm.now c.args.text.now c.deref.result.now (c.deref.ensures.value ∙ c.in-Ok.ensures))
     c.in-Err-read_rules.ensures.bad is
+
+pub invariant_of-result : goal.invariant_of-result
+invariant_of-result c =
+    rules_fit c.args.realm.now (said_lines c.deref.result.now) c.in-Ok-read_rules.lines.items c.in-Ok-read_rules.ensures.ok

@@ -1,0 +1,210 @@
+-- What restrictions force is a principal's to have.
+use Rattle.std.proofs.Common.{◌≡◌, Bool, true, false, ◌&&◌, ◌||◌, not, List, [], ◌∷◌, ℕ, length, Option, Some, None, option_map, fold, find, refl, subst, ◌∙◌}
+use Rattle.std.specs.Prelude.{IfSome, cond, if◌then◌else◌, is_none, nat_eq, ◌==◌}
+use Rattle.std.specs.List.{filter_map, list_all}
+use Rattle.std.specs.Str.{bytes_eq}
+use Rattle.std.proofs.lemmas.Bool.{and_from, and_parts}
+use Rattle.acl_text.proofs.Attributes.{either_known, part_known}
+use Rattle.acl_text.specs.Limits.{IsLimits}
+use Rattle.acl_text.specs.Restrictions.{are_restrictions, bits_of, limits_among, limits_by, limits_from, limits_in, limits_of, restrictions, with_flag}
+use Rattle.acl_text.specs.declared.limits.Bits.{Bits}
+use Rattle.acl_text.specs.declared.limits.Limits.{Limits}
+use Rattle.kadm_options.proofs.OptionLemmas.{read_is_spelled}
+use Rattle.kadm_options.proofs.OptionValueLemmas.{found_readable}
+use Rattle.kadm_options.specs.OptionValues.{AreReadable, HasValue, first_bad_in, flag_of, is_named, policy_by, policy_given}
+use Rattle.kadm_options.specs.Options.{OptionParts, SpellsOptions, are_single, opening_among, opening_of, opening_word, option_named, option_word, options_in, or_flag}
+use Rattle.kadm_options.specs.declared.options.Given.{Given}
+use Rattle.kadm_options.specs.declared.options.Given.TheVariants as given
+use Rattle.kadm_options.specs.declared.options.Opening.{Opening}
+use Rattle.kadm_options.specs.declared.options.Opening.TheVariants as opening
+use Rattle.kadm_options.specs.declared.options.OptionName.TheVariants.{Policy, ClearPolicy}
+use Rattle.kadm_options.specs.declared.options.ValueKind.{ValueKind}
+use Rattle.kadm_options.specs.declared.options.ValueKind.TheVariants as kind
+use Rattle.kadm_values.specs.Flags.{FlagRow, flag_change, flag_named, flag_rows, signed_bit}
+use Rattle.kadm_values.specs.declared.flags.FlagChange.{FlagChange}
+use Rattle.princ_record.specs.Princs.{IsPolicyOr, are_attributes}
+
+-- ---- what a word may say
+
+passes_here : {A : Type 0} (q : A → Bool) (here : Bool) (y x : A) (rest : Option A)
+    → cond here (Some y) rest ≡ Some x → q y ≡ true → (rest ≡ Some x → q x ≡ true) → q x ≡ true
+passes_here {A} q true y x rest e passes behind = let same : y ≡ x = cc in subst (λ (z : A). q z ≡ true) same passes
+passes_here {A} q false y x rest e passes behind = behind e
+
+-- what is found among items that pass a test passes it
+found_passes : {A : Type 0} (p q : A → Bool) (xs : List A) (x : A) → find p xs ≡ Some x → list_all q xs ≡ true → q x ≡ true
+found_passes p q [] x e all = absurd (cc)
+found_passes p q (y ∷ ys) x e all =
+    let parts = and_parts (q y) (list_all q ys) all in
+    passes_here q (p y) y x (find p ys) e parts.0 (λ found. found_passes p q ys x found parts.1)
+
+row_known : (word : List ℕ) (row : FlagRow) → flag_named word ≡ Some row → are_attributes row.bit ≡ true
+unfolding flag_named flag_rows are_attributes
+row_known word row e = found_passes (λ r. bytes_eq r.word word) (λ r. are_attributes r.bit) flag_rows row e refl
+
+signed_known : (plus : Bool) (word : List ℕ) (r : Option FlagRow) (change : FlagChange)
+    → flag_named word ≡ r → signed_bit plus r ≡ Some change → are_attributes change.bit ≡ true
+signed_known plus word None change named e = absurd (cc)
+signed_known plus word (Some row) change named e =
+    let bit : row.bit ≡ change.bit = cc in
+    subst (λ (n : ℕ). are_attributes n ≡ true) bit (row_known word row named)
+
+sign_known : (plus minus : Bool) (word : List ℕ) (change : FlagChange)
+    → cond plus (signed_bit true (flag_named word)) (cond minus (signed_bit false (flag_named word)) None) ≡ Some change
+    → are_attributes change.bit ≡ true
+sign_known true minus word change e = signed_known true word (flag_named word) change refl e
+sign_known false true word change e = signed_known false word (flag_named word) change refl e
+sign_known false false word change e = absurd (cc)
+
+change_known : (word : List ℕ) (change : FlagChange) → flag_change word ≡ Some change → are_attributes change.bit ≡ true
+unfolding flag_change
+change_known [] change e = absurd (cc)
+change_known (sign ∷ word) change e = sign_known (nat_eq sign 43) (nat_eq sign 45) word change e
+
+is_policy_kind : ValueKind → Bool
+is_policy_kind kind.PolicyName = true
+is_policy_kind _ = false
+
+-- a flag has a known bit, and a policy is a policy's name
+is_fit : Opening → Bool
+is_fit (opening.Flag change) = are_attributes change.bit
+is_fit (opening.Alone option) = true
+is_fit (opening.Value setting) = not (is_named Policy setting.option) || is_policy_kind setting.kind
+
+all_fit : list_all is_fit restrictions ≡ true
+unfolding restrictions is_fit is_policy_kind option_word
+all_fit = refl
+
+flag_fit : (word : List ℕ) (found : Option FlagChange) (o : Opening) → flag_change word ≡ found
+    → option_map (λ c. opening.Flag c) found ≡ Some o → is_fit o ≡ true
+unfolding is_fit
+flag_fit word None o is e = absurd (cc)
+flag_fit word (Some change) o is e =
+    let same : opening.Flag change ≡ o = cc in
+    subst (λ (x : Opening). is_fit x ≡ true) same (change_known word change is)
+
+word_fit : (word : List ℕ) (found : Option Opening) (o : Opening) → opening_among restrictions word ≡ found
+    → or_flag found true word ≡ Some o → is_fit o ≡ true
+word_fit word None o is e = flag_fit word (flag_change word) o refl e
+word_fit word (Some known) o is e = found_passes (λ x. bytes_eq (opening_word x) word) is_fit restrictions o (is ∙ e) all_fit
+
+named_fit : (word : List ℕ) (o : Opening) → option_named restrictions true word ≡ Some o → is_fit o ≡ true
+unfolding option_named
+named_fit word o e = word_fit word (opening_among restrictions word) o refl e
+
+abbrev given_fit : Given → Bool
+given_fit option = is_fit (opening_of option)
+
+abbrev AreFit : List Given → Type 0
+AreFit options = list_all given_fit options ≡ true
+
+fit_parts : (option : Given) (options : List Given) → AreFit (option ∷ options) → (given_fit option ≡ true) × AreFit options
+fit_parts option options fit = and_parts (given_fit option) (list_all given_fit options) fit
+
+options_fit : (options : List Given) (rest words : List (List ℕ)) → SpellsOptions (option_named restrictions true) options rest words
+    → AreFit options
+unfolding SpellsOptions
+options_fit [] rest words s = refl
+options_fit (option ∷ options) rest words led =
+    and_from _ _ (named_fit led.word (opening_of option) led.says) (options_fit options rest led.behind led.others)
+
+-- ---- flags
+
+set_known : (set : Bool) (bits : Bits) (bit : ℕ) → are_attributes bit ≡ true → are_attributes bits.set ≡ true
+    → are_attributes (with_flag bits (record { set = set; bit = bit })).set ≡ true
+unfolding with_flag
+set_known true bits bit known old = either_known bits.set bit old known
+set_known false bits bit known old = part_known bits.set _ old
+
+flags_known : (options : List Given) (bits : Bits) → AreFit options → are_attributes bits.set ≡ true
+    → are_attributes (fold with_flag bits (filter_map flag_of options)).set ≡ true
+unfolding is_fit
+flags_known [] bits fit old = old
+flags_known (given.Flag change ∷ options) bits fit old =
+    let both = fit_parts (given.Flag change) options fit in
+    flags_known options (with_flag bits change) both.1 (set_known change.set bits change.bit both.0 old)
+flags_known (given.Alone option ∷ options) bits fit old = flags_known options bits (fit_parts (given.Alone option) options fit).1 old
+flags_known (given.Value setting word ∷ options) bits fit old = flags_known options bits (fit_parts (given.Value setting word) options fit).1 old
+
+-- ---- policies
+
+first_policy : (here : Bool) (policy : Option (List ℕ)) (option : Given) (options : List Given)
+    → policy_by option ≡ (if here then Some policy else None) → (here ≡ true → IsPolicyOr policy) → IfSome (policy_given options) IsPolicyOr
+    → IfSome (policy_given (option ∷ options)) IsPolicyOr
+unfolding policy_given
+first_policy true policy option options e fits behind = rw e (fits refl)
+first_policy false policy option options e fits behind = rw e behind
+
+word_fits : (here : Bool) (k : ValueKind) (word : List ℕ) → (not here || is_policy_kind k) ≡ true → HasValue k word → here ≡ true
+    → IsPolicyOr (Some word)
+unfolding HasValue is_policy_kind
+word_fits true kind.PolicyName word fit value is = value
+word_fits true kind.Time word fit value is = absurd (cc)
+word_fits true kind.Duration word fit value is = absurd (cc)
+word_fits true kind.Word word fit value is = absurd (cc)
+word_fits true kind.EtypeList word fit value is = absurd (cc)
+word_fits true kind.OneEtype word fit value is = absurd (cc)
+word_fits true (kind.Number least most) word fit value is = absurd (cc)
+word_fits false k word fit value is = absurd (cc)
+
+policy_fits : (options : List Given) → AreFit options → AreReadable options → IfSome (policy_given options) IsPolicyOr
+unfolding is_fit policy_given AreReadable
+policy_fits [] fit readable = tt
+policy_fits (given.Flag change ∷ options) fit readable = policy_fits options (fit_parts (given.Flag change) options fit).1 readable.1
+policy_fits (given.Alone option ∷ options) fit readable =
+    first_policy (is_named ClearPolicy option) None (given.Alone option) options refl (λ is. tt)
+    (policy_fits options (fit_parts (given.Alone option) options fit).1 readable.1)
+policy_fits (given.Value setting word ∷ options) fit readable =
+    let both = fit_parts (given.Value setting word) options fit in
+    first_policy (is_named Policy setting.option) (Some word) (given.Value setting word) options refl
+    (word_fits (is_named Policy setting.option) setting.kind word both.0 readable.0) (policy_fits options both.1 readable.1)
+
+-- ---- restrictions
+
+none_known : are_attributes 0 ≡ true
+unfolding are_attributes
+none_known = refl
+
+none_bad : {A : Type 0} (o : Option A) → is_none o ≡ true → o ≡ None
+none_bad None e = refl
+none_bad (Some x) e = absurd (cc)
+
+options_limit : (options : List Given) → AreFit options → are_restrictions options ≡ true → IsLimits (limits_of options)
+unfolding limits_of bits_of are_restrictions
+options_limit options fit are =
+    let both = and_parts (are_single options) (is_none (first_bad_in options)) are in
+    record {
+      set = flags_known options (record { set = 0; clear = 0 }) fit none_known;
+      policy = policy_fits options fit (found_readable options (none_bad (first_bad_in options) both.1));
+    }
+
+good_limits : (whole good : Bool) (options : List Given) (limits : Limits) → (if whole && good then Some (limits_of options) else None) ≡ Some limits
+    → (good ≡ true → IsLimits (limits_of options)) → IsLimits limits
+good_limits true true options limits is fits = let same : limits_of options ≡ limits = cc in subst IsLimits same (fits refl)
+good_limits true false options limits is fits = absurd (cc)
+good_limits false good options limits is fits = absurd (cc)
+
+from_parts : (words : List (List ℕ)) (found : Option OptionParts) (limits : Limits) → options_in (option_named restrictions true) words ≡ found
+    → limits_from found ≡ Some limits → IsLimits limits
+unfolding limits_by
+from_parts words None limits found is = absurd (cc)
+from_parts words (Some parts) limits found is =
+    let fit = options_fit parts.options parts.rest words (read_is_spelled (option_named restrictions true) words parts found).options in
+    good_limits (length parts.rest == 0) (are_restrictions parts.options) parts.options limits is (options_limit parts.options fit)
+
+words_limit : (words : List (List ℕ)) (limits : Limits) → limits_among words ≡ Some limits → IsLimits limits
+unfolding limits_among
+words_limit words limits is = from_parts words (options_in (option_named restrictions true) words) limits refl is
+
+found_limits : (words : List (List ℕ)) (found : Option Limits) (limits : Option Limits) → limits_among words ≡ found
+    → option_map (λ l. Some l) found ≡ Some limits → IfSome limits IsLimits
+found_limits words None limits is e = absurd (cc)
+found_limits words (Some l) limits is e =
+    let same : Some l ≡ limits = cc in
+    subst (λ (o : Option Limits). IfSome o IsLimits) same (words_limit words l is)
+
+-- what words restrict
+pub limits_fit : (words : List (List ℕ)) (limits : Option Limits) → limits_in words ≡ Some limits → IfSome limits IsLimits
+unfolding limits_in
+limits_fit [] limits is = let same : None ≡ limits = cc in subst (λ (o : Option Limits). IfSome o IsLimits) same tt
+limits_fit (word ∷ words) limits is = found_limits (word ∷ words) (limits_among (word ∷ words)) limits refl is

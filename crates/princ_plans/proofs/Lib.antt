@@ -1,0 +1,10 @@
+pub mod Attributes
+pub mod PolicyFits
+pub mod ModifyTests
+pub mod ModifyFits
+pub mod ModifyPlans
+pub mod NewItems
+pub mod AddTests
+pub mod AddFits
+pub mod AddPlans
+pub mod ActiveVersions
