@@ -1,4 +1,3 @@
-pub mod ReadyKeys
 pub mod Targets
 pub mod Opening
 pub mod Changing

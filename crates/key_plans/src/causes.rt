@@ -4,19 +4,19 @@ ghost use Rattle.std.specs.Prelude.{◌≡◌, IfOk, is_some, length, option_map
 ghost use Rattle.kdb_base.specs.declared.outcomes.Refusal.{Refusal};
 ghost use Rattle.kdb_model.specs.Fields.{has_bit, lockdown_keys};
 ghost use Rattle.kdb_model.specs.Records.{numbers_for};
-ghost use Rattle.kdb_model.specs.Refusals.{fails_by, first, password_of, when};
+ghost use Rattle.kdb_model.specs.Refusals.{first, password_of, when};
 ghost use Rattle.key_plans.specs.Changing.{change_causes, lacks_room, soon_after, soon_again};
 ghost use Rattle.plain_keys.specs.Keys.{is_password, is_reused, kept_keys};
-ghost use Rattle.policy_rules.specs.Passwords.{has_few_classes, is_short};
 
 use command_plans::causes::{LOCKDOWN_KEYS, first, has_bit, when};
 use command_plans::given::Given;
 use kadm_commands::ChangeKeys;
 use kdb_base::limits::MAX_KEYS;
 use kdb_base::{Blob, PlainKey, Refusal};
+use kdb_model::refusals::{few_classes, too_short};
 use kdb_plain::PlainPrinc;
 use plain_keys::{NewKeys, PlainItem, is_reused, newest_kvno};
-use policy_rules::{Numbers, has_few_classes, is_short};
+use policy_rules::Numbers;
 use row_keys::policy_row;
 
 /// The password has to be changed at the next use.
@@ -66,27 +66,6 @@ fn lock(given: &Given, c: &ChangeKeys, plain: &PlainPrinc) -> Option<Refusal>
 {
     let locked = given.acl.is_some() && has_bit(LOCKDOWN_KEYS, plain.attributes);
     when(locked && is_password(&c.keys), Refusal::LockedDown)
-}
-
-fn too_short(numbers: &Numbers, password: Option<&Blob>) -> Option<Refusal>
-    ensures { result ≡ when (fails_by is_short numbers.now (option_map (λ text. text.now) password.entry)) Refusal.PassTooShort }
-{
-    match password {
-        Some(text) => when(is_short(numbers, text.as_slice()), Refusal::PassTooShort),
-        None => None,
-    }
-}
-
-fn few_classes(numbers: &Numbers, password: Option<&Blob>) -> Option<Refusal>
-    ensures { result ≡ when (fails_by has_few_classes numbers.now (option_map (λ text. text.now) password.entry)) Refusal.PassClasses }
-{
-    match password {
-        Some(text) => when(
-            has_few_classes(numbers, text.as_slice()),
-            Refusal::PassClasses,
-        ),
-        None => None,
-    }
 }
 
 /// A key of the password was in use before.

@@ -6,7 +6,7 @@ ghost use Rattle.kadm_commands.specs.Commands.{IsCommand};
 ghost use Rattle.kadm_commands.specs.declared.commands.Command.TheVariants as command;
 ghost use Rattle.kdb_base.specs.declared.outcomes.Refusal.{Refusal};
 ghost use Rattle.kdb_model.specs.Access.{same_name};
-ghost use Rattle.key_plans.specs.ReadyKeys.{password_made};
+ghost use Rattle.princ_plans.specs.Ready.{password_made};
 ghost use Rattle.key_plans.specs.Targets.{IsKeyTarget, key_target_refusal};
 ghost use Rattle.princ_name.specs.Names.{printed};
 ghost use Rattle.princ_name.specs.Realms.{IsRealm};

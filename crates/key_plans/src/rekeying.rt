@@ -8,7 +8,7 @@ ghost use Rattle.kdb_base.specs.Key.{Key};
 ghost use Rattle.kdb_model.specs.Fields.{expiry, rekeyed_head};
 ghost use Rattle.key_plans.specs.Changing.{kept_items, kept_sets, kept_with, next_items, plain_sets, plain_with};
 ghost use Rattle.key_plans.specs.Opening.{IsOpened};
-ghost use Rattle.key_plans.specs.ReadyKeys.{password_made};
+ghost use Rattle.princ_plans.specs.Ready.{password_made};
 ghost use Rattle.plain_keys.specs.Keys.{bytes_to_make, kept_keys, made_keys, newest_keys, newest_kvno};
 ghost use Rattle.plain_keys.specs.declared.items.PlainSet.{PlainSet};
 ghost use Rattle.row_keys.specs.Shows.{ShowsItem, ShowsSet, ShowsUnder};
