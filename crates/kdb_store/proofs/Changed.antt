@@ -61,10 +61,12 @@ given_alike key i {old} {new} same given = record {
   new = λ none k leads. given.new (ap (λ (f : List ℕ → Option ℕ). f key) (sym same.of_is) ∙ none) k (ap (λ (f : List ℕ → Option ℕ). f k) (sym same.of_is) ∙ leads);
 }
 
-plan_alike : (w : UnitWrite) (op : Op) (rows : RowLists) {old new : CellFile} → LeadsAlike old new → IsPlan w op (units old) rows → IsPlan w op (units new) rows
+plan_alike : (w : UnitWrite) (op : Op) (rows : RowLists) {old new : CellFile} → LeadsAlike old new → IsPlan w op (units old) rows
+    → IsPlan w op (units new) rows
 plan_alike w op rows same plan = record { writes = plan.writes; given = λ some. given_alike (key_of (Some op)) (number_of w) same (plan.given some); none = plan.none; near = plan.near }
 
-pub index_may : {old new : CellFile} (w : UnitWrite) (op : Op) (rows : RowLists) → LeadsAlike old new → AreIndexed old rows → AreRows rows → IsPlan w op (units old) rows → IsOp (Some op) → IsNewName op rows → IsRoom (effect (Some op) rows) → IsGivenTo w new → MayWrite w new
+pub index_may : {old new : CellFile} (w : UnitWrite) (op : Op) (rows : RowLists) → LeadsAlike old new → AreIndexed old rows → AreRows rows
+    → IsPlan w op (units old) rows → IsOp (Some op) → IsNewName op rows → IsRoom (effect (Some op) rows) → IsGivenTo w new → MayWrite w new
 index_may {old} {new} w op rows same indexed sound plan fits new_ room given =
     plan_may w new op indexed.cells rows (plan_alike w op rows same plan) (record { are = alike_cells indexed.cells same indexed.leads; rows_is = indexed.rows_is; sound = sound }) (same.many ∙ indexed.many) fits new_ room given
 
@@ -74,7 +76,8 @@ plan_most w op u rows plan = ⊎_elim
     (λ some. (plan.given some).within)
     (cases_eq (number_of w) 0)
 
-pub plan_within : {old new : CellFile} (w : UnitWrite) (op : Op) (rows : RowLists) (sheet : Sheet) (seen : Files) → LeadsAlike old new → IsPlan w op (units old) rows → IsFileOf old sheet (seen old.file) → number_of w * unit_size new.format ≤ length (seen new.file)
+pub plan_within : {old new : CellFile} (w : UnitWrite) (op : Op) (rows : RowLists) (sheet : Sheet) (seen : Files) → LeadsAlike old new
+    → IsPlan w op (units old) rows → IsFileOf old sheet (seen old.file) → number_of w * unit_size new.format ≤ length (seen new.file)
 plan_within {old} {new} w op rows sheet seen same plan tie =
     let file = seen old.file in
     let is = read_sheet old.format file sheet tie.read in
@@ -84,9 +87,12 @@ plan_within {old} {new} w op rows sheet seen same plan tie =
 
 -- ---- in memory
 
-pub indexed_after : {E : Type 0} (r : Result Unit E) (old mid new : CellFile) (rows begun_rows later : RowLists) (begun : Begun) (w : UnitWrite) (op : Op) (e : Option Op) → LeadsAlike old mid → AreIndexed old rows → AreRows rows → IsPlan w op (units old) rows
-    → IsOp (Some op) → IsNewName op rows → IsRoom (effect (Some op) rows) → e ≡ Some op → finished begun begun_rows ≡ effect (Some op) rows → undone begun begun_rows ≡ rows → OnOk r (later ≡ finished begun begun_rows) → OnErr r (later ≡ undone begun begun_rows)
-    → ((held : List Cell) → HoldsCells mid held → number_of w ≤ length held → OnOk r (HoldsCells new (with_unit (unit_numbered (number_of w)) (left_by e) held))) → OnErr r (new ≡ mid) → AreIndexed new later
+pub indexed_after : {E : Type 0} (r : Result Unit E) (old mid new : CellFile) (rows begun_rows later : RowLists) (begun : Begun) (w : UnitWrite) (op : Op) (e : Option Op)
+    → LeadsAlike old mid → AreIndexed old rows → AreRows rows → IsPlan w op (units old) rows
+    → IsOp (Some op) → IsNewName op rows → IsRoom (effect (Some op) rows) → e ≡ Some op → finished begun begun_rows ≡ effect (Some op) rows
+    → undone begun begun_rows ≡ rows → OnOk r (later ≡ finished begun begun_rows) → OnErr r (later ≡ undone begun begun_rows)
+    → ((held : List Cell) → HoldsCells mid held → number_of w ≤ length held → OnOk r (HoldsCells new (with_unit (unit_numbered (number_of w)) (left_by e) held)))
+    → OnErr r (new ≡ mid) → AreIndexed new later
 indexed_after (Ok x) old mid new rows begun_rows later begun w op e same indexed sound plan fits new_ room is done back ok err leads kept =
     let makes = plan_makes w op (units old) indexed.cells rows plan (record { are = indexed.leads; rows_is = indexed.rows_is; sound = sound }) fits new_ room in
     let holds = leads indexed.cells (record { leads = alike_cells indexed.cells same indexed.leads; many = same.many ∙ indexed.many }) makes.within in
@@ -104,10 +110,12 @@ indexed_after (Err x) old mid new rows begun_rows later begun w op e same indexe
       rows_is = indexed.rows_is ∙ sym back ∙ sym err;
     })
 
-committed_held : (log later : Journal) (l : Logged) → later ≡ log_committed (with_prepared (Some l) log) → later.held ≡ newest log.size (log.held ++ l ∷ [])
+committed_held : (log later : Journal) (l : Logged) → later ≡ log_committed (with_prepared (Some l) log)
+    → later.held ≡ newest log.size (log.held ++ l ∷ [])
 committed_held log later l is = ap (λ (j : Journal). j.held) is
 
-pub held_now : (log later : Journal) (e : Entry) (cell : ℕ) (point : Point) (op : Op) → e ≡ record { point = point; op = Some op } → later ≡ log_committed (with_prepared (Some (record { entry = e; cell = cell })) log)
+pub held_now : (log later : Journal) (e : Entry) (cell : ℕ) (point : Point) (op : Op) → e ≡ record { point = point; op = Some op }
+    → later ≡ log_committed (with_prepared (Some (record { entry = e; cell = cell })) log)
     → map entry_of later.held ≡ last_entries log.size (map entry_of log.held ++ record { point = point; op = Some op } ∷ [])
 held_now log later e cell point op is same =
     ap (map entry_of) (committed_held log later (record { entry = e; cell = cell }) same) ∙ held_after log.size log.held (record { entry = e; cell = cell }) ∙ ap (λ (x : Entry). last_entries log.size (map entry_of log.held ++ x ∷ [])) is
@@ -128,7 +136,8 @@ pub record IsReady (log : Journal) (old mid : CellFile) (rows : RowLists) (k : K
   pub room : IsRoom (effect (Some op) rows)
   pub stands : StandsOn log old rows k point now
 
-makes_here : {log : Journal} {old mid : CellFile} {rows : RowLists} {k : Kept} {point : Point} {op : Op} {w : UnitWrite} {now : View} → (is : IsReady log old mid rows k point op w now) → MakesRows (number_of w) op is.stands.on.cells rows
+makes_here : {log : Journal} {old mid : CellFile} {rows : RowLists} {k : Kept} {point : Point} {op : Op} {w : UnitWrite} {now : View}
+    → (is : IsReady log old mid rows k point op w now) → MakesRows (number_of w) op is.stands.on.cells rows
 makes_here {old = old} {rows = rows} {op = op} {w = w} is =
     plan_makes w op (units old) is.stands.on.cells rows is.plan (record { are = is.stands.on.file.cells; rows_is = is.stands.on.rows; sound = is.sound }) is.fits is.name is.room
 
@@ -174,7 +183,8 @@ unfolding LeavesPart
 nothing_leaves kept next now on = started now (LeavesPart (place_kept kept) (next ∷ [])) (λ c here. inl (kept_recovers kept now on c here))
 
 pub change_on : {E : Type 0} (new : View) (r : Result Unit E) (log later : Journal) (old mid late : CellFile) (rows after_rows : RowLists) (k : Kept) (point : Point) (op : Op) (w : UnitWrite) (now : View) (is : IsReady log old mid rows k point op w now)
-    → OnOk r (later ≡ log_committed (with_prepared (Some (entry_at point op (number_of w))) log)) → OnOk r (after_rows ≡ effect (Some op) rows) → late.file ≡ mid.file
+    → OnOk r (later ≡ log_committed (with_prepared (Some (entry_at point op (number_of w))) log)) → OnOk r (after_rows ≡ effect (Some op) rows)
+    → late.file ≡ mid.file
     → OnOk r (Holds (after (entry_at point op (number_of w)) (found_with (with_parts log old rows k) is.stands.on.cells)) new)
     → OnOk r (IsFileOf late (after (entry_at point op (number_of w)) (found_with (with_parts log old rows k) is.stands.on.cells)).sheet (new.seen mid.file))
     → OnOk r (HasLog later new) → OnOk r (IsDurable later.file new) → OnOk r (IsOnDisk (with_parts later late after_rows k) new)

@@ -22,8 +22,10 @@ use Rattle.kdb_store.specs.Writes.{IsWritten}
 
 module _ {D : Type 0} (view : D → View) where
   -- nothing is written where there is no unit
-  pub unit_crash : (mid new : D) (log : Journal) (cells : CellFile) (l : Logged) (o : Found) (v : View) → MayCommit log cells l o v → ArePending l o (view mid) → (l.cell ≡ 0 → new ≡ mid)
-      → LeavesTorn cells.file (l.cell * unit_size cells.format) (unit_size cells.format) (view mid) (view new) → LeavesOnly (view mid) (view new) (Pending l o)
+  pub unit_crash : (mid new : D) (log : Journal) (cells : CellFile) (l : Logged) (o : Found) (v : View) → MayCommit log cells l o v
+      → ArePending l o (view mid) → (l.cell ≡ 0 → new ≡ mid)
+      → LeavesTorn cells.file (l.cell * unit_size cells.format) (unit_size cells.format) (view mid) (view new)
+      → LeavesOnly (view mid) (view new) (Pending l o)
   unit_crash mid new log cells l o v may pending nothing run = ⊎_elim
       (λ none. subst (λ (d : D). LeavesOnly (view mid) (view d) (Pending l o)) (sym (nothing none)) (started (view mid) (Pending l o) pending.each))
       (λ some.
@@ -32,14 +34,18 @@ module _ {D : Type 0} (view : D → View) where
       unit_runs o l l.cell may.stands.files (numbered_some l.cell some) pending.each at_format)
       (cases_eq l.cell 0)
 
-  pub change_crash : (old mid new : D) (log : Journal) (cells : CellFile) (l : Logged) (o : Found) → MayCommit log cells l o (view old) → ArePending l o (view mid) → (l.cell ≡ 0 → new ≡ mid)
-      → LeavesTorn cells.file (l.cell * unit_size cells.format) (unit_size cells.format) (view mid) (view new) → LeavesOnly (view old) (view mid) (IsUnderWay l o) → LeavesOnly (view old) (view new) (IsUnderWay l o)
+  pub change_crash : (old mid new : D) (log : Journal) (cells : CellFile) (l : Logged) (o : Found) → MayCommit log cells l o (view old)
+      → ArePending l o (view mid) → (l.cell ≡ 0 → new ≡ mid)
+      → LeavesTorn cells.file (l.cell * unit_size cells.format) (unit_size cells.format) (view mid) (view new)
+      → LeavesOnly (view old) (view mid) (IsUnderWay l o) → LeavesOnly (view old) (view new) (IsUnderWay l o)
   change_crash old mid new log cells l o may pending nothing run first =
       then_on {P = IsUnderWay l o} first (unit_crash mid new log cells l o (view old) may pending nothing run) (λ c pending_. inr pending_)
 
   -- all stands once the unit is written
-  pub change_stands : (mid new : D) (log : Journal) (cells later : CellFile) (l : Logged) (o : Found) (v : View) → MayCommit log cells l o v → ArePending l o (view mid) → (l.cell ≡ 0 → new ≡ mid)
-      → LeavesTorn cells.file (l.cell * unit_size cells.format) (unit_size cells.format) (view mid) (view new) → (l.cell ≢ 0 → IsWritten cells.file (l.cell * unit_size cells.format) (view mid) (view new))
+  pub change_stands : (mid new : D) (log : Journal) (cells later : CellFile) (l : Logged) (o : Found) (v : View) → MayCommit log cells l o v
+      → ArePending l o (view mid) → (l.cell ≡ 0 → new ≡ mid)
+      → LeavesTorn cells.file (l.cell * unit_size cells.format) (unit_size cells.format) (view mid) (view new)
+      → (l.cell ≢ 0 → IsWritten cells.file (l.cell * unit_size cells.format) (view mid) (view new))
       → later.format ≡ cells.format → IsFileOf later (after l o).sheet ((view new).seen cells.file) → Holds (after l o) (view new)
   change_stands mid new log cells later l o v may pending nothing run wrote same tie = record {
     done = after_done l o may.stands.files.size may.change.fits;
@@ -59,7 +65,8 @@ module _ {D : Type 0} (view : D → View) where
   }
 
   -- the log's file is as it was
-  pub change_durable : (mid new : D) (cells : CellFile) (cell g : ℕ) → g ≢ cells.file → (cell ≡ 0 → new ≡ mid) → LeavesTorn cells.file (cell * unit_size cells.format) (unit_size cells.format) (view mid) (view new)
+  pub change_durable : (mid new : D) (cells : CellFile) (cell g : ℕ) → g ≢ cells.file → (cell ≡ 0 → new ≡ mid)
+      → LeavesTorn cells.file (cell * unit_size cells.format) (unit_size cells.format) (view mid) (view new)
       → (cell ≢ 0 → IsWritten cells.file (cell * unit_size cells.format) (view mid) (view new)) → IsDurable g (view mid) → IsDurable g (view new)
   change_durable mid new cells cell g apart nothing run wrote durable = ⊎_elim
       (λ none. subst (λ (d : D). IsDurable g (view d)) (sym (nothing none)) durable)
@@ -67,5 +74,6 @@ module _ {D : Type 0} (view : D → View) where
       (cases_eq cell 0)
 
 -- the file of cells reads as before once the entry is open
-pub tie_kept : {old : View} (mid : View) (log : Journal) (cells : CellFile) (l : Logged) (o : Found) → log.file ≢ cells.file → MayCommit log cells l o old → ReadsOthers log.file old mid → IsFileOf cells o.sheet (mid.seen cells.file)
+pub tie_kept : {old : View} (mid : View) (log : Journal) (cells : CellFile) (l : Logged) (o : Found) → log.file ≢ cells.file
+    → MayCommit log cells l o old → ReadsOthers log.file old mid → IsFileOf cells o.sheet (mid.seen cells.file)
 tie_kept {old} mid log cells l o apart may others = subst (λ (b : List ℕ). IsFileOf cells o.sheet b) (sym (others cells.file (λ e. apart (sym e)))) may.tie

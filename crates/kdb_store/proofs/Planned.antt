@@ -36,14 +36,16 @@ none_left (Rename old p) rows none = absurd none
 none_left (PutPolicy p) rows none = absurd none
 none_left (DropPolicy name) rows none = refl
 
-none_changed : (u : Units) (cells : List Cell) (rows : RowLists) (op : Op) → AreRowCells u cells rows → HasNoRow op rows → rows_of cells ≡ effect (Some op) rows
+none_changed : (u : Units) (cells : List Cell) (rows : RowLists) (op : Op) → AreRowCells u cells rows → HasNoRow op rows
+    → rows_of cells ≡ effect (Some op) rows
 none_changed u cells rows (PutPrinc p) is none = absurd none
 none_changed u cells rows (DropPrinc name) is none = drop_princ_absent name cells (princ_absent u cells rows name is none) ∙ ap (effect (Some (DropPrinc name))) is.rows_is
 none_changed u cells rows (Rename old p) is none = absurd none
 none_changed u cells rows (PutPolicy p) is none = absurd none
 none_changed u cells rows (DropPolicy name) is none = drop_policy_absent name cells (policy_absent u cells rows name is none) ∙ ap (effect (Some (DropPolicy name))) is.rows_is
 
-pub plan_makes : (w : UnitWrite) (op : Op) (u : Units) (cells : List Cell) (rows : RowLists) → IsPlan w op u rows → AreRowCells u cells rows → IsOp (Some op) → IsNewName op rows → IsRoom (effect (Some op) rows) → MakesRows (number_of w) op cells rows
+pub plan_makes : (w : UnitWrite) (op : Op) (u : Units) (cells : List Cell) (rows : RowLists) → IsPlan w op u rows → AreRowCells u cells rows
+    → IsOp (Some op) → IsNewName op rows → IsRoom (effect (Some op) rows) → MakesRows (number_of w) op cells rows
 plan_makes w op u cells rows plan is fits new room = ⊎_elim
     (λ zero_.
     let none = plan.none zero_ in
@@ -66,11 +68,13 @@ plan_makes w op u cells rows plan is fits new room = ⊎_elim
 
 -- ---- what a put asks of the index
 
-free_there : (u : Units) (cells : List Cell) (i : ℕ) (c : Cell) → AreCellsOf u cells → cell_no i cells ≡ c → IsFree i u → taken_by (cell_no i cells) ≡ 0
+free_there : (u : Units) (cells : List Cell) (i : ℕ) (c : Cell) → AreCellsOf u cells → cell_no i cells ≡ c → IsFree i u
+    → taken_by (cell_no i cells) ≡ 0
 free_there u cells i None are here free = ap taken_by here
 free_there u cells i (Some s) are here free = absurd (free (name_of s) (are.found i s here))
 
-put_may : (c : CellFile) (cells : List Cell) (rows : RowLists) (op : Op) (cell kind : ℕ) (key row : List ℕ) (r : StoredRow) → AreRowCells (units c) cells rows → count c ≡ taken cells → IsOp (Some op) → cell_after op ≡ Some r → IsRowText 2 kind key row r
+put_may : (c : CellFile) (cells : List Cell) (rows : RowLists) (op : Op) (cell kind : ℕ) (key row : List ℕ) (r : StoredRow)
+    → AreRowCells (units c) cells rows → count c ≡ taken cells → IsOp (Some op) → cell_after op ≡ Some r → IsRowText 2 kind key row r
     → MayStand 2 cell (cell_after op) cells → MayPut cell key c
 put_may c cells rows op cell kind key row r is many fits left text may =
     let apart : IsApart cell (Some r) cells = subst (λ (d : Cell). IsApart cell d cells) left may.alone in
@@ -80,7 +84,9 @@ put_may c cells rows op cell kind key row r is many fits left text may =
       few = λ free. omega (arith, few, ap taken_by left, many, free_there (units c) cells cell (cell_no cell cells) is.are refl free);
     }
 
-pub plan_may : (w : UnitWrite) (c : CellFile) (op : Op) (cells : List Cell) (rows : RowLists) → IsPlan w op (units c) rows → AreRowCells (units c) cells rows → count c ≡ taken cells → IsOp (Some op) → IsNewName op rows → IsRoom (effect (Some op) rows) → IsGivenTo w c → MayWrite w c
+pub plan_may : (w : UnitWrite) (c : CellFile) (op : Op) (cells : List Cell) (rows : RowLists) → IsPlan w op (units c) rows
+    → AreRowCells (units c) cells rows → count c ≡ taken cells → IsOp (Some op) → IsNewName op rows → IsRoom (effect (Some op) rows) → IsGivenTo w c
+    → MayWrite w c
 plan_may Nothing c op cells rows plan is many fits new room given = tt
 plan_may (Put cell key row kind) c op cells rows plan is many fits new room given =
     let low = given.0 in

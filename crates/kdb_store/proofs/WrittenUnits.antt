@@ -31,12 +31,14 @@ same_held n cell c d held at low is =
 
 -- ---- a row is put
 
-pub put_nothing : {A : Type 0} {x y : A} (w : UnitWrite) (c : CellFile) (cell kind : ℕ) (key row : List ℕ) → w ≡ Put cell key row kind → IsGivenTo w c → number_of w ≡ 0 → x ≡ y
+pub put_nothing : {A : Type 0} {x y : A} (w : UnitWrite) (c : CellFile) (cell kind : ℕ) (key row : List ℕ) → w ≡ Put cell key row kind → IsGivenTo w c
+    → number_of w ≡ 0 → x ≡ y
 put_nothing w c cell kind key row is given none =
     let low = (subst (λ (x : UnitWrite). IsGivenTo x c) is given).0 in
     absurd (omega (arith, low, sym (ap number_of is) ∙ none))
 
-pub put_file : {T E : Type 0} (result : Result T E) (old new : CellFile) (w : UnitWrite) (cell kind : ℕ) (key row before late : List ℕ) → w ≡ Put cell key row kind → old.format ≡ 2 → IsGivenTo w old
+pub put_file : {T E : Type 0} (result : Result T E) (old new : CellFile) (w : UnitWrite) (cell kind : ℕ) (key row before late : List ℕ)
+    → w ≡ Put cell key row kind → old.format ≡ 2 → IsGivenTo w old
     → ((r : StoredRow) (sheet : Sheet) → IsRowText old.format kind key row r → 1 ≤ cell → IsFileOf old sheet before → OnOk result (IsFileOf new (with_cell cell (Some r) sheet) late))
     → (c : Cell) (sheet : Sheet) → Writes w c → IsFileOf old sheet before → OnOk result (IsFileOf new (changed_sheet (number_of w) c sheet) late)
 put_file result old new w cell kind key row before late is newer given keeps c sheet writes tie =
@@ -45,15 +47,20 @@ put_file result old new w cell kind key row before late is newer given keeps c s
     let text = subst (λ (f : ℕ). IsRowText f kind key row row_is.0) (sym newer) row_is.1.1 in
     subst (λ (s : Sheet). OnOk result (IsFileOf new s late)) (same_sheet (number_of w) cell c (Some row_is.0) sheet (ap number_of is) low row_is.1.0) (keeps row_is.0 sheet text low tie)
 
-put_count : (u : Units) (held : List Cell) (cell old new : ℕ) (r : StoredRow) (c : Cell) → cell_no cell held ≡ c → AreCellsOf u held → cell ≤ length held → old ≡ taken held → (IsFree cell u → new ≡ old + 1) → ((k : List ℕ) → u.of k ≡ Some cell → new ≡ old) → new ≡ taken (set_cell cell (Some r) held)
+put_count : (u : Units) (held : List Cell) (cell old new : ℕ) (r : StoredRow) (c : Cell) → cell_no cell held ≡ c → AreCellsOf u held
+    → cell ≤ length held → old ≡ taken held → (IsFree cell u → new ≡ old + 1) → ((k : List ℕ) → u.of k ≡ Some cell → new ≡ old)
+    → new ≡ taken (set_cell cell (Some r) held)
 put_count u held cell old new r None is are within many more as_many =
     omega (arith, taken_set cell (Some r) held within, ap taken_by is, many, more (cell_free u held cell are is))
 put_count u held cell old new r (Some s) is are within many more as_many =
     omega (arith, taken_set cell (Some r) held within, ap taken_by is, many, as_many (name_of s) (are.found cell s is))
 
-pub put_leads : {T E : Type 0} (result : Result T E) (old new : CellFile) (w : UnitWrite) (cell kind : ℕ) (key row : List ℕ) → w ≡ Put cell key row kind → IsGivenTo w old → MayWrite w old
-    → OnOk result (units new ≡ leading key cell (units old)) → (IsFree cell (units old) → OnOk result (count new ≡ count old + 1)) → ((k : List ℕ) → (units old).of k ≡ Some cell → OnOk result (count new ≡ count old))
-    → (c : Cell) (held : List Cell) → Writes w c → HoldsCells old held → number_of w ≤ length held → OnOk result (HoldsCells new (with_unit (unit_numbered (number_of w)) c held))
+pub put_leads : {T E : Type 0} (result : Result T E) (old new : CellFile) (w : UnitWrite) (cell kind : ℕ) (key row : List ℕ)
+    → w ≡ Put cell key row kind → IsGivenTo w old → MayWrite w old
+    → OnOk result (units new ≡ leading key cell (units old)) → (IsFree cell (units old) → OnOk result (count new ≡ count old + 1))
+    → ((k : List ℕ) → (units old).of k ≡ Some cell → OnOk result (count new ≡ count old))
+    → (c : Cell) (held : List Cell) → Writes w c → HoldsCells old held → number_of w ≤ length held
+    → OnOk result (HoldsCells new (with_unit (unit_numbered (number_of w)) c held))
 put_leads (Err e) old new w cell kind key row is given may led more as_many c held writes holds within = tt
 put_leads (Ok x) old new w cell kind key row is given may led more as_many c held writes holds within =
     let low = (subst (λ (x : UnitWrite). IsGivenTo x old) is given).0 in
@@ -78,7 +85,8 @@ free_nothing w c cell is given none =
     let low = (subst (λ (x : UnitWrite). IsGivenTo x c) is given).0 in
     absurd (omega (arith, low, sym (ap number_of is) ∙ none))
 
-pub free_file : {T E : Type 0} (result : Result T E) (old new : CellFile) (w : UnitWrite) (cell : ℕ) (before late : List ℕ) → w ≡ Free cell → IsGivenTo w old
+pub free_file : {T E : Type 0} (result : Result T E) (old new : CellFile) (w : UnitWrite) (cell : ℕ) (before late : List ℕ) → w ≡ Free cell
+    → IsGivenTo w old
     → ((sheet : Sheet) → 1 ≤ cell → IsFileOf old sheet before → OnOk result (IsFileOf new (with_cell cell None sheet) late))
     → (c : Cell) (sheet : Sheet) → Writes w c → IsFileOf old sheet before → OnOk result (IsFileOf new (changed_sheet (number_of w) c sheet) late)
 free_file result old new w cell before late is given keeps c sheet writes tie =
@@ -86,15 +94,18 @@ free_file result old new w cell before late is given keeps c sheet writes tie =
     let free = subst (λ (x : UnitWrite). Writes x c) is writes in
     subst (λ (s : Sheet). OnOk result (IsFileOf new s late)) (same_sheet (number_of w) cell c None sheet (ap number_of is) low free) (keeps sheet low tie)
 
-free_count : (u : Units) (held : List Cell) (cell old new : ℕ) (c : Cell) → cell_no cell held ≡ c → AreCellsOf u held → cell ≤ length held → old ≡ taken held → (IsFree cell u → new ≡ old) → ((k : List ℕ) → u.of k ≡ Some cell → new + 1 ≡ old) → new ≡ taken (set_cell cell None held)
+free_count : (u : Units) (held : List Cell) (cell old new : ℕ) (c : Cell) → cell_no cell held ≡ c → AreCellsOf u held → cell ≤ length held
+    → old ≡ taken held → (IsFree cell u → new ≡ old) → ((k : List ℕ) → u.of k ≡ Some cell → new + 1 ≡ old) → new ≡ taken (set_cell cell None held)
 free_count u held cell old new None is are within many as_many fewer =
     omega (arith, taken_set cell None held within, ap taken_by is, many, as_many (cell_free u held cell are is))
 free_count u held cell old new (Some s) is are within many as_many fewer =
     omega (arith, taken_set cell None held within, ap taken_by is, many, fewer (name_of s) (are.found cell s is))
 
 pub free_leads : {T E : Type 0} (result : Result T E) (old new : CellFile) (w : UnitWrite) (cell : ℕ) → w ≡ Free cell → IsGivenTo w old
-    → OnOk result (units new ≡ freed cell (units old)) → (IsFree cell (units old) → OnOk result (count new ≡ count old)) → ((k : List ℕ) → (units old).of k ≡ Some cell → OnOk result (count new + 1 ≡ count old))
-    → (c : Cell) (held : List Cell) → Writes w c → HoldsCells old held → number_of w ≤ length held → OnOk result (HoldsCells new (with_unit (unit_numbered (number_of w)) c held))
+    → OnOk result (units new ≡ freed cell (units old)) → (IsFree cell (units old) → OnOk result (count new ≡ count old))
+    → ((k : List ℕ) → (units old).of k ≡ Some cell → OnOk result (count new + 1 ≡ count old))
+    → (c : Cell) (held : List Cell) → Writes w c → HoldsCells old held → number_of w ≤ length held
+    → OnOk result (HoldsCells new (with_unit (unit_numbered (number_of w)) c held))
 free_leads (Err e) old new w cell is given led as_many fewer c held writes holds within = tt
 free_leads (Ok x) old new w cell is given led as_many fewer c held writes holds within =
     let low = (subst (λ (x : UnitWrite). IsGivenTo x old) is given).0 in

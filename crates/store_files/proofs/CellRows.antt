@@ -74,23 +74,27 @@ module _ {X : Type 0} where
   drop_none key k = refl
 
   -- a drop and a row of another key
-  drop_with : (key : X → List ℕ) (k : List ℕ) (o : Option X) (xs : List X) → Lacks key k o → drop_by key k (with_row key o xs) ≡ with_row key o (drop_by key k xs)
+  drop_with : (key : X → List ℕ) (k : List ℕ) (o : Option X) (xs : List X) → Lacks key k o
+      → drop_by key k (with_row key o xs) ≡ with_row key o (drop_by key k xs)
   drop_with key k None xs lacks = refl
   drop_with key k (Some x) xs lacks = drop_put key k x xs lacks
 
-  with_with : (key : X → List ℕ) (a b : Option X) (xs : List X) → Differ key a b → with_row key a (with_row key b xs) ≡ with_row key b (with_row key a xs)
+  with_with : (key : X → List ℕ) (a b : Option X) (xs : List X) → Differ key a b
+      → with_row key a (with_row key b xs) ≡ with_row key b (with_row key a xs)
   with_with key None b xs differ = refl
   with_with key (Some x) None xs differ = refl
   with_with key (Some x) (Some y) xs differ = put_put key y x xs differ
 
   -- where no row has the key, a drop changes nothing
-  pub drop_absent : (key : X → List ℕ) (row : Cell → Option X) (k : List ℕ) (cells : List Cell) → ((j : ℕ) → Lacks key k (row (cell_no j cells))) → drop_by key k (rows_by key row cells) ≡ rows_by key row cells
+  pub drop_absent : (key : X → List ℕ) (row : Cell → Option X) (k : List ℕ) (cells : List Cell) → ((j : ℕ) → Lacks key k (row (cell_no j cells)))
+      → drop_by key k (rows_by key row cells) ≡ rows_by key row cells
   unfolding rows_by cell_no
   drop_absent key row k [] lacks = drop_none key k
   drop_absent key row k (c ∷ cells) lacks =
       drop_with key k (row c) (rows_by key row cells) (lacks 0) ∙ ap (with_row key (row c)) (drop_absent key row k cells (λ j. lacks (suc j)))
 
-  drop_own : (key : X → List ℕ) (k : List ℕ) (o : Option X) (xs : List X) → Agrees key k o → drop_by key k xs ≡ xs → drop_by key k (with_row key o xs) ≡ xs
+  drop_own : (key : X → List ℕ) (k : List ℕ) (o : Option X) (xs : List X) → Agrees key k o → drop_by key k xs ≡ xs
+      → drop_by key k (with_row key o xs) ≡ xs
   drop_own key k None xs own absent = absent
   drop_own key k (Some x) xs own absent = drop_same key k x xs own ∙ absent
 
@@ -111,7 +115,8 @@ module _ {X : Type 0} where
   none_there row none key k = subst (Lacks key k) (sym none) tt
 
   -- another cell in the unit takes its old row away and adds its own
-  pub edited : (key : X → List ℕ) (row : Cell → Option X) (k : List ℕ) (i : ℕ) (c : Cell) (cells : List Cell) → row None ≡ None → IsEdit key row k i c cells → rows_by key row (set_cell i c cells) ≡ with_row key (row c) (drop_by key k (rows_by key row cells))
+  pub edited : (key : X → List ℕ) (row : Cell → Option X) (k : List ℕ) (i : ℕ) (c : Cell) (cells : List Cell) → row None ≡ None
+      → IsEdit key row k i c cells → rows_by key row (set_cell i c cells) ≡ with_row key (row c) (drop_by key k (rows_by key row cells))
   unfolding rows_by set_cell cell_no
   edited key row k i c [] none is = ap (with_row key (row c)) (sym (drop_none key k))
   edited key row k zero c (d ∷ cells) none is =
@@ -130,7 +135,8 @@ module _ {X : Type 0} where
       ∙ ap (with_row key (row c)) (sym (drop_with key k (row d) (rows_by key row cells) (is.others 0 first)))
 
   -- where neither the old cell nor the new one has a row of this kind, nothing changes
-  pub untouched : (key : X → List ℕ) (row : Cell → Option X) (i : ℕ) (c : Cell) (cells : List Cell) → i ≤ length cells → row None ≡ None → row c ≡ None → row (cell_no i cells) ≡ None → rows_by key row (set_cell i c cells) ≡ rows_by key row cells
+  pub untouched : (key : X → List ℕ) (row : Cell → Option X) (i : ℕ) (c : Cell) (cells : List Cell) → i ≤ length cells → row None ≡ None
+      → row c ≡ None → row (cell_no i cells) ≡ None → rows_by key row (set_cell i c cells) ≡ rows_by key row cells
   unfolding rows_by set_cell cell_no
   untouched key row zero c [] within none new old = ap (λ (o : Option X). with_row key o []) new
   untouched key row (suc i) c [] within none new old = absurd (omega (arith, within))
@@ -147,11 +153,13 @@ module _ {X : Type 0} where
   count_rows row [] = 0
   count_rows row (c ∷ cells) = one_if (row c) + count_rows row cells
 
-  more_rows : (key : X → List ℕ) (o : Option X) (xs : List X) → ((x : X) → o ≡ Some x → drop_by key (key x) xs ≡ xs) → length (with_row key o xs) ≡ one_if o + length xs
+  more_rows : (key : X → List ℕ) (o : Option X) (xs : List X) → ((x : X) → o ≡ Some x → drop_by key (key x) xs ≡ xs)
+      → length (with_row key o xs) ≡ one_if o + length xs
   more_rows key None xs absent = omega arith
   more_rows key (Some x) xs absent = ap length (put_edit key x xs) ∙ length-edit key (key x) x xs (sym (drop_edit key (key x) xs) ∙ absent x refl)
 
-  pub length-rows_by : (key : X → List ℕ) (row : Cell → Option X) (cells : List Cell) → ((i j : ℕ) → i < j → Differ key (row (cell_no i cells)) (row (cell_no j cells))) → length (rows_by key row cells) ≡ count_rows row cells
+  pub length-rows_by : (key : X → List ℕ) (row : Cell → Option X) (cells : List Cell)
+      → ((i j : ℕ) → i < j → Differ key (row (cell_no i cells)) (row (cell_no j cells))) → length (rows_by key row cells) ≡ count_rows row cells
   unfolding rows_by cell_no count_rows
   length-rows_by key row [] once = refl
   length-rows_by key row (c ∷ cells) once =

@@ -39,7 +39,8 @@ free_old (Rename old p) = refl
 free_old (PutPolicy p) = refl
 free_old (DropPolicy name) = refl
 
-other_old : (u : Units) (cells : List Cell) (op : Op) (i j : ℕ) (c : Cell) → AreCellsOf u cells → IsGivenFor (key_of (Some op)) i u → Some i ≢ Some j → cell_no j cells ≡ c → has_old op c ≡ false
+other_old : (u : Units) (cells : List Cell) (op : Op) (i j : ℕ) (c : Cell) → AreCellsOf u cells → IsGivenFor (key_of (Some op)) i u → Some i ≢ Some j
+    → cell_no j cells ≡ c → has_old op c ≡ false
 other_old u cells op i j None are given apart here = free_old op
 other_old u cells op i j (Some r) are given apart here = false_from_ne_true _ (λ has.
     apart (ap Some (given.own j (ap u.of (sym (old_key op r has)) ∙ are.found j r here))))
@@ -47,14 +48,16 @@ other_old u cells op i j (Some r) are given apart here = false_from_ne_true _ (�
 key_there : (key : List ℕ) (c : Cell) (r : StoredRow) → c ≡ Some r → HasKey key c → name_of r ≡ key
 key_there key c r is has = subst (HasKey key) is has
 
-own_old : (u : Units) (cells : List Cell) (rows : RowLists) (op : Op) (i : ℕ) (r : StoredRow) (o : Option ℕ) → AreRowCells u cells rows → IsOp (Some op) → IsGivenFor (key_of (Some op)) i u → u.of (key_of (Some op)) ≡ o → cell_no i cells ≡ Some r → has_old op (Some r) ≡ true
+own_old : (u : Units) (cells : List Cell) (rows : RowLists) (op : Op) (i : ℕ) (r : StoredRow) (o : Option ℕ) → AreRowCells u cells rows
+    → IsOp (Some op) → IsGivenFor (key_of (Some op)) i u → u.of (key_of (Some op)) ≡ o → cell_no i cells ≡ Some r → has_old op (Some r) ≡ true
 own_old u cells rows op i r None is fits given leads here = absurd (given.new leads (name_of r) (is.are.found i r here))
 own_old u cells rows op i r (Some j) is fits given leads here =
     let same = given.own j leads in
     key_old u cells rows op i r is fits here
     (key_there (key_of (Some op)) (cell_no j cells) r (ap (λ (k : ℕ). cell_no k cells) (sym same) ∙ here) (is.are.leads (key_of (Some op)) j leads))
 
-pub unit_for : (u : Units) (cells : List Cell) (rows : RowLists) (op : Op) (i : ℕ) → AreRowCells u cells rows → IsOp (Some op) → IsGivenFor (key_of (Some op)) i u → IsUnitFor op (Some i) cells
+pub unit_for : (u : Units) (cells : List Cell) (rows : RowLists) (op : Op) (i : ℕ) → AreRowCells u cells rows → IsOp (Some op)
+    → IsGivenFor (key_of (Some op)) i u → IsUnitFor op (Some i) cells
 unit_for u cells rows op i is fits given = record {
   others = λ j apart. other_old u cells op i j (cell_no j cells) is.are given apart refl;
   own = λ j r at here.
@@ -86,7 +89,8 @@ some_apart i j apart e = let same : i ≡ j = cc in apart (sym same)
 free_clash : (c : Cell) → clash None c ≡ false
 free_clash c = refl
 
-pub new_apart : (u : Units) (cells : List Cell) (rows : RowLists) (op : Op) (i : ℕ) → AreRowCells u cells rows → IsNewName op rows → IsUnitFor op (Some i) cells → IsApart i (cell_after op) cells
+pub new_apart : (u : Units) (cells : List Cell) (rows : RowLists) (op : Op) (i : ℕ) → AreRowCells u cells rows → IsNewName op rows
+    → IsUnitFor op (Some i) cells → IsApart i (cell_after op) cells
 new_apart u cells rows (PutPrinc p) i is new unit j other = princ_clash p (cell_no j cells) (λ q here. not_princ p.name (cell_no j cells) q (unit.others j (some_apart i j other)) here)
 new_apart u cells rows (DropPrinc name) i is new unit j other = refl
 new_apart u cells rows (Rename old p) i is (inl same) unit j other =
@@ -117,12 +121,14 @@ clash_policy p None apart = tt
 clash_policy p (Some (Princ q)) apart = tt
 clash_policy p (Some (Policy q)) apart = λ e. true≢false (sym (bytes_same p.name q.name (sym e)) ∙ apart)
 
-own_princ : (name : List ℕ) (c : Cell) → ((r : StoredRow) → c ≡ Some r → has_princ name (Some r) ≡ true) → Agrees princ_key name (princ_of c) × (policy_of c ≡ None)
+own_princ : (name : List ℕ) (c : Cell) → ((r : StoredRow) → c ≡ Some r → has_princ name (Some r) ≡ true)
+    → Agrees princ_key name (princ_of c) × (policy_of c ≡ None)
 own_princ name None own = (tt, refl)
 own_princ name (Some (Princ q)) own = (same_bytes q.name name (own (Princ q) refl), refl)
 own_princ name (Some (Policy q)) own = let wrong : false ≡ true = own (Policy q) refl in absurd cc
 
-own_policy : (name : List ℕ) (c : Cell) → ((r : StoredRow) → c ≡ Some r → has_policy name (Some r) ≡ true) → Agrees policy_key name (policy_of c) × (princ_of c ≡ None)
+own_policy : (name : List ℕ) (c : Cell) → ((r : StoredRow) → c ≡ Some r → has_policy name (Some r) ≡ true)
+    → Agrees policy_key name (policy_of c) × (princ_of c ≡ None)
 own_policy name None own = (tt, refl)
 own_policy name (Some (Princ q)) own = let wrong : false ≡ true = own (Princ q) refl in absurd cc
 own_policy name (Some (Policy q)) own = (same_bytes q.name name (own (Policy q) refl), refl)
@@ -131,7 +137,8 @@ same_lists : (a b : List Principal) (c d : List Rules) → a ≡ b → c ≡ d �
 same_lists a b c d x y = ap (λ (l : List Principal). lists l c) x ∙ ap (λ (l : List Rules). lists b l) y
 
 -- a cell of a principal is changed
-princ_changed : (name : List ℕ) (i : ℕ) (c : Cell) (cells : List Cell) → i ≤ length cells → policy_of c ≡ None → ((j : ℕ) → j ≢ i → has_princ name (cell_no j cells) ≡ false) → ((r : StoredRow) → cell_no i cells ≡ Some r → has_princ name (Some r) ≡ true)
+princ_changed : (name : List ℕ) (i : ℕ) (c : Cell) (cells : List Cell) → i ≤ length cells → policy_of c ≡ None
+    → ((j : ℕ) → j ≢ i → has_princ name (cell_no j cells) ≡ false) → ((r : StoredRow) → cell_no i cells ≡ Some r → has_princ name (Some r) ≡ true)
     → ((j : ℕ) → j ≢ i → Differ princ_key (princ_of c) (princ_of (cell_no j cells)))
     → rows_of (set_cell i c cells) ≡ lists (with_row princ_key (princ_of c) (drop_by princ_key name (rows_by princ_key princ_of cells))) (rows_by policy_key policy_of cells)
 princ_changed name i c cells within none others own new =
@@ -141,7 +148,8 @@ princ_changed name i c cells within none others own new =
     (edited princ_key princ_of name i c cells refl (record { within = within; own = here.0; others = λ j apart. lacks_princ name (cell_no j cells) (others j apart); new = new }))
     (untouched policy_key policy_of i c cells within refl none here.1)
 
-policy_changed : (name : List ℕ) (i : ℕ) (c : Cell) (cells : List Cell) → i ≤ length cells → princ_of c ≡ None → ((j : ℕ) → j ≢ i → has_policy name (cell_no j cells) ≡ false) → ((r : StoredRow) → cell_no i cells ≡ Some r → has_policy name (Some r) ≡ true)
+policy_changed : (name : List ℕ) (i : ℕ) (c : Cell) (cells : List Cell) → i ≤ length cells → princ_of c ≡ None
+    → ((j : ℕ) → j ≢ i → has_policy name (cell_no j cells) ≡ false) → ((r : StoredRow) → cell_no i cells ≡ Some r → has_policy name (Some r) ≡ true)
     → ((j : ℕ) → j ≢ i → Differ policy_key (policy_of c) (policy_of (cell_no j cells)))
     → rows_of (set_cell i c cells) ≡ lists (rows_by princ_key princ_of cells) (with_row policy_key (policy_of c) (drop_by policy_key name (rows_by policy_key policy_of cells)))
 policy_changed name i c cells within none others own new =
@@ -152,7 +160,8 @@ policy_changed name i c cells within none others own new =
     (edited policy_key policy_of name i c cells refl (record { within = within; own = here.0; others = λ j apart. lacks_policy name (cell_no j cells) (others j apart); new = new }))
 
 -- the change has its effect
-pub rows_changed : (op : Op) (i : ℕ) (cells : List Cell) → i ≤ length cells → IsUnitFor op (Some i) cells → IsApart i (cell_after op) cells → rows_of (set_cell i (cell_after op) cells) ≡ effect (Some op) (rows_of cells)
+pub rows_changed : (op : Op) (i : ℕ) (cells : List Cell) → i ≤ length cells → IsUnitFor op (Some i) cells → IsApart i (cell_after op) cells
+    → rows_of (set_cell i (cell_after op) cells) ≡ effect (Some op) (rows_of cells)
 unfolding effect put_princ drop_princ put_policy drop_policy
 rows_changed (PutPrinc p) i cells within unit apart =
     princ_changed p.name i (Some (Princ p)) cells within refl (λ j other. unit.others j (some_apart i j other)) (λ r. unit.own i r refl) (λ j other. clash_princ p (cell_no j cells) (apart j other))
@@ -185,7 +194,8 @@ taken_rows u cells are =
 row_stored : (p : Principal) → IsRow p → IsRowOf 2 p
 row_stored p row = record { row = row; first = λ e. absurd (omega (arith, e)) }
 
-pub stored_each : (u : Units) (cells : List Cell) (rows : RowLists) (j : ℕ) (r : StoredRow) → AreRowCells u cells rows → cell_no j cells ≡ Some r → IsStored 2 r
+pub stored_each : (u : Units) (cells : List Cell) (rows : RowLists) (j : ℕ) (r : StoredRow) → AreRowCells u cells rows → cell_no j cells ≡ Some r
+    → IsStored 2 r
 stored_each u cells rows j (Princ p) is here = row_stored p (each_princ IsRow u cells rows is.are is.rows_is is.sound.princs j p here)
 stored_each u cells rows j (Policy p) is here = each_policy IsPolicy u cells rows is.are is.rows_is is.sound.policies j p here
 
@@ -201,7 +211,8 @@ key_of_some key None has = absurd has
 key_of_some key (Some s) has = (s, (refl, has))
 
 -- the index leads from the new row's name to no other unit
-pub leads_alone : (u : Units) (cells : List Cell) (rows : RowLists) (i : ℕ) (r : StoredRow) → AreRowCells u cells rows → IsStored 2 r → IsApart i (Some r) cells → (j : ℕ) → u.of (name_of r) ≡ Some j → j ≡ i
+pub leads_alone : (u : Units) (cells : List Cell) (rows : RowLists) (i : ℕ) (r : StoredRow) → AreRowCells u cells rows → IsStored 2 r
+    → IsApart i (Some r) cells → (j : ℕ) → u.of (name_of r) ≡ Some j → j ≡ i
 leads_alone u cells rows i r is stored apart j leads =
     let there = key_of_some (name_of r) (cell_no j cells) (is.are.leads (name_of r) j leads) in
     ⊎_elim
@@ -216,7 +227,8 @@ near_unit i None le = refl
 near_unit i (Some r) le = le-ltb _ _ le
 
 -- there is room for what stands in the unit
-few_for : (u : Units) (cells : List Cell) (rows : RowLists) (op : Op) (i : ℕ) (c : Cell) → AreRowCells u cells rows → IsOp (Some op) → IsRoom (effect (Some op) rows) → i ≤ length cells → IsUnitFor op (Some i) cells → IsApart i (cell_after op) cells → cell_after op ≡ c
+few_for : (u : Units) (cells : List Cell) (rows : RowLists) (op : Op) (i : ℕ) (c : Cell) → AreRowCells u cells rows → IsOp (Some op)
+    → IsRoom (effect (Some op) rows) → i ≤ length cells → IsUnitFor op (Some i) cells → IsApart i (cell_after op) cells → cell_after op ≡ c
     → taken cells + taken_by c ≤ most_rows + taken_by (cell_no i cells)
 few_for u cells rows op i None is fits room within unit apart left =
     let few = is.sound.few in
@@ -230,7 +242,8 @@ few_for u cells rows op i (Some r) is fits room within unit apart left =
     omega (arith, taken_set i (Some r) cells within, taken_rows (leading (name_of r) i u) (set_cell i (Some r) cells) after, ap (λ (x : RowLists). length x.princs + length x.policies) same, room)
 
 -- what the change leaves may stand in its unit
-pub may_stand : (u : Units) (cells : List Cell) (rows : RowLists) (op : Op) (i : ℕ) → AreRowCells u cells rows → IsOp (Some op) → IsNewName op rows → IsRoom (effect (Some op) rows) → i ≤ last_unit → IsGivenFor (key_of (Some op)) i u → MayStand 2 i (cell_after op) cells
+pub may_stand : (u : Units) (cells : List Cell) (rows : RowLists) (op : Op) (i : ℕ) → AreRowCells u cells rows → IsOp (Some op) → IsNewName op rows
+    → IsRoom (effect (Some op) rows) → i ≤ last_unit → IsGivenFor (key_of (Some op)) i u → MayStand 2 i (cell_after op) cells
 may_stand u cells rows op i is fits new room near given =
     let within : i ≤ length cells = omega (arith, given.within, is.are.next) in
     let unit = unit_for u cells rows op i is fits given in
@@ -250,14 +263,16 @@ may_stand u cells rows op i is fits new room near given =
 abbrev pub IsAbsent : Op → List Cell → Type 0
 IsAbsent op cells = (j : ℕ) → has_old op (cell_no j cells) ≡ false
 
-pub drop_princ_absent : (name : List ℕ) (cells : List Cell) → ((j : ℕ) → has_princ name (cell_no j cells) ≡ false) → rows_of cells ≡ effect (Some (DropPrinc name)) (rows_of cells)
+pub drop_princ_absent : (name : List ℕ) (cells : List Cell) → ((j : ℕ) → has_princ name (cell_no j cells) ≡ false)
+    → rows_of cells ≡ effect (Some (DropPrinc name)) (rows_of cells)
 unfolding effect drop_princ
 drop_princ_absent name cells none =
     rows_are cells
     ∙ ap (λ (l : List Principal). lists l (rows_by policy_key policy_of cells)) (sym (drop_absent princ_key princ_of name cells (λ j. lacks_princ name (cell_no j cells) (none j))))
     ∙ ap (drop_princ name) (sym (rows_are cells))
 
-pub drop_policy_absent : (name : List ℕ) (cells : List Cell) → ((j : ℕ) → has_policy name (cell_no j cells) ≡ false) → rows_of cells ≡ effect (Some (DropPolicy name)) (rows_of cells)
+pub drop_policy_absent : (name : List ℕ) (cells : List Cell) → ((j : ℕ) → has_policy name (cell_no j cells) ≡ false)
+    → rows_of cells ≡ effect (Some (DropPolicy name)) (rows_of cells)
 unfolding effect drop_policy
 drop_policy_absent name cells none =
     rows_are cells
@@ -265,7 +280,8 @@ drop_policy_absent name cells none =
     ∙ ap (drop_policy name) (sym (rows_are cells))
 
 -- where no row has the name, no cell has it
-pub princ_absent : (u : Units) (cells : List Cell) (rows : RowLists) (name : List ℕ) → AreRowCells u cells rows → All (λ q. q.name ≢ name) rows.princs → (j : ℕ) → has_princ name (cell_no j cells) ≡ false
+pub princ_absent : (u : Units) (cells : List Cell) (rows : RowLists) (name : List ℕ) → AreRowCells u cells rows → All (λ q. q.name ≢ name) rows.princs
+    → (j : ℕ) → has_princ name (cell_no j cells) ≡ false
 princ_absent u cells rows name is none j = by (cell_no j cells) refl
   where
     by : (c : Cell) → cell_no j cells ≡ c → has_princ name c ≡ false
@@ -273,7 +289,8 @@ princ_absent u cells rows name is none j = by (cell_no j cells) refl
     by (Some (Princ q)) here = false_from_ne_true _ (λ same. each_princ (λ x. x.name ≢ name) u cells rows is.are is.rows_is none j q here (same_bytes q.name name same))
     by (Some (Policy q)) here = refl
 
-pub policy_absent : (u : Units) (cells : List Cell) (rows : RowLists) (name : List ℕ) → AreRowCells u cells rows → All (λ q. q.name ≢ name) rows.policies → (j : ℕ) → has_policy name (cell_no j cells) ≡ false
+pub policy_absent : (u : Units) (cells : List Cell) (rows : RowLists) (name : List ℕ) → AreRowCells u cells rows
+    → All (λ q. q.name ≢ name) rows.policies → (j : ℕ) → has_policy name (cell_no j cells) ≡ false
 policy_absent u cells rows name is none j = by (cell_no j cells) refl
   where
     by : (c : Cell) → cell_no j cells ≡ c → has_policy name c ≡ false
@@ -282,7 +299,8 @@ policy_absent u cells rows name is none j = by (cell_no j cells) refl
     by (Some (Policy q)) here = false_from_ne_true _ (λ same. each_policy (λ x. x.name ≢ name) u cells rows is.are is.rows_is none j q here (same_bytes q.name name same))
 
 -- and the rows are then those of its effect
-pub rows_given : (u : Units) (cells : List Cell) (rows : RowLists) (op : Op) (i : ℕ) → AreRowCells u cells rows → IsOp (Some op) → IsNewName op rows → IsGivenFor (key_of (Some op)) i u → rows_of (set_cell i (cell_after op) cells) ≡ effect (Some op) rows
+pub rows_given : (u : Units) (cells : List Cell) (rows : RowLists) (op : Op) (i : ℕ) → AreRowCells u cells rows → IsOp (Some op) → IsNewName op rows
+    → IsGivenFor (key_of (Some op)) i u → rows_of (set_cell i (cell_after op) cells) ≡ effect (Some op) rows
 rows_given u cells rows op i is fits new given =
     let within : i ≤ length cells = omega (arith, given.within, is.are.next) in
     let unit = unit_for u cells rows op i is fits given in

@@ -39,12 +39,14 @@ every P each [] = tt
 every P each (l ∷ held) = (each l, every P each held)
 
 -- in format 2 each entry may stand
-pub log_reads : (format : ℕ) (base : Point) (size block : ℕ) (held : List Logged) (file : List ℕ) → format ≡ 2 → HoldsIn base size block held file → log_in format base size block file ≡ Ok held
+pub log_reads : (format : ℕ) (base : Point) (size block : ℕ) (held : List Logged) (file : List ℕ) → format ≡ 2 → HoldsIn base size block held file
+    → log_in format base size block file ≡ Ok held
 log_reads format base size block held file newer holds =
     let P = λ (l : Logged). stands_in format l ≡ true in
     reads_logs format base size block held file holds (All-from_recursion P (holds.older ++ held) (every P (λ l. subst (λ (f : ℕ). stands_in f l ≡ true) (sym newer) refl) (holds.older ++ held)))
 
-pub log_found : (log : Journal) (o : Found) (file : List ℕ) → o.control.format ≡ 2 → IsLogOf log o → logs.Holds log file → log_in o.control.format o.control.base o.control.size o.control.block file ≡ Ok o.held
+pub log_found : (log : Journal) (o : Found) (file : List ℕ) → o.control.format ≡ 2 → IsLogOf log o → logs.Holds log file
+    → log_in o.control.format o.control.base o.control.size o.control.block file ≡ Ok o.held
 log_found log o file newer is holds =
     let format = o.control.format in
     let at_base = subst (λ (b : Point). HoldsIn b log.size log.block log.held file) is.base_is holds in
@@ -83,7 +85,8 @@ log_apart choice c d files others = stash_same choice c d (λ some. others choic
 image_apart : (choice : Choice) (c d : Files) → HasFiles choice → ((g : ℕ) → g ≢ choice.image → c g ≡ d g) → stash_in choice c ≡ stash_in choice d
 image_apart choice c d files others = stash_same choice c d (λ some. others choice.stash (files.stash some).1)
 
-pub stands_by_log : (o : Found) (c d : Files) → HasFiles o.control → StandsOnDisk o d → ((g : ℕ) → g ≢ o.control.log → c g ≡ d g) → log_in o.control.format o.control.base o.control.size o.control.block (c o.control.log) ≡ Ok o.held → StandsOnDisk o c
+pub stands_by_log : (o : Found) (c d : Files) → HasFiles o.control → StandsOnDisk o d → ((g : ℕ) → g ≢ o.control.log → c g ≡ d g)
+    → log_in o.control.format o.control.base o.control.size o.control.block (c o.control.log) ≡ Ok o.held → StandsOnDisk o c
 stands_by_log o c d files stands others log = record {
   force = ap in_force (others 0 (turned _ _ files.log)) ∙ stands.force;
   would = record {
@@ -93,7 +96,8 @@ stands_by_log o c d files stands others log = record {
   };
 }
 
-may_within : (format : ℕ) (unit : Option ℕ) (c : Cell) (cells : List Cell) → MayChange format unit c cells → (i : ℕ) → unit ≡ Some i → (1 ≤ i) × (i ≤ length cells)
+may_within : (format : ℕ) (unit : Option ℕ) (c : Cell) (cells : List Cell) → MayChange format unit c cells → (i : ℕ) → unit ≡ Some i
+    → (1 ≤ i) × (i ≤ length cells)
 may_within format None c cells may i is = absurd cc
 may_within format (Some k) c cells may i is = let same : k ≡ i = cc in subst (λ (j : ℕ). (1 ≤ j) × (j ≤ length cells)) same (may.from, may.within)
 
@@ -104,8 +108,10 @@ cell_most cell n le = ⊎_elim
     (cases_eq cell 0)
 
 -- the entry is open, and nothing else is done
-pub pending_by_log : (l : Logged) (o : Found) (c d : Files) → HasFiles o.control → MayChange o.control.format (unit_changed l) (left_by l.entry.op) o.sheet.cells → StandsOnDisk o d → ((g : ℕ) → g ≢ o.control.log → c g ≡ d g)
-    → log_in o.control.format o.control.base o.control.size o.control.block (c o.control.log) ≡ Ok (newest o.control.size (o.held ++ l ∷ [])) → Pending l o c
+pub pending_by_log : (l : Logged) (o : Found) (c d : Files) → HasFiles o.control
+    → MayChange o.control.format (unit_changed l) (left_by l.entry.op) o.sheet.cells → StandsOnDisk o d → ((g : ℕ) → g ≢ o.control.log → c g ≡ d g)
+    → log_in o.control.format o.control.base o.control.size o.control.block (c o.control.log) ≡ Ok (newest o.control.size (o.held ++ l ∷ []))
+    → Pending l o c
 pending_by_log l o c d files may stands others log =
     let image = others o.control.image (turned _ _ files.apart) in
     let sheet : sheet_in o.control.format (c o.control.image) ≡ Ok o.sheet = ap (sheet_in o.control.format) image ∙ stands.would.sheet in
@@ -121,7 +127,8 @@ pending_by_log l o c d files may stands others log =
     }
 
 -- a unit that is passed over may have any bytes
-skip_torn : (format i : ℕ) (bytes file : List ℕ) → i * unit_size format ≤ length file → length bytes ≤ unit_size format → skipping format (Some i) (put (i * unit_size format) bytes file) ≡ skipping format (Some i) file
+skip_torn : (format i : ℕ) (bytes file : List ℕ) → i * unit_size format ≤ length file → length bytes ≤ unit_size format
+    → skipping format (Some i) (put (i * unit_size format) bytes file) ≡ skipping format (Some i) file
 unfolding put_cell
 skip_torn format i bytes file within few = put-put (i * unit_size format) bytes (unit_text format None) file within (omega (arith, length-unit format None tt, few))
 
@@ -129,7 +136,8 @@ skip_within : (format i : ℕ) (file : List ℕ) → i * unit_size format ≤ le
 unfolding count_of
 skip_within format i file within = div_most (length file) (unit_size format) i (some_unit format) within
 
-pub pending_torn : (l : Logged) (o : Found) (i : ℕ) (c d : Files) → HasFiles o.control → unit_changed l ≡ Some i → Pending l o d → Torn o.control.image (i * unit_size o.control.format) (unit_size o.control.format) d c → Pending l o c
+pub pending_torn : (l : Logged) (o : Found) (i : ℕ) (c d : Files) → HasFiles o.control → unit_changed l ≡ Some i → Pending l o d
+    → Torn o.control.image (i * unit_size o.control.format) (unit_size o.control.format) d c → Pending l o c
 pending_torn l o i c d files unit is torn =
     let format = o.control.format in
     let at = i * unit_size format in
@@ -155,7 +163,8 @@ pending_torn l o i c d files unit is torn =
     }
 
 -- the unit is written
-pub written_stands : (l : Logged) (o : Found) (c d : Files) → HasFiles o.control → Pending l o d → ((g : ℕ) → g ≢ o.control.image → c g ≡ d g) → sheet_in o.control.format (c o.control.image) ≡ Ok (after l o).sheet → StandsOnDisk (after l o) c
+pub written_stands : (l : Logged) (o : Found) (c d : Files) → HasFiles o.control → Pending l o d → ((g : ℕ) → g ≢ o.control.image → c g ≡ d g)
+    → sheet_in o.control.format (c o.control.image) ≡ Ok (after l o).sheet → StandsOnDisk (after l o) c
 written_stands l o c d files is others sheet = record {
   force = ap in_force (others 0 (turned _ _ files.image)) ∙ is.force;
   would = record {
@@ -172,14 +181,16 @@ unchanged_stands l o c unit is = record {
   would = record { log = is.log; sheet = by (unit_changed l) unit is.sheet; stash = is.stash };
 }
   where
-    by : (u : Option ℕ) → u ≡ None → sheet_in o.control.format (skipping o.control.format u (c o.control.image)) ≡ Ok (record { realm = o.sheet.realm; cells = with_unit u None o.sheet.cells })
+    by : (u : Option ℕ) → u ≡ None
+        → sheet_in o.control.format (skipping o.control.format u (c o.control.image)) ≡ Ok (record { realm = o.sheet.realm; cells = with_unit u None o.sheet.cells })
         → sheet_in o.control.format (c o.control.image) ≡ Ok (record { realm = o.sheet.realm; cells = with_unit u (left_by l.entry.op) o.sheet.cells })
     by None none read = read
     by (Some i) none read = absurd cc
 
 -- ---- what stands is done
 
-pub after_done : (l : Logged) (o : Found) → 0 < o.control.size → MayChange o.control.format (unit_changed l) (left_by l.entry.op) o.sheet.cells → IsDone (after l o)
+pub after_done : (l : Logged) (o : Found) → 0 < o.control.size → MayChange o.control.format (unit_changed l) (left_by l.entry.op) o.sheet.cells
+    → IsDone (after l o)
 after_done l o some may =
     let last : last_in (after l o) ≡ l = last_newest o.control.base o.control.size o.held l some in
     subst (λ (x : Logged). HasCell (unit_changed x) (left_by x.entry.op) (redone l o.sheet.cells)) (sym last) (unit_holds o.control.format (unit_changed l) (left_by l.entry.op) o.sheet.cells may)
@@ -187,19 +198,22 @@ after_done l o some may =
 -- ---- runs
 
 -- files of which the log's alone changed
-log_others : {log : Journal} {o : Found} {P : List ℕ → Type 0} {old : View} {c : Files} → IsLogOf log o → (from : Leaves log.file P old c) → (g : ℕ) → g ≢ o.control.log → c g ≡ from.before g
+log_others : {log : Journal} {o : Found} {P : List ℕ → Type 0} {old : View} {c : Files} → IsLogOf log o → (from : Leaves log.file P old c) → (g : ℕ)
+    → g ≢ o.control.log → c g ≡ from.before g
 log_others {log} {o} {P} {old} {c} is from g apart = from.others g (λ e. apart (e ∙ is.file_is))
 
 log_here : (log : Journal) (o : Found) (P : List ℕ → Type 0) (c : Files) → IsLogOf log o → P (c log.file) → P (c o.control.log)
 log_here log o P c is here = subst (λ (f : ℕ). P (c f)) is.file_is here
 
 -- the entry is prepared
-pub prepare_runs : {old new : View} (log : Journal) (o : Found) → o.control.format ≡ 2 → IsLogOf log o → Holds o old → LeavesOnly old new (LeavesLog log old) → LeavesOnly old new (StandsOnDisk o)
+pub prepare_runs : {old new : View} (log : Journal) (o : Found) → o.control.format ≡ 2 → IsLogOf log o → Holds o old
+    → LeavesOnly old new (LeavesLog log old) → LeavesOnly old new (StandsOnDisk o)
 prepare_runs log o newer is holds run = weaken run (λ c from.
     stands_by_log o c from.before holds.files (holds.each from.before from.was) (log_others is from) (log_found log o (c o.control.log) newer is (log_here log o (logs.Holds log) c is from.here)))
 
 -- the entry is opened
-pub open_runs : {old new : View} (log : Journal) (o : Found) (l : Logged) → IsLogOf log o → log.prepared ≡ Some l → IsChange o l → HasFiles o.control → ((c : Files) → old.images c → StandsOnDisk o c)
+pub open_runs : {old new : View} (log : Journal) (o : Found) (l : Logged) → IsLogOf log o → log.prepared ≡ Some l → IsChange o l → HasFiles o.control
+    → ((c : Files) → old.images c → StandsOnDisk o c)
     → LeavesOnly old new (LeavesEither log (log_committed log) old) → LeavesOnly old new (IsUnderWay l o)
 open_runs log o l is prepared change files stands run = weaken run (λ c from. ⊎_elim
     (λ one. inl (stands_by_log o c from.before files (stands from.before from.was) (log_others is from) (log_found log o (c o.control.log) change.newer is (log_here log o (logs.Holds log) c is one))))
@@ -208,7 +222,8 @@ open_runs log o l is prepared change files stands run = weaken run (λ c from. �
     from.here)
 
 -- and is open in whatever a crash leaves
-pub opened_pending : {old new : View} (log : Journal) (o : Found) (l : Logged) → IsLogOf log o → log.prepared ≡ Some l → IsChange o l → HasFiles o.control → ((c : Files) → old.images c → StandsOnDisk o c)
+pub opened_pending : {old new : View} (log : Journal) (o : Found) (l : Logged) → IsLogOf log o → log.prepared ≡ Some l → IsChange o l
+    → HasFiles o.control → ((c : Files) → old.images c → StandsOnDisk o c)
     → LeavesOnly old new (LeavesEither log (log_committed log) old) → HasLog (log_committed log) new → (c : Files) → new.images c → Pending l o c
 opened_pending log o l is prepared change files stands run has c now =
     let from = at_end run c now in
@@ -216,20 +231,24 @@ opened_pending log o l is prepared change files stands run has c now =
     (log_found (log_committed log) (after l o) (c o.control.log) change.newer (log_after log o l prepared is) (log_here log o (logs.Holds (log_committed log)) c is (has.each c now)))
 
 -- the unit is written
-pub unit_runs : {old new : View} (o : Found) (l : Logged) (i : ℕ) → HasFiles o.control → unit_changed l ≡ Some i → ((c : Files) → old.images c → Pending l o c)
+pub unit_runs : {old new : View} (o : Found) (l : Logged) (i : ℕ) → HasFiles o.control → unit_changed l ≡ Some i
+    → ((c : Files) → old.images c → Pending l o c)
     → LeavesTorn o.control.image (i * unit_size o.control.format) (unit_size o.control.format) old new → LeavesOnly old new (Pending l o)
 unit_runs o l i files unit pending run = weaken run (λ c from. pending_torn l o i c from.before files unit (pending from.before from.was) from.went)
 
 -- each image of a written unit
-pub written_each : {old new : View} (o : Found) (l : Logged) (at n : ℕ) → HasFiles o.control → ((c : Files) → old.images c → Pending l o c) → LeavesTorn o.control.image at n old new
-    → ((c : Files) → new.images c → c o.control.image ≡ new.seen o.control.image) → sheet_in o.control.format (new.seen o.control.image) ≡ Ok (after l o).sheet → (c : Files) → new.images c → StandsOnDisk (after l o) c
+pub written_each : {old new : View} (o : Found) (l : Logged) (at n : ℕ) → HasFiles o.control → ((c : Files) → old.images c → Pending l o c)
+    → LeavesTorn o.control.image at n old new
+    → ((c : Files) → new.images c → c o.control.image ≡ new.seen o.control.image)
+    → sheet_in o.control.format (new.seen o.control.image) ≡ Ok (after l o).sheet → (c : Files) → new.images c → StandsOnDisk (after l o) c
 written_each o l at n files pending run durable sheet c now =
     let from = at_end run c now in
     written_stands l o c from.before files (pending from.before from.was) (λ g apart. ap (λ (f : Files). f g) from.went.is ∙ written-other o.control.image g at from.went.bytes from.before apart)
     (ap (sheet_in o.control.format) (durable c now) ∙ sheet)
 
 -- what a write of one file leaves of another
-pub other_durable : {old new : View} (file g at n : ℕ) (bytes : List ℕ) → g ≢ file → IsDurable g old → LeavesTorn file at n old new → new.seen ≡ written file at bytes old.seen → IsDurable g new
+pub other_durable : {old new : View} (file g at n : ℕ) (bytes : List ℕ) → g ≢ file → IsDurable g old → LeavesTorn file at n old new
+    → new.seen ≡ written file at bytes old.seen → IsDurable g new
 other_durable {old} {new} file g at n bytes apart durable run seen = record {
   durable = λ c now.
       let from = at_end run c now in
@@ -247,6 +266,8 @@ other_log log file at n apart has run = record {
 -- ---- what is found
 
 -- a change that is under way is found to be done or not
-pub under_way_found : (l : Logged) (o : Found) (c : Files) → IsDone o → 0 < o.control.size → MayChange o.control.format (unit_changed l) (left_by l.entry.op) o.sheet.cells → IsUnderWay l o c → (found_in c ≡ Ok o) ⊎ (found_in c ≡ Ok (after l o))
+pub under_way_found : (l : Logged) (o : Found) (c : Files) → IsDone o → 0 < o.control.size
+    → MayChange o.control.format (unit_changed l) (left_by l.entry.op) o.sheet.cells → IsUnderWay l o c
+    → (found_in c ≡ Ok o) ⊎ (found_in c ≡ Ok (after l o))
 under_way_found l o c done some may (inl stands) = inl (stands_found o c done stands)
 under_way_found l o c done some may (inr pending) = inr (pending_found l o c some may pending)

@@ -47,7 +47,8 @@ pub record IsRedone (choice : Choice) (held : List Logged) (last : Logged) (shee
   pub placed : is_placed (unit_changed last) (left_by last.entry.op) sheet.cells ≡ true
   pub stash_is : stash_in choice files ≡ stash
 
-pub found_redone : (choice : Choice) (held : List Logged) (last : Logged) (sheet : Sheet) (stash : Option (List ℕ)) (files : Files) → IsRedone choice held last sheet stash files
+pub found_redone : (choice : Choice) (held : List Logged) (last : Logged) (sheet : Sheet) (stash : Option (List ℕ)) (files : Files)
+    → IsRedone choice held last sheet stash files
     → found_in files ≡ Ok (record { control = choice; held = held; sheet = record { realm = sheet.realm; cells = redone last sheet.cells }; stash = stash })
 unfolding found_in found_last
 found_redone choice held last sheet stash files is =
@@ -69,7 +70,8 @@ same_found choice held realm a b stash is = ap (λ (l : List Cell). Ok (record {
 -- ---- a change that is under way
 
 -- what its entry leaves is found, whatever its unit holds
-pub pending_found : (l : Logged) (o : Found) (files : Files) → 0 < o.control.size → MayChange o.control.format (unit_changed l) (left_by l.entry.op) o.sheet.cells → Pending l o files → found_in files ≡ Ok (after l o)
+pub pending_found : (l : Logged) (o : Found) (files : Files) → 0 < o.control.size
+    → MayChange o.control.format (unit_changed l) (left_by l.entry.op) o.sheet.cells → Pending l o files → found_in files ≡ Ok (after l o)
 pending_found l o files some may is =
     let unit = unit_changed l in
     let left = left_by l.entry.op in
@@ -89,12 +91,14 @@ pending_found l o files some may is =
 -- ---- where all stands
 
 -- a unit that stands may be passed over
-may_free : (format i : ℕ) (c : Cell) (sheet : Sheet) (file : List ℕ) → sheet_in format file ≡ Ok sheet → 1 ≤ i → i ≤ length sheet.cells → MayStand format i None sheet.cells
+may_free : (format i : ℕ) (c : Cell) (sheet : Sheet) (file : List ℕ) → sheet_in format file ≡ Ok sheet → 1 ≤ i → i ≤ length sheet.cells
+    → MayStand format i None sheet.cells
 may_free format i c sheet file read from within =
     let few = (read_sheet format file sheet read).few in
     record { from = from; within = within; fits = tt; near = refl; alone = λ j other. refl; few = omega (arith, few) }
 
-pub passed_over : (format : ℕ) (unit : Option ℕ) (sheet : Sheet) (file : List ℕ) → sheet_in format file ≡ Ok sheet → ((i : ℕ) → unit ≡ Some i → (1 ≤ i) × (i ≤ length sheet.cells))
+pub passed_over : (format : ℕ) (unit : Option ℕ) (sheet : Sheet) (file : List ℕ) → sheet_in format file ≡ Ok sheet
+    → ((i : ℕ) → unit ≡ Some i → (1 ≤ i) × (i ≤ length sheet.cells))
     → sheet_in format (skipping format unit file) ≡ Ok (record { realm = sheet.realm; cells = with_unit unit None sheet.cells })
 passed_over format None sheet file read within = read
 passed_over format (Some i) sheet file read within =

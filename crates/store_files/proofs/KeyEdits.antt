@@ -38,7 +38,8 @@ under_both k a b Less e lt = rw (e, nat_list_cmp_total.trans k a b e lt) refl
 under_both k a b Equal e lt = rw e refl
 under_both k a b Greater e lt = rw e refl
 
-under_first : (k a b : List ℕ) (o : Ordering) → key_cmp k a ≡ o → key_cmp a b ≡ Less → is_lt (key_cmp k b) && is_lt (key_cmp k a) ≡ is_lt (key_cmp k a)
+under_first : (k a b : List ℕ) (o : Ordering) → key_cmp k a ≡ o → key_cmp a b ≡ Less
+    → is_lt (key_cmp k b) && is_lt (key_cmp k a) ≡ is_lt (key_cmp k a)
 under_first k a b Less e lt = rw (e, nat_list_cmp_total.trans k a b e lt) refl
 under_first k a b Equal e lt = rw (e, sym (ap (λ (x : List ℕ). key_cmp x b) (sym (equal_is k a e))) ∙ lt) refl
 under_first k a b Greater e lt = by (is_lt (key_cmp k b))
@@ -52,7 +53,8 @@ over_both k a b Less e lt = rw e refl
 over_both k a b Equal e lt = rw e refl
 over_both k a b Greater e lt = rw (e, above a k (nat_list_cmp_total.trans a b k lt (below k b e))) refl
 
-over_second : (k a b : List ℕ) (o : Ordering) → key_cmp k b ≡ o → key_cmp a b ≡ Less → is_gt (key_cmp k a) && is_gt (key_cmp k b) ≡ is_gt (key_cmp k b)
+over_second : (k a b : List ℕ) (o : Ordering) → key_cmp k b ≡ o → key_cmp a b ≡ Less
+    → is_gt (key_cmp k a) && is_gt (key_cmp k b) ≡ is_gt (key_cmp k b)
 over_second k a b Greater e lt = rw (e, above a k (nat_list_cmp_total.trans a b k lt (below k b e))) refl
 over_second k a b Less e lt = by (is_gt (key_cmp k a))
   where
@@ -113,7 +115,8 @@ module _ {X : Type 0} where
   left_out : (p : X → Bool) (y : X) (ys : List X) → p y ≡ false → filter p (y ∷ ys) ≡ filter p ys
   left_out p y ys e = rw e refl
 
-  twice_at : (p q r : X → Bool) (x : X) (xs : List X) (b c : Bool) → p x ≡ b → q x ≡ c → b && c ≡ r x → filter p (filter q xs) ≡ filter r xs → filter p (filter q (x ∷ xs)) ≡ filter r (x ∷ xs)
+  twice_at : (p q r : X → Bool) (x : X) (xs : List X) (b c : Bool) → p x ≡ b → q x ≡ c → b && c ≡ r x → filter p (filter q xs) ≡ filter r xs
+      → filter p (filter q (x ∷ xs)) ≡ filter r (x ∷ xs)
   twice_at p q r x xs true true e f g h = ap (filter p) (kept q x xs f) ∙ kept p x (filter q xs) e ∙ ap (λ (zs : List X). x ∷ zs) h ∙ sym (kept r x xs (sym g))
   twice_at p q r x xs false true e f g h = ap (filter p) (kept q x xs f) ∙ left_out p x (filter q xs) e ∙ h ∙ sym (left_out r x xs (sym g))
   twice_at p q r x xs true false e f g h = ap (filter p) (left_out q x xs f) ∙ h ∙ sym (left_out r x xs (sym g))
@@ -182,7 +185,8 @@ module _ {X : Type 0} where
       ∙ three _ _ _ [] [] (filter high xs) (twice_none high low (λ x. neither_both (key_cmp (key x) k)) xs) (all_left key k high (λ x is. ap is_gt (at_key key k k x Equal is here)) n have) (twice high high high (λ x. both_self (high x)) xs) in
       ap (λ (l : List X). l ++ (m ++ filter high (filter low xs ++ (n ++ filter high xs)))) lower ∙ ap (λ (l : List X). filter low xs ++ (m ++ l)) higher
 
-  edit_swap : (key : X → List ℕ) (a b : List ℕ) (m n xs : List X) → key_cmp a b ≡ Less → HaveKey key a m → HaveKey key b n → edit key b n (edit key a m xs) ≡ edit key a m (edit key b n xs)
+  edit_swap : (key : X → List ℕ) (a b : List ℕ) (m n xs : List X) → key_cmp a b ≡ Less → HaveKey key a m → HaveKey key b n
+      → edit key b n (edit key a m xs) ≡ edit key a m (edit key b n xs)
   unfolding edit
   edit_swap key a b m n xs lt first second =
       let low_a = is_lower key a in
@@ -214,7 +218,8 @@ module _ {X : Type 0} where
       ∙ ap (λ (l : List X). l ++ (m ++ filter high_a other)) (sym under_a)
 
   -- edits at two keys commute
-  pub edits_commute : (key : X → List ℕ) (a b : List ℕ) (m n xs : List X) → a ≢ b → HaveKey key a m → HaveKey key b n → edit key b n (edit key a m xs) ≡ edit key a m (edit key b n xs)
+  pub edits_commute : (key : X → List ℕ) (a b : List ℕ) (m n xs : List X) → a ≢ b → HaveKey key a m → HaveKey key b n
+      → edit key b n (edit key a m xs) ≡ edit key a m (edit key b n xs)
   edits_commute key a b m n xs apart first second = by (key_cmp a b) refl
     where
       by : (o : Ordering) → key_cmp a b ≡ o → edit key b n (edit key a m xs) ≡ edit key a m (edit key b n xs)

@@ -6,3 +6,4 @@ pub mod Placing
 pub mod Changing
 pub mod Committing
 pub mod Placed
+pub mod Switching

@@ -25,7 +25,8 @@ use Rattle.store_files.proofs.Finding.{stands_found}
 
 -- ---- entries
 
-pub held_after : (size : ℕ) (held : List Logged) (l : Logged) → map entry_of (newest size (held ++ l ∷ [])) ≡ last_entries size (map entry_of held ++ l.entry ∷ [])
+pub held_after : (size : ℕ) (held : List Logged) (l : Logged)
+    → map entry_of (newest size (held ++ l ∷ [])) ≡ last_entries size (map entry_of held ++ l.entry ∷ [])
 held_after size held l =
     let all = held ++ l ∷ [] in
     let parts : map entry_of all ≡ map entry_of held ++ l.entry ∷ [] = map-append entry_of held (l ∷ []) in
@@ -34,7 +35,8 @@ held_after size held l =
     ∙ ap (last_entries size) parts
 
 -- the point of the last entry
-pub last_held : (point : Point) (held : List Logged) (d : Logged) → 0 < length held → last_point point (map entry_of held) ≡ (get_or held (length held - 1) d).entry.point
+pub last_held : (point : Point) (held : List Logged) (d : Logged) → 0 < length held
+    → last_point point (map entry_of held) ≡ (get_or held (length held - 1) d).entry.point
 unfolding last_point
 last_held point [] d some = absurd (omega (arith, some))
 last_held point (l ∷ []) d some = refl
@@ -45,13 +47,15 @@ last_held point (l ∷ (next ∷ held)) d some =
 
 -- ---- a change
 
-same_place : (realm : List ℕ) (rows other : RowLists) (held others : List Entry) (stash : Option (List ℕ)) (size block format : ℕ) → rows ≡ other → held ≡ others
+same_place : (realm : List ℕ) (rows other : RowLists) (held others : List Entry) (stash : Option (List ℕ)) (size block format : ℕ) → rows ≡ other
+    → held ≡ others
     → ◌≡◌ {A = Place} (record { realm = realm; rows = rows; held = held; stash = stash; size = size; block = block; format = format }) (record { realm = realm; rows = other; held = others; stash = stash; size = size; block = block; format = format })
 same_place realm rows other held others stash size block format a b =
     let made : RowLists → List Entry → Place = λ (r : RowLists) (h : List Entry). record { realm = realm; rows = r; held = h; stash = stash; size = size; block = block; format = format } in
     ap (λ (r : RowLists). made r held) a ∙ ap (made other) b
 
-pub place_after : (l : Logged) (o : Found) (op : Op) (time : Moment) → l.entry ≡ change op (next_point time (place_of o)) → rows_of (redone l o.sheet.cells) ≡ effect (Some op) (rows_of o.sheet.cells) → place_of (after l o) ≡ committed op time (place_of o)
+pub place_after : (l : Logged) (o : Found) (op : Op) (time : Moment) → l.entry ≡ change op (next_point time (place_of o))
+    → rows_of (redone l o.sheet.cells) ≡ effect (Some op) (rows_of o.sheet.cells) → place_of (after l o) ≡ committed op time (place_of o)
 place_after l o op time is rows =
     same_place o.sheet.realm _ _ _ _ o.stash o.control.size o.control.block o.control.format rows
     (held_after o.control.size o.held l ∙ ap (λ (e : Entry). last_entries o.control.size (map entry_of o.held ++ e ∷ [])) is)
@@ -67,7 +71,8 @@ kept_recovers k v is c now =
     ap place_in (stands_found (found_with k is.cells) c is.stands.done (is.stands.each c now)) ∙ ap Ok (place_is k is.cells is.rows)
 
 -- what is found to be as before or as after a change recovers to the one place or to the other
-pub either_place : {before next : Place} (a b : Found) (c : Files) → place_of a ≡ before → place_of b ≡ next → (found_in c ≡ Ok a) ⊎ (found_in c ≡ Ok b) → LeavesPart before (next ∷ []) c
+pub either_place : {before next : Place} (a b : Found) (c : Files) → place_of a ≡ before → place_of b ≡ next
+    → (found_in c ≡ Ok a) ⊎ (found_in c ≡ Ok b) → LeavesPart before (next ∷ []) c
 unfolding LeavesPart
 either_place a b c one other either = ⊎_elim
     (λ is. inl (ap place_in is ∙ ap Ok one))

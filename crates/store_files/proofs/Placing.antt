@@ -39,7 +39,8 @@ module _ {X : Type 0} where
   all_parted P [] x ys all = all
   all_parted P (z ∷ xs) x ys all = let rest = all_parted P xs x ys all.1 in (rest.0, (all.0, rest.1))
 
-  all_put : (P : X → Type 0) (key : X → List ℕ) (x : X) (xs : List X) → drop_by key (key x) xs ≡ xs → AllByRecursion P (put_by key x xs) → P x × AllByRecursion P xs
+  all_put : (P : X → Type 0) (key : X → List ℕ) (x : X) (xs : List X) → drop_by key (key x) xs ≡ xs → AllByRecursion P (put_by key x xs)
+      → P x × AllByRecursion P xs
   unfolding put_by drop_by
   all_put P key x xs absent all =
       let split = all_parted P (filter (is_lower key (key x)) xs) x (filter (is_higher key (key x)) xs) all in
@@ -56,16 +57,19 @@ module _ {X : Type 0} where
   unfolding cell_no
   next_apart key row c cells apart i j lt = apart (suc i) (suc j) (omega (arith, lt))
 
-  first_apart : (key : X → List ℕ) (row : Cell → Option X) (c : Cell) (cells : List Cell) → AreApart key row (c ∷ cells) → (x : X) → row c ≡ Some x → (j : ℕ) → Lacks key (key x) (row (cell_no j cells))
+  first_apart : (key : X → List ℕ) (row : Cell → Option X) (c : Cell) (cells : List Cell) → AreApart key row (c ∷ cells) → (x : X) → row c ≡ Some x
+      → (j : ℕ) → Lacks key (key x) (row (cell_no j cells))
   unfolding cell_no
   first_apart key row c cells apart x is j = subst (λ (o : Option X). Differ key o (row (cell_no j cells))) is (apart 0 (suc j) (omega arith))
 
   -- what holds of all rows holds of the first cell's, and of all rows of the others
-  all_first : (P : X → Type 0) (key : X → List ℕ) (o : Option X) (xs : List X) → ((x : X) → o ≡ Some x → drop_by key (key x) xs ≡ xs) → AllByRecursion P (with_row key o xs) → IfRow P o × AllByRecursion P xs
+  all_first : (P : X → Type 0) (key : X → List ℕ) (o : Option X) (xs : List X) → ((x : X) → o ≡ Some x → drop_by key (key x) xs ≡ xs)
+      → AllByRecursion P (with_row key o xs) → IfRow P o × AllByRecursion P xs
   all_first P key None xs absent all = (tt, all)
   all_first P key (Some x) xs absent all = all_put P key x xs (absent x refl) all
 
-  pub each_row : (P : X → Type 0) (key : X → List ℕ) (row : Cell → Option X) (cells : List Cell) → row None ≡ None → AreApart key row cells → AllByRecursion P (rows_by key row cells) → (j : ℕ) → IfRow P (row (cell_no j cells))
+  pub each_row : (P : X → Type 0) (key : X → List ℕ) (row : Cell → Option X) (cells : List Cell) → row None ≡ None → AreApart key row cells
+      → AllByRecursion P (rows_by key row cells) → (j : ℕ) → IfRow P (row (cell_no j cells))
   unfolding rows_by cell_no
   each_row P key row [] none apart all j = subst (IfRow P) (sym none) tt
   each_row P key row (c ∷ cells) none apart all zero =
@@ -77,7 +81,8 @@ module _ {X : Type 0} where
 -- ---- cells to which an index leads
 
 -- two rows of one name stand in one unit
-one_place : (u : Units) (cells : List Cell) (i j : ℕ) (r s : StoredRow) → AreCellsOf u cells → cell_no i cells ≡ Some r → cell_no j cells ≡ Some s → name_of r ≡ name_of s → i ≡ j
+one_place : (u : Units) (cells : List Cell) (i j : ℕ) (r s : StoredRow) → AreCellsOf u cells → cell_no i cells ≡ Some r → cell_no j cells ≡ Some s
+    → name_of r ≡ name_of s → i ≡ j
 one_place u cells i j r s are here there same =
     let both : Some i ≡ Some j = sym (are.found i r here) ∙ ap u.of same ∙ are.found j s there in
     let eq : i ≡ j = cc in eq
@@ -106,12 +111,14 @@ policies_apart u cells are i j lt = differ_by policy_key _ _ (λ p q here there 
     let eq = one_place u cells i j (Policy p) (Policy q) are (policy_there _ p here) (policy_there _ q there) (sym same) in absurd (omega (arith, lt, eq)))
 
 -- what holds of all principals of the rows holds of each in the cells
-pub each_princ : (P : Principal → Type 0) (u : Units) (cells : List Cell) (rows : RowLists) → AreCellsOf u cells → rows_of cells ≡ rows → All P rows.princs → (j : ℕ) (p : Principal) → cell_no j cells ≡ Some (Princ p) → P p
+pub each_princ : (P : Principal → Type 0) (u : Units) (cells : List Cell) (rows : RowLists) → AreCellsOf u cells → rows_of cells ≡ rows
+    → All P rows.princs → (j : ℕ) (p : Principal) → cell_no j cells ≡ Some (Princ p) → P p
 each_princ P u cells rows are same all j p is =
     let held = subst (AllByRecursion P) (ap (λ (r : RowLists). r.princs) (sym same) ∙ princs_are cells) (recursion_from_All P rows.princs all) in
     subst (IfRow P) (ap princ_of is) (each_row P princ_key princ_of cells refl (princs_apart u cells are) held j)
 
-pub each_policy : (P : Rules → Type 0) (u : Units) (cells : List Cell) (rows : RowLists) → AreCellsOf u cells → rows_of cells ≡ rows → All P rows.policies → (j : ℕ) (p : Rules) → cell_no j cells ≡ Some (Policy p) → P p
+pub each_policy : (P : Rules → Type 0) (u : Units) (cells : List Cell) (rows : RowLists) → AreCellsOf u cells → rows_of cells ≡ rows
+    → All P rows.policies → (j : ℕ) (p : Rules) → cell_no j cells ≡ Some (Policy p) → P p
 each_policy P u cells rows are same all j p is =
     let held = subst (AllByRecursion P) (ap (λ (r : RowLists). r.policies) (sym same) ∙ policies_are cells) (recursion_from_All P rows.policies all) in
     subst (IfRow P) (ap policy_of is) (each_row P policy_key policy_of cells refl (policies_apart u cells are) held j)
@@ -135,20 +142,23 @@ old_key (Rename old p) r e = has_princ_key old r e
 old_key (PutPolicy p) r e = has_policy_key p.name r e
 old_key (DropPolicy name) r e = has_policy_key name r e
 
-has_printed : (u : Units) (cells : List Cell) (rows : RowLists) (name : List ℕ) (j : ℕ) (r : StoredRow) → AreRowCells u cells rows → IsPrinted name → cell_no j cells ≡ Some r → name_of r ≡ name → has_princ name (Some r) ≡ true
+has_printed : (u : Units) (cells : List Cell) (rows : RowLists) (name : List ℕ) (j : ℕ) (r : StoredRow) → AreRowCells u cells rows → IsPrinted name
+    → cell_no j cells ≡ Some r → name_of r ≡ name → has_princ name (Some r) ≡ true
 has_printed u cells rows name j (Princ p) is printed here same = bytes_same p.name name same
 has_printed u cells rows name j (Policy p) is printed here same =
     let policy = each_policy IsPolicy u cells rows is.are is.rows_is is.sound.policies j p here in
     absurd (printed_is_no_policy name printed (ap is_policy_name (sym same) ∙ policy.named))
 
-has_named : (u : Units) (cells : List Cell) (rows : RowLists) (name : List ℕ) (j : ℕ) (r : StoredRow) → AreRowCells u cells rows → is_policy_name name ≡ true → cell_no j cells ≡ Some r → name_of r ≡ name → has_policy name (Some r) ≡ true
+has_named : (u : Units) (cells : List Cell) (rows : RowLists) (name : List ℕ) (j : ℕ) (r : StoredRow) → AreRowCells u cells rows
+    → is_policy_name name ≡ true → cell_no j cells ≡ Some r → name_of r ≡ name → has_policy name (Some r) ≡ true
 has_named u cells rows name j (Princ p) is named here same =
     let row = each_princ IsRow u cells rows is.are is.rows_is is.sound.princs j p here in
     absurd (printed_is_no_policy p.name row.fits.name (ap is_policy_name same ∙ named))
 has_named u cells rows name j (Policy p) is named here same = bytes_same p.name name same
 
 -- and one that has its key has the row
-pub key_old : (u : Units) (cells : List Cell) (rows : RowLists) (op : Op) (j : ℕ) (r : StoredRow) → AreRowCells u cells rows → IsOp (Some op) → cell_no j cells ≡ Some r → name_of r ≡ key_of (Some op) → has_old op (Some r) ≡ true
+pub key_old : (u : Units) (cells : List Cell) (rows : RowLists) (op : Op) (j : ℕ) (r : StoredRow) → AreRowCells u cells rows → IsOp (Some op)
+    → cell_no j cells ≡ Some r → name_of r ≡ key_of (Some op) → has_old op (Some r) ≡ true
 unfolding key_of
 key_old u cells rows (PutPrinc p) j r is fits here same = has_printed u cells rows p.name j r is fits.fits.name here same
 key_old u cells rows (DropPrinc name) j r is fits here same = has_printed u cells rows name j r is fits here same

@@ -62,7 +62,8 @@ free_apart (Some r) = refl
 
 -- ---- a row is placed where its unit is free
 
-pub placed_row : (i : ℕ) (c : Cell) (cells : List Cell) → i ≤ length cells → IsApart i c cells → taken cells + taken_by c ≤ most_rows + taken_by (cell_no i cells) → is_placed (Some i) c (set_cell i None cells) ≡ true
+pub placed_row : (i : ℕ) (c : Cell) (cells : List Cell) → i ≤ length cells → IsApart i c cells
+    → taken cells + taken_by c ≤ most_rows + taken_by (cell_no i cells) → is_placed (Some i) c (set_cell i None cells) ≡ true
 placed_row i None cells within apart few = refl
 placed_row i (Some r) cells within apart few =
     let others : (j : ℕ) → clash (Some r) (cell_no j (set_cell i None cells)) ≡ false = λ j. ⊎_elim
@@ -73,17 +74,21 @@ placed_row i (Some r) cells within apart few =
     (ap not (no_clashes (Some r) (set_cell i None cells) others))
     (lt-ltb _ _ (omega (arith, taken_set i None cells within, few)))
 
-pub may_be_placed : (format : ℕ) (unit : Option ℕ) (c : Cell) (cells : List Cell) → MayChange format unit c cells → is_placed unit c (with_unit unit None cells) ≡ true
+pub may_be_placed : (format : ℕ) (unit : Option ℕ) (c : Cell) (cells : List Cell) → MayChange format unit c cells
+    → is_placed unit c (with_unit unit None cells) ≡ true
 may_be_placed format None c cells may = ap (λ (d : Cell). is_placed None d cells) may
 may_be_placed format (Some i) c cells may = placed_row i c cells may.within may.alone may.few
 
-pub unit_again : (format : ℕ) (unit : Option ℕ) (c : Cell) (cells : List Cell) → MayChange format unit c cells → with_unit unit c (with_unit unit None cells) ≡ with_unit unit c cells
+pub unit_again : (format : ℕ) (unit : Option ℕ) (c : Cell) (cells : List Cell) → MayChange format unit c cells
+    → with_unit unit c (with_unit unit None cells) ≡ with_unit unit c cells
 unit_again format None c cells may = refl
 unit_again format (Some i) c cells may = set_again i c None cells may.within
 
 -- ---- a cell that stands
 
-pub done_placed : (unit : Option ℕ) (c : Cell) (cells : List Cell) → HasCell unit c cells → ((i j : ℕ) → i < j → clash (cell_no j cells) (cell_no i cells) ≡ false) → taken cells ≤ most_rows → is_placed unit c (with_unit unit None cells) ≡ true
+pub done_placed : (unit : Option ℕ) (c : Cell) (cells : List Cell) → HasCell unit c cells
+    → ((i j : ℕ) → i < j → clash (cell_no j cells) (cell_no i cells) ≡ false) → taken cells ≤ most_rows
+    → is_placed unit c (with_unit unit None cells) ≡ true
 done_placed None c cells has once few = ap (λ (d : Cell). is_placed None d cells) has
 done_placed (Some i) c cells has once few =
     let lt = has.0 in
@@ -97,7 +102,8 @@ pub done_again : (unit : Option ℕ) (c : Cell) (cells : List Cell) → HasCell 
 done_again None c cells has = refl
 done_again (Some i) c cells has = let lt = has.0 in set_again i c None cells (omega (arith, lt)) ∙ set_same i c cells has.0 has.1
 
-pub unit_holds : (format : ℕ) (unit : Option ℕ) (c : Cell) (cells : List Cell) → MayChange format unit c cells → HasCell unit c (with_unit unit c cells)
+pub unit_holds : (format : ℕ) (unit : Option ℕ) (c : Cell) (cells : List Cell) → MayChange format unit c cells
+    → HasCell unit c (with_unit unit c cells)
 unit_holds format None c cells may = may
 unit_holds format (Some i) c cells may = (omega (arith, length-set i c cells may.within), set_here i c cells may.within)
 

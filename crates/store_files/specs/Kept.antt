@@ -27,7 +27,15 @@ pub record Kept : Type 0 where
 
 -- the place of what is kept
 abbrev pub place_kept : Kept → Place
-place_kept k = record { realm = k.realm; rows = k.rows; held = map entry_of k.log.held; stash = k.stash; size = k.control.size; block = k.control.block; format = k.control.format }
+place_kept k = record {
+  realm = k.realm;
+  rows = k.rows;
+  held = map entry_of k.log.held;
+  stash = k.stash;
+  size = k.control.size;
+  block = k.control.block;
+  format = k.control.format;
+}
 
 -- The index leads to cells of these rows: each key to the cell of its row, and there are no other rows. It is known
 -- whatever a disk tells of its files.
@@ -53,7 +61,15 @@ pub record IsKept (k : Kept) : Type 0 where
 
 -- the same, with another log, other cells and other rows
 abbrev pub with_parts : Journal → CellFile → RowLists → Kept → Kept
-with_parts log cells rows k = record { control = k.control; log = log; cells = cells; rows = rows; realm = k.realm; stash = k.stash; broken = k.broken }
+with_parts log cells rows k = record {
+  control = k.control;
+  log = log;
+  cells = cells;
+  rows = rows;
+  realm = k.realm;
+  stash = k.stash;
+  broken = k.broken;
+}
 
 abbrev pub sheet_with : Kept → List Cell → Sheet
 sheet_with k cells = record { realm = k.realm; cells = cells }

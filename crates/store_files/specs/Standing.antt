@@ -80,9 +80,11 @@ after l o = record {
 -- The entry is open in the log, and its unit may have any bytes.
 pub record Pending (l : Logged) (o : Found) (files : Files) : Type 0 where
   pub force : in_force (files 0) ≡ Is o.control
-  pub log : log_in o.control.format o.control.base o.control.size o.control.block (files o.control.log) ≡ Ok (newest o.control.size (o.held ++ l ∷ []))
+  pub log : log_in o.control.format o.control.base o.control.size o.control.block (files o.control.log)
+      ≡ Ok (newest o.control.size (o.held ++ l ∷ []))
   pub within : l.cell ≤ count_of o.control.format (files o.control.image)
-  pub sheet : sheet_in o.control.format (skipping o.control.format (unit_changed l) (files o.control.image)) ≡ Ok (record { realm = o.sheet.realm; cells = with_unit (unit_changed l) None o.sheet.cells })
+  pub sheet : sheet_in o.control.format (skipping o.control.format (unit_changed l) (files o.control.image))
+      ≡ Ok (record { realm = o.sheet.realm; cells = with_unit (unit_changed l) None o.sheet.cells })
   pub stash : stash_in o.control files ≡ o.stash
 
 -- the files are found to be as before, or as after the change
