@@ -1,7 +1,7 @@
-use Rattle.std.proofs.Common.{◌≡◌, ◌++◌, List, sym, subst}
+use Rattle.std.proofs.Common.{◌++◌, List, sym, subst}
 use Rattle.policy_rules.specs.Rules.{Rules}
 use Rattle.princ_record.specs.declared.princs.Princ.{Princ as Principal}
-use Rattle.kdb_cells.specs.Scanning.{princ_in, policy_in, AreApart}
+use Rattle.kdb_cells.specs.Scanning.{princ_in, AreApart}
 use Rattle.store_files.specs.Found.{left_by, with_unit}
 use Rattle.store_opening.proofs.Joining.{joined, joined_princs, joined_policies}
 use Rattle.store_opening.proofs.redoing.rows_after.Goals as goal
