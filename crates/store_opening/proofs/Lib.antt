@@ -3,3 +3,4 @@ pub mod Standing
 pub mod Making
 pub mod Placing
 pub mod Torn
+pub mod Joining

@@ -1,21 +1,20 @@
 -- The last entry's unit, torn and written, is done again.
-use Rattle.std.proofs.Common.{◌≡◌, ◌≢◌, ℕ, ◌+◌, ◌*◌, ◌<◌, ◌≤◌, List, length, max, Option, Some, None, Ok, refl, sym, ap, subst, ◌∙◌, arith}
+use Rattle.std.proofs.Common.{◌≡◌, ◌≢◌, ℕ, ◌*◌, ◌≤◌, List, length, Option, Some, None, Ok, sym, ap, subst, ◌∙◌, arith}
 use Rattle.kdb_disk.specs.Files.{Files, put, written}
 use Rattle.kdb_disk.specs.View.{Torn}
 use Rattle.kdb_disk.proofs.Puts.{put-put, length-put, written-same, written-other}
 use Rattle.kdb_control.specs.Choice.{Choice}
 use Rattle.kdb_control.specs.Force.{in_force}
-use Rattle.kdb_control.specs.declared.force.Force.TheVariants.{Is}
 use Rattle.princ_entries.specs.declared.entries.Logged.{Logged}
 use Rattle.update_log.specs.Runs.{log_in}
 use Rattle.kdb_cells.specs.Cells.{Cell, IsCell, unit_size, unit_text}
-use Rattle.kdb_cells.specs.FileCells.{MayStand, with_cell}
+use Rattle.kdb_cells.specs.FileCells.{MayStand}
 use Rattle.kdb_cells.specs.Scanning.{skipping}
 use Rattle.kdb_cells.specs.Sheets.{Sheet, count_of, put_cell, set_cell, sheet_in}
 use Rattle.kdb_cells.proofs.Sheeting.{put_sheet}
 use Rattle.kdb_cells.proofs.UnitPuts.{place_within, div_most, some_unit}
 use Rattle.kdb_cells.proofs.UnitTexts.{length-unit}
-use Rattle.store_files.specs.Found.{Found, unit_changed, left_by, with_unit, redone, stash_in, found_in}
+use Rattle.store_files.specs.Found.{unit_changed, left_by, with_unit, redone, stash_in, found_in}
 use Rattle.store_files.specs.Standing.{HasFiles, StandsOnDisk}
 use Rattle.store_files.proofs.Finding.{IsRedone, found_redone, numbered}
 use Rattle.store_opening.specs.Redoing.{IsLookedAt, found_again}

@@ -1,6 +1,14 @@
 -- What is known of the units of a file of cells, whatever a disk tells, and of a key that no row has.
-use Rattle.std.specs.Prelude.{◌≡◌, ◌<◌, ◌≤◌, ℕ, true, List, Option, Some, None, Ok}
+use Rattle.std.specs.Prelude.{◌≡◌, ◌<◌, ◌≤◌, ◌+◌, ℕ, true, false, List, length, Option, Some, None, Ok}
+use Rattle.std.specs.List.{AllByRecursion}
+use Rattle.std.specs.Str.{bytes_eq}
 use Rattle.kdb_base.specs.Limits.{most_rows}
+use Rattle.policy_rules.specs.Rules.{Rules}
+use Rattle.princ_record.specs.Policies.{IsPolicy}
+use Rattle.princ_record.specs.RowLimits.{IsRow}
+use Rattle.princ_record.specs.declared.princs.Princ.{Princ as Principal}
+use Rattle.princ_rows.specs.Rows.{princ_keys, policy_keys}
+use Rattle.kdb_cells.specs.declared.units.StoredRow.TheVariants.{Princ, Policy}
 use Rattle.kdb_cells.specs.Cells.{Cell, IsCell}
 use Rattle.kdb_cells.specs.CellFiles.{CellFile, units, count}
 use Rattle.kdb_cells.specs.Changes.{cell_no}
@@ -42,3 +50,16 @@ pub record IsLookedAt (choice : Choice) (held : List Logged) (last : Logged) (sh
 -- what is found of them: the entry is done again
 abbrev pub found_again : Choice → List Logged → Logged → Sheet → Option (List ℕ) → Found
 found_again choice held last sheet stash = record { control = choice; held = held; sheet = record { realm = sheet.realm; cells = redone last sheet.cells }; stash = stash }
+
+-- ---- the rows with what the last entry leaves
+
+-- A row may join these: it has a spelling, its key is that of none of its kind, and there are not too many.
+abbrev pub MayJoin : Cell → List Principal → List Rules → Type 0
+MayJoin None princs policies = Unit {0}
+MayJoin (Some (Princ p)) princs policies = IsRow p × AllByRecursion (λ k. bytes_eq p.name k ≡ false) (princ_keys princs) × (length princs + length policies < most_rows)
+MayJoin (Some (Policy p)) princs policies = IsPolicy p × AllByRecursion (λ k. bytes_eq p.name k ≡ false) (policy_keys policies) × (length princs + length policies < most_rows)
+
+-- The unit is free, or is to be. Where there is no unit, nothing is left.
+abbrev pub MayHold : Option ℕ → Cell → List Cell → Type 0
+MayHold None left all = left ≡ None
+MayHold (Some i) left all = cell_no i all ≡ None

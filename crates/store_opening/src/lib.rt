@@ -9,4 +9,7 @@ pub mod redoing;
 
 pub use creating::create_parts;
 pub use parts::Parts;
-pub use redoing::is_placed;
+pub use redoing::{is_placed, rows_after};
+
+#[cfg(test)]
+mod tests;

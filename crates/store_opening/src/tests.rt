@@ -1,0 +1,47 @@
+ghost use Rattle.std.specs.Prelude.{◌≡◌, [], IfOk};
+
+use super::*;
+use kdb_base::{Fails, Point, Refusal, Stop, Time};
+use kdb_disk::MemoryDisk;
+use princ_rows::Rows;
+use std::alloc::Global;
+use std::test::*;
+
+fn no_rows(alloc: Global) -> Result<Rows, Fail>
+    ensures { IfOk result (λ r. r.princs ≡ []) }
+{
+    match Rows::from_vecs(Vec::new(alloc), Vec::new(alloc)) {
+        Some(rows) => Ok(rows),
+        None => Err(Fail::from("no rows")),
+    }
+}
+
+// Makes a database of no rows: 0 where it is made, 1 where there is one already.
+fn make(alloc: Global, disk: &mut MemoryDisk) -> Result<u8, Fail> {
+    let rows = no_rows(alloc)?;
+    let base = Point {
+        sno: 1,
+        time: Time::new(1700000000, 0),
+    };
+    let realm = b"EXAMPLE.ORG";
+    match create_parts(alloc, disk, 2, realm, rows, base, 2, 2048, Some(b"stash")) {
+        Ok(_) => Ok(0),
+        Err(Stop::Refused(Refusal::AlreadyThere)) => Ok(1),
+        Err(_) => Err(Fail::from("not made")),
+    }
+}
+
+#[test]
+fn a_database_is_made_once(rt: HostRuntime) -> Result<(), Fail> {
+    let alloc = rt.alloc();
+    let mut disk = MemoryDisk::new(alloc, Fails::none(alloc))?;
+    assert_eq!(rt; make(alloc, &mut disk)?, 0);
+    // the first unit: KDBC, format 2, the realm, and the point
+    assert!(rt;
+        disk.bytes(1).starts_with(b"KDBC\0\x02\0\x0bEXAMPLE.ORG\0\0\0\x01\x65\x53\xf1\0\0\0\0\0\0")
+    );
+    assert_eq!(rt; disk.bytes(1).len(), 16384);
+    assert_eq!(rt; disk.bytes(5), b"stash".as_slice());
+    assert_eq!(rt; make(alloc, &mut disk)?, 1);
+    Ok(())
+}
