@@ -28,7 +28,8 @@ two_by : (c : Seen) (older : List Seen) (a b : Seen) → All (λ o. IsLater o c)
     → (Contains older a → Contains older b → AreSame a b) → (c ≡ a) ⊎ Contains older a → (c ≡ b) ⊎ Contains older b → AreSame a b
 two_by c older a b later same others (inl x) (inl y) = subst (AreSame a) (sym x ∙ y) (refl, refl)
 two_by c older a b later same others (inl x) (inr y) =
-    subst (λ (z : Seen). AreSame z b) x (later_same b c (All-contains (λ o. IsLater o c) older b later y) (sym same ∙ ap (λ (z : Seen). point_of z.place) (sym x)))
+    let here = later_same b c (All-contains (λ o. IsLater o c) older b later y) (sym same ∙ ap (λ (z : Seen). point_of z.place) (sym x)) in
+    subst (λ (z : Seen). AreSame z b) x here
 two_by c older a b later same others (inr x) (inl y) =
     let here = later_same a c (All-contains (λ o. IsLater o c) older a later x) (same ∙ ap (λ (z : Seen). point_of z.place) (sym y)) in
     turned b a (subst (λ (z : Seen). AreSame z a) y here)
@@ -47,7 +48,9 @@ pub record SeenAt (stages : List Stage) (p : Place) : Type 0 where
 
 seen_by : (t : Stage) (older : List Stage) (p : Place) → (t.place ≡ p) ⊎ Contains (places older) p → (Contains (places older) p → SeenAt older p)
     → SeenAt (t ∷ older) p
-seen_by t older p (inl is) others = record { at = seen t.place (fold (t ∷ older)); there = contains_first (seen t.place (fold (t ∷ older))) (all_seen older); is = is }
+seen_by t older p (inl is) others =
+    let at = seen t.place (fold (t ∷ older)) in
+    record { at = at; there = contains_first at (all_seen older); is = is }
 seen_by t older p (inr there) others =
     let rest = others there in
     record { at = rest.at; there = contains_more (seen t.place (fold (t ∷ older))) (all_seen older) rest.at rest.there; is = rest.is }

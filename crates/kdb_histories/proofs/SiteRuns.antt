@@ -111,7 +111,8 @@ created_told t older sent c h =
     let new : Told (s ∷ older) sent = record {
       story = record {
         rising = (
-          All-weaker IsBefore (λ a. IsLater a (seen q c.state)) (λ a lt. inl (subst (λ (x : Point). ComesBefore (point_of a.place) x) (sym at) (inl lt)))
+          All-weaker IsBefore (λ a. IsLater a (seen q c.state))
+              (λ a lt. inl (subst (λ (x : Point). ComesBefore (point_of a.place) x) (sym at) (inl lt)))
               (all_seen older) (seen_before older c.point.time c.later),
           h.story.rising,
         );
