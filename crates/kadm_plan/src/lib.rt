@@ -1,6 +1,8 @@
-//! What is made of a command before it is judged.
+//! The judge of a command against rows with wrapped keys, and what is made of a command before.
 #![tactic(auto)]
 
+pub mod plans;
 pub mod ready;
 
+pub use plans::plan;
 pub use ready::{Ready, prepare};
