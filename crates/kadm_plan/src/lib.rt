@@ -4,5 +4,6 @@
 pub mod plans;
 pub mod ready;
 
+pub use command_plans::{Planned, View};
 pub use plans::plan;
 pub use ready::{Ready, prepare};
