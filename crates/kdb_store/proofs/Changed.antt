@@ -1,5 +1,5 @@
 -- What a change leaves of what is kept and of what stands on the disk.
-use Rattle.std.proofs.Common.{◌≡◌, ◌≢◌, ℕ, ◌+◌, ◌*◌, ◌<◌, ◌≤◌, inl, ⊎_elim, List, [], ◌∷◌, ◌++◌, length, map, Option, Some, None, refl, sym, ap, subst, ◌∙◌, arith}
+use Rattle.std.proofs.Common.{◌≡◌, ℕ, ◌*◌, ◌≤◌, inl, ⊎_elim, List, [], ◌∷◌, ◌++◌, length, map, Option, Some, refl, sym, ap, subst, ◌∙◌, arith}
 use Rattle.std.specs.Prelude.{Result, Ok, Err, OnOk, OnErr}
 use Rattle.std.proofs.lemmas.Bool.{cases_eq}
 use Rattle.kdb_base.specs.declared.moments.Point.{Point}
@@ -17,18 +17,18 @@ use Rattle.princ_rows.specs.Undoing.{IsNewName, finished, undone}
 use Rattle.update_log.specs.Logs.{Journal, newest, entry_of, with_prepared, log_committed}
 use Rattle.update_log.specs.Moments.{HasLog, IsDurable}
 use Rattle.kdb_cells.specs.Cells.{Cell, name_of, unit_size}
-use Rattle.kdb_cells.specs.CellFiles.{CellFile, units, count}
+use Rattle.kdb_cells.specs.CellFiles.{CellFile, units}
 use Rattle.kdb_cells.specs.Changes.{rows_of, cell_after}
 use Rattle.kdb_cells.specs.FileCells.{AreCellsOf, IsFileOf}
-use Rattle.kdb_cells.specs.Leads.{Units, IsFree}
-use Rattle.kdb_cells.specs.Sheets.{Sheet, sheet_in, taken}
+use Rattle.kdb_cells.specs.Leads.{Units}
+use Rattle.kdb_cells.specs.Sheets.{Sheet, sheet_in}
 use Rattle.kdb_cells.proofs.Sheeting.{read_sheet}
 use Rattle.kdb_cells.proofs.UnitPuts.{place_within}
 use Rattle.kdb_places.specs.Places.{Place, change, next_point, last_entries, committed}
-use Rattle.store_files.specs.Found.{Found, unit_numbered, left_by, with_unit, redone, place_of}
-use Rattle.store_files.specs.Kept.{Kept, AreIndexed, HasChosen, IsOnDisk, found_with, sheet_with, place_kept, with_parts}
+use Rattle.store_files.specs.Found.{unit_numbered, left_by, with_unit, redone, place_of}
+use Rattle.store_files.specs.Kept.{Kept, AreIndexed, IsOnDisk, found_with, sheet_with, place_kept, with_parts}
 use Rattle.store_files.specs.Recovery.{LeavesPart}
-use Rattle.store_files.specs.Standing.{IsGivenFor, AreRowCells, MayChange, Holds, IsUnderWay, IsLogOf, after}
+use Rattle.store_files.specs.Standing.{IsGivenFor, MayChange, Holds, IsUnderWay, after}
 use Rattle.store_files.proofs.Committing.{under_way_found}
 use Rattle.store_files.proofs.Placed.{held_after, place_after, place_is, kept_recovers, either_place}
 use Rattle.kdb_store.specs.Parts.{LeadsAlike, MayCommit, StandsOn}

@@ -1,5 +1,5 @@
 -- A committed change, by the place of what is kept.
-use Rattle.std.proofs.Common.{◌≡◌, ◌≢◌, ℕ, ◌+◌, ◌-◌, ◌<◌, ◌≤◌, List, [], ◌∷◌, ◌++◌, length, map, get_or, Option, Some, None, refl, sym, ap, subst, ◌∙◌, arith}
+use Rattle.std.proofs.Common.{◌≡◌, ◌≢◌, ℕ, ◌+◌, ◌-◌, ◌<◌, ◌≤◌, List, [], ◌∷◌, ◌++◌, length, map, get_or, Some, sym, ap, subst, ◌∙◌, arith}
 use Rattle.kdb_base.specs.Moment.{Moment}
 use Rattle.kdb_base.specs.Moments.{micros}
 use Rattle.kdb_base.specs.declared.moments.Point.{Point}

@@ -1,21 +1,21 @@
 -- A change on the disk: the unit is written behind the entry.
-use Rattle.std.proofs.Common.{◌≡◌, ◌≢◌, ℕ, ◌*◌, ◌<◌, inl, inr, ⊎_elim, List, Option, Some, None, sym, ap, subst, ◌∙◌, refl}
-use Rattle.std.specs.Prelude.{Ok, Result, OnOk}
+use Rattle.std.proofs.Common.{◌≡◌, ◌≢◌, ℕ, ◌*◌, inr, ⊎_elim, List, sym, ap, subst, ◌∙◌}
+use Rattle.std.specs.Prelude.{Ok}
 use Rattle.std.proofs.lemmas.Bool.{cases_eq}
-use Rattle.kdb_disk.specs.Files.{Files, written}
+use Rattle.kdb_disk.specs.Files.{Files}
 use Rattle.kdb_disk.specs.View.{View}
 use Rattle.kdb_disk.specs.Moments.{LeavesOnly, LeavesTorn}
 use Rattle.kdb_disk.proofs.Runs.{started, then_on}
 use Rattle.princ_entries.specs.declared.entries.Logged.{Logged}
 use Rattle.update_log.specs.Logs.{Journal}
-use Rattle.update_log.specs.Moments.{HasLog, IsDurable, ReadsOthers}
-use Rattle.kdb_cells.specs.Cells.{Cell, unit_size}
+use Rattle.update_log.specs.Moments.{IsDurable, ReadsOthers}
+use Rattle.kdb_cells.specs.Cells.{unit_size}
 use Rattle.kdb_cells.specs.CellFiles.{CellFile}
 use Rattle.kdb_cells.specs.FileCells.{IsFileOf}
 use Rattle.kdb_cells.specs.Sheets.{sheet_in}
-use Rattle.store_files.specs.Found.{Found, unit_numbered, unit_changed, left_by}
-use Rattle.store_files.specs.Standing.{HasFiles, Holds, Pending, IsUnderWay, StandsOnDisk, after}
-use Rattle.store_files.proofs.Committing.{unit_runs, written_each, unchanged_stands, after_done, other_durable, other_log}
+use Rattle.store_files.specs.Found.{Found}
+use Rattle.store_files.specs.Standing.{Holds, Pending, IsUnderWay, after}
+use Rattle.store_files.proofs.Committing.{unit_runs, written_each, unchanged_stands, after_done, other_durable}
 use Rattle.store_files.proofs.Units.{numbered_none, numbered_some}
 use Rattle.kdb_store.specs.Parts.{ArePending, MayCommit}
 use Rattle.kdb_store.specs.Writes.{IsWritten}

@@ -1,5 +1,5 @@
 -- An entry written into the log and opened.
-use Rattle.std.proofs.Common.{◌≡◌, inl, Option, Some, sym, ap, subst}
+use Rattle.std.proofs.Common.{◌≡◌, inl, Some, sym, ap, subst}
 use Rattle.kdb_disk.specs.View.{View}
 use Rattle.kdb_disk.specs.Moments.{LeavesOnly}
 use Rattle.kdb_disk.proofs.Runs.{weaken, at_end, then_on}

@@ -7,3 +7,4 @@ pub mod DiskChanges
 pub mod Planned
 pub mod Changed
 pub mod Committed
+pub mod Switched

@@ -1,11 +1,10 @@
 -- What a planned change makes of cells and rows.
-use Rattle.std.proofs.Common.{◌≡◌, ◌≢◌, ℕ, ◌+◌, ◌*◌, ◌<◌, ◌≤◌, ⊎_elim, List, length, Option, Some, None, refl, sym, ap, subst, ◌∙◌, arith}
+use Rattle.std.proofs.Common.{◌≡◌, ◌≢◌, ℕ, ◌≤◌, ⊎_elim, List, length, Option, Some, None, refl, sym, ap, subst, ◌∙◌, arith}
 use Rattle.std.proofs.lemmas.Bool.{cases_eq}
-use Rattle.kdb_base.specs.Limits.{most_rows}
-use Rattle.princ_entries.specs.Entries.{IsOp, key_of}
+use Rattle.princ_entries.specs.Entries.{IsOp}
 use Rattle.princ_entries.specs.declared.entries.Op.{Op}
 use Rattle.princ_entries.specs.declared.entries.Op.TheVariants.{PutPrinc, DropPrinc, Rename, PutPolicy, DropPolicy}
-use Rattle.princ_rows.specs.Rows.{RowLists, AreRows}
+use Rattle.princ_rows.specs.Rows.{RowLists}
 use Rattle.princ_rows.specs.Effects.{effect, IsRoom}
 use Rattle.princ_rows.specs.Undoing.{IsNewName}
 use Rattle.kdb_cells.specs.declared.units.StoredRow.{StoredRow}
@@ -19,7 +18,7 @@ use Rattle.store_files.specs.Found.{unit_numbered, with_unit}
 use Rattle.store_files.specs.Standing.{MayChange, AreRowCells}
 use Rattle.store_files.proofs.Units.{numbered_none, numbered_some, IsApart}
 use Rattle.store_files.proofs.Changing.{may_stand, rows_given, drop_princ_absent, drop_policy_absent, princ_absent, policy_absent, cell_fits, leads_alone}
-use Rattle.kdb_store.specs.Writes.{number_of, Writes, IsGivenTo, MayWrite, MayPut, HasNoRow, IsPlan}
+use Rattle.kdb_store.specs.Writes.{number_of, IsGivenTo, MayWrite, MayPut, HasNoRow, IsPlan}
 use Rattle.kdb_store.specs.declared.writing.UnitWrite.{UnitWrite}
 use Rattle.kdb_store.specs.declared.writing.UnitWrite.TheVariants.{Nothing, Put, Free}
 

@@ -1,5 +1,5 @@
 -- The file of cells of a choice of files.
-use Rattle.std.proofs.Common.{◌≡◌, ◌≢◌, ℕ, Bool, ◌≤◌, ◌⊎◌, inl, inr, ⊎_elim, true, false, ◌||◌, ◌&&◌, sym, ◌∙◌, arith, refl}
+use Rattle.std.proofs.Common.{◌≡◌, ℕ, ◌≤◌, ◌⊎◌, inl, inr, ⊎_elim, true, false, ◌||◌, ◌&&◌, sym, ◌∙◌, arith, refl}
 use Rattle.std.specs.Prelude.{nat_eq}
 use Rattle.std.proofs.lemmas.Bool.{and_parts, cases_eq, ne_eqb, false≢true}
 use Rattle.kdb_control.specs.Choice.{is_format, in_ranges}

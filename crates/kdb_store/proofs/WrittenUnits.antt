@@ -1,7 +1,6 @@
 -- What a written unit leaves of the file of cells and of its index.
-use Rattle.std.proofs.Common.{◌≡◌, ◌≢◌, ℕ, ◌+◌, ◌*◌, ◌<◌, ◌≤◌, List, length, Option, Some, None, refl, sym, ap, subst, ◌∙◌, arith}
+use Rattle.std.proofs.Common.{◌≡◌, ℕ, ◌+◌, ◌≤◌, List, length, Option, Some, None, refl, sym, ap, subst, ◌∙◌, arith}
 use Rattle.std.specs.Prelude.{Result, Ok, Err, OnOk}
-use Rattle.kdb_disk.specs.Files.{Files}
 use Rattle.kdb_cells.specs.declared.units.StoredRow.{StoredRow}
 use Rattle.kdb_cells.specs.Cells.{Cell, name_of, IsRowText}
 use Rattle.kdb_cells.specs.CellFiles.{CellFile, units, count}
@@ -13,9 +12,9 @@ use Rattle.kdb_cells.proofs.Cellwise.{lead_cells, free_cells, cell_free}
 use Rattle.kdb_cells.proofs.Sheeting.{taken_set}
 use Rattle.store_files.specs.Found.{unit_numbered, with_unit}
 use Rattle.store_files.proofs.Units.{numbered_some}
-use Rattle.kdb_store.specs.Writes.{number_of, Writes, IsGivenTo, MayWrite, MayPut, HoldsCells, changed_sheet}
+use Rattle.kdb_store.specs.Writes.{number_of, Writes, IsGivenTo, MayWrite, HoldsCells, changed_sheet}
 use Rattle.kdb_store.specs.declared.writing.UnitWrite.{UnitWrite}
-use Rattle.kdb_store.specs.declared.writing.UnitWrite.TheVariants.{Nothing, Put, Free}
+use Rattle.kdb_store.specs.declared.writing.UnitWrite.TheVariants.{Put, Free}
 
 some_number : (cell : ℕ) → 1 ≤ cell → unit_numbered cell ≡ Some cell
 some_number cell low = numbered_some cell (λ e. absurd (omega (arith, low, e)))

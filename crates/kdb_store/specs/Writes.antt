@@ -1,5 +1,5 @@
 -- What a change writes into its unit.
-use Rattle.std.specs.Prelude.{◌≡◌, ◌≢◌, ◌≤◌, ◌<◌, ℕ, List, Option, Some, None}
+use Rattle.std.specs.Prelude.{◌≡◌, ◌≢◌, ◌≤◌, ◌<◌, ℕ, List, Some, None}
 use Rattle.std.specs.List.{All}
 use Rattle.kdb_base.specs.Limits.{most_rows}
 use Rattle.princ_rows.specs.Rows.{RowLists}

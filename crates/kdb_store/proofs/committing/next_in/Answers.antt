@@ -1,4 +1,4 @@
-use Rattle.std.proofs.Common.{◌<◌, ℕ, sym, subst, arith}
+use Rattle.std.proofs.Common.{◌<◌, sym, subst, arith}
 use Rattle.kdb_base.specs.declared.moments.Point.{Point}
 use Rattle.princ_entries.specs.declared.entries.Logged.{Logged}
 use Rattle.update_log.specs.Logs.{marker_of}

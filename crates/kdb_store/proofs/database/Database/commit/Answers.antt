@@ -1,4 +1,4 @@
-use Rattle.std.proofs.Common.{ap, ◌∙◌, Err, sym}
+use Rattle.std.proofs.Common.{ap, ◌∙◌, Err}
 use Rattle.kdb_store.proofs.Committed.{serial_below, time_behind, next_at, log_apart, stands_on, place_changed, crash_told}
 use Rattle.kdb_store.proofs.database.Database.commit.Goals as goal
 
