@@ -1,15 +1,17 @@
 -- What the ranges of a choice of files say.
 use Rattle.std.proofs.Common.{◌≡◌, ◌≢◌, ℕ, Bool, ◌≤◌, ◌<◌, ◌⊎◌, inl, inr, ⊎_elim, true, false, ◌||◌, ◌&&◌, sym, ◌∙◌, ap, arith, refl}
-use Rattle.std.specs.Prelude.{nat_eq, nat_lt}
+use Rattle.std.specs.Prelude.{nat_eq}
 use Rattle.std.proofs.lemmas.Bool.{and_parts, cases_eq, ne_eqb, false≢true, ltb-true}
 use Rattle.kdb_base.specs.declared.moments.Point.{Point}
-use Rattle.kdb_control.specs.Choice.{Choice, is_format, in_ranges}
+use Rattle.kdb_control.specs.Choice.{is_format, in_ranges}
 use Rattle.store_files.specs.Standing.{HasFiles}
 
 one_of_two : (n a b : ℕ) → (nat_eq n a || nat_eq n b) ≡ true → (n ≡ a) ⊎ (n ≡ b)
 one_of_two n a b is = ⊎_elim
     (λ e. inl e)
-    (λ other. ⊎_elim (λ e. inr e) (λ neither. let none : (nat_eq n a || nat_eq n b) ≡ false = rw (ne_eqb n a other, ne_eqb n b neither) refl in absurd (false≢true (sym none ∙ is))) (cases_eq n b))
+    (λ other. ⊎_elim (λ e. inr e)
+    (λ neither. let none : (nat_eq n a || nat_eq n b) ≡ false = rw (ne_eqb n a other, ne_eqb n b neither) refl in absurd
+    (false≢true (sym none ∙ is))) (cases_eq n b))
     (cases_eq n a)
 
 one_of_three : (n a b c : ℕ) → (nat_eq n a || nat_eq n b || nat_eq n c) ≡ true → (n ≡ a) ⊎ ((n ≡ b) ⊎ (n ≡ c))
@@ -25,7 +27,8 @@ record AreInRange (image log stash size : ℕ) : Type 0 where
   stash_is : (stash ≡ 0) ⊎ ((stash ≡ 5) ⊎ (stash ≡ 6))
   some : 1 < size
 
-ranged : (format turn image log stash size block : ℕ) → (is_format format && in_ranges turn image log stash size block) ≡ true → AreInRange image log stash size
+ranged : (format turn image log stash size block : ℕ) → (is_format format && in_ranges turn image log stash size block) ≡ true
+    → AreInRange image log stash size
 unfolding in_ranges
 ranged format turn image log stash size block all =
     let p1 = and_parts _ _ (and_parts (is_format format) _ all).1 in
@@ -46,7 +49,8 @@ image_high format turn image log stash size block all =
 
 pub stash_high : (format turn image log stash size block : ℕ) → (is_format format && in_ranges turn image log stash size block) ≡ true → stash ≤ 6
 stash_high format turn image log stash size block all =
-    ⊎_elim (λ e. omega (arith, e)) (⊎_elim (λ e. omega (arith, e)) (λ e. omega (arith, e))) (ranged format turn image log stash size block all).stash_is
+    ⊎_elim (λ e. omega (arith, e)) (⊎_elim (λ e. omega (arith, e)) (λ e. omega (arith, e)))
+    (ranged format turn image log stash size block all).stash_is
 
 image_low : {image : ℕ} → (image ≡ 1) ⊎ (image ≡ 2) → (1 ≤ image) × (image ≤ 2)
 image_low either = ⊎_elim (λ e. (omega (arith, e), omega (arith, e))) (λ e. (omega (arith, e), omega (arith, e))) either
