@@ -7,6 +7,7 @@ pub mod committing;
 pub mod database;
 mod disk_changes;
 mod entry_writes;
+pub mod opening;
 pub mod resetting;
 pub mod stashing;
 mod unit_writes;

@@ -4,3 +4,5 @@ pub mod Making
 pub mod Placing
 pub mod Torn
 pub mod Joining
+pub mod Ranges
+pub mod Refusals

@@ -5,6 +5,7 @@ pub mod creating;
 pub mod laws;
 pub mod parts;
 mod putting;
+mod reading;
 pub mod redoing;
 
 pub use creating::create_parts;
