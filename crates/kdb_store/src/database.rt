@@ -1,5 +1,6 @@
-ghost use Rattle.std.specs.Prelude.{◌≡◌, ◌≢◌, ◌≤◌, ◌↔◌, ◌-◌, ◌+◌, false, Contains, IfSome, IsTrue, None, Some, length, option_map, slice_index_or};
+ghost use Rattle.std.specs.Prelude.{◌≡◌, ◌≢◌, ◌≤◌, ◌<◌, ◌↔◌, ◌-◌, ◌+◌, false, Contains, IfSome, IsTrue, None, Some, length, option_map, slice_index_or};
 ghost use Rattle.std.specs.List.{All};
+ghost use Rattle.kdb_places.specs.Places.{point_of};
 ghost use Rattle.princ_entries.specs.Entries.{IsOp, entry_len};
 ghost use Rattle.princ_entries.specs.declared.entries.Logged.{Logged};
 ghost use Rattle.store_files.specs.Kept.{Kept, IsKept, place_kept};
@@ -38,11 +39,12 @@ impl Model for Database {
     ghost invariant = { λ d. IsKept (record { control = d.control; log = d.log; cells = d.cells; rows = d.rows; realm = d.realm; stash = d.stash; broken = d.broken }) };
 }
 
-// How many bytes the entry of a change has in a log: its key and its row, and what stands before them.
+/// How many bytes the entry of a change has in a log: its key and its row, and what stands before them.
 #[tactic(auto, unfolding(princ_entries::specs::Entries::key_of, princ_entries::specs::Entries::row_of), using(crate::proofs::Lengths::policy_length, crate::proofs::Lengths::policy_name_short))]
-fn entry_length(op: &Op) -> usize
+pub fn entry_length(op: &Op) -> usize
     requires { IsOp (Some op.now) }
-    ensures { result ≡ entry_len (Some op.now) }
+    ensures value { result ≡ entry_len (Some op.now) }
+    ensures short { result < 16384 }
 {
     match op {
         Op::PutPrinc(princ) => 21 + princ.name.len() + encoded_len(princ),
@@ -137,6 +139,15 @@ impl Database {
         ensures last { (d : Logged) → result.1 ≡ (slice_index_or self.now.log.held (length self.now.log.held - 1) d).entry.point }
     {
         self.log.held()
+    }
+
+    /// The point of the last change, or of the log's base marker where there was none since.
+    pub fn point(&self) -> Point
+        ensures { result ≡ point_of (place_kept self.now) }
+    {
+        self.log.holds_journal();
+        let (_, last) = self.log.held();
+        last
     }
 
     /// How many entries the log holds at most.

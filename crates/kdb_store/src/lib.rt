@@ -13,4 +13,4 @@ pub mod stashing;
 mod unit_writes;
 mod writing;
 
-pub use database::Database;
+pub use database::{Database, entry_length};
