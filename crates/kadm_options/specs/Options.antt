@@ -4,7 +4,7 @@ use Rattle.std.specs.List.{list_all, list_any}
 use Rattle.std.specs.Str.{bytes_eq}
 use Rattle.kadm_values.specs.Flags.{flag_change}
 use Rattle.kadm_options.specs.declared.options.OptionName.{OptionName}
-use Rattle.kadm_options.specs.declared.options.OptionName.TheVariants.{NoKey, RandKey, Password, KeepOld, Enctypes, Force, ShortForce, Policy, ClearPolicy, Expire, PwExpire, MaxLife, MaxRenewLife, MinLife, MinLength, MinClasses, History, KeepKvno}
+use Rattle.kadm_options.specs.declared.options.OptionName.TheVariants.{NoKey, RandKey, Password, KeepOld, Enctypes, Force, ShortForce, Policy, ClearPolicy, Expire, PwExpire, MaxLife, MaxRenewLife, MinLife, MinLength, MinClasses, History, KeepKvno, MasterPassword, UlogSize}
 use Rattle.kadm_options.specs.declared.options.Setting.{Setting}
 use Rattle.kadm_options.specs.declared.options.Opening.{Opening}
 use Rattle.kadm_options.specs.declared.options.Opening.TheVariants as opening
@@ -32,6 +32,8 @@ option_word MinLength = codes "-minlength"
 option_word MinClasses = codes "-minclasses"
 option_word History = codes "-history"
 option_word KeepKvno = codes "-keepkvno"
+option_word MasterPassword = codes "-P"
+option_word UlogSize = codes "-ulogsize"
 
 -- flags have words of their own, and more than one for each change
 unfoldable pub opening_word : Opening → List ℕ
@@ -149,7 +151,7 @@ choice_of option = option
 unfoldable pub choices : List OptionName
 choices =
     NoKey ∷ KeepOld ∷ Enctypes ∷ Force ∷ ShortForce ∷ Policy ∷ Expire ∷ PwExpire ∷ MaxLife ∷ MaxRenewLife ∷ MinLife ∷ MinLength ∷ MinClasses ∷ History
-    ∷ KeepKvno ∷ []
+    ∷ KeepKvno ∷ MasterPassword ∷ UlogSize ∷ []
 
 abbrev pub choice_given : Given → Option OptionName
 choice_given (given.Flag change) = None

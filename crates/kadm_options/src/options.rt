@@ -48,6 +48,10 @@ pub enum OptionName {
     History,
     /// `-keepkvno`.
     KeepKvno,
+    /// `-P`, the password of the master key.
+    MasterPassword,
+    /// `-ulogsize`, how many entries the log of updates has.
+    UlogSize,
 }
 
 /// What the value of an option is.
@@ -102,7 +106,7 @@ pub enum Given {
 }
 
 // What lines decide by options that are no flags.
-static CHOICES: [OptionName; 15] = [
+static CHOICES: [OptionName; 17] = [
     OptionName::NoKey,
     OptionName::KeepOld,
     OptionName::Enctypes,
@@ -118,10 +122,12 @@ static CHOICES: [OptionName; 15] = [
     OptionName::MinClasses,
     OptionName::History,
     OptionName::KeepKvno,
+    OptionName::MasterPassword,
+    OptionName::UlogSize,
 ];
 
 #[tactic(auto, unfolding(crate::specs::Options::choices))]
-fn known_choices() -> &'static [OptionName; 15]
+fn known_choices() -> &'static [OptionName; 17]
     ensures { result.now ≡ choices }
 {
     &CHOICES
@@ -150,6 +156,8 @@ fn option_word(option: OptionName) -> &'static [u8]
         OptionName::MinClasses => b"-minclasses".as_slice(),
         OptionName::History => b"-history".as_slice(),
         OptionName::KeepKvno => b"-keepkvno".as_slice(),
+        OptionName::MasterPassword => b"-P".as_slice(),
+        OptionName::UlogSize => b"-ulogsize".as_slice(),
     }
 }
 

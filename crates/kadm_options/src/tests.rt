@@ -7,7 +7,7 @@ use kdb_base::{Blob, Field, MemoryOut};
 use std::alloc::Global;
 use std::test::*;
 
-const KNOWN: [Opening; 8] = [
+const KNOWN: [Opening; 10] = [
     Opening::Alone(OptionName::NoKey),
     Opening::Alone(OptionName::RandKey),
     Opening::Value(Setting {
@@ -35,6 +35,16 @@ const KNOWN: [Opening; 8] = [
         option: OptionName::Expire,
         kind: ValueKind::Time,
         field: Field::Expire,
+    }),
+    Opening::Value(Setting {
+        option: OptionName::MasterPassword,
+        kind: ValueKind::Word,
+        field: Field::Value,
+    }),
+    Opening::Value(Setting {
+        option: OptionName::UlogSize,
+        kind: ValueKind::Number(2, 10000),
+        field: Field::UlogSize,
     }),
 ];
 
@@ -111,7 +121,7 @@ fn values(rt: HostRuntime) -> Result<(), Fail> {
 }
 
 /// Words of options with what stands first among the bad ones; an empty word where all are good.
-const JUDGED: [(&[u8], &str); 9] = [
+const JUDGED: [(&[u8], &str); 11] = [
     (b"-pw -e -e aes256-sha2,aes128-cts:normal -history 16", ""),
     (b"-e aes256-cts,aes256-sha1", "enctypes"),
     (b"-e aes256-cts,", "enctypes"),
@@ -121,6 +131,8 @@ const JUDGED: [(&[u8], &str); 9] = [
     (b"-history 00000000001", "history"),
     (b"-randkey -e des -history 0", "enctypes"),
     (b"-pw \xff -history 1x", "history"),
+    (b"-P -P -ulogsize 10000", ""),
+    (b"-P x -pw y -ulogsize 1", "ulogsize"),
 ];
 
 #[test]
@@ -140,12 +152,14 @@ fn kinds(rt: HostRuntime) -> Result<(), Fail> {
 }
 
 /// Options of which no two may stand together.
-const EXCLUDED: [&[u8]; 5] = [
+const EXCLUDED: [&[u8]; 7] = [
     b"-pw x -randkey",
     b"-nokey -randkey",
     b"-pw x -nokey",
     b"-pw x -pw x",
     b"-e aes256-cts -e aes256-cts",
+    b"-P x -P y",
+    b"-ulogsize 2 -ulogsize 2",
 ];
 
 #[test]

@@ -22,7 +22,7 @@ other_way : (a b : List ℕ) → bytes_eq a b ≡ false → bytes_eq b a ≡ fal
 other_way a b apart = false_from_ne_true _ (λ e. true≢false (sym (bytes_same a b (sym (same_bytes b a e))) ∙ apart))
 
 -- no cell has the key of this one
-abbrev NoneHas : Cell → List Cell → Type 0
+abbrev pub NoneHas : Cell → List Cell → Type 0
 NoneHas c cells = (j : ℕ) → clash (cell_no j cells) c ≡ false
 
 -- each cell has a key of its own
@@ -45,7 +45,7 @@ first_once : (c : Cell) (cells : List Cell) → EachOnce (c ∷ cells) → NoneH
 unfolding cell_no
 first_once c cells once j = once 0 (suc j) (omega arith)
 
-princ_alone : (p : Principal) (cells : List Cell) → NoneHas (Some (Princ p)) cells → AllByRecursion (λ k. bytes_eq p.name k ≡ false) (princ_keys (princs_of cells))
+pub princ_alone : (p : Principal) (cells : List Cell) → NoneHas (Some (Princ p)) cells → AllByRecursion (λ k. bytes_eq p.name k ≡ false) (princ_keys (princs_of cells))
 unfolding princs_of
 princ_alone p [] none = tt
 princ_alone p (None ∷ cells) none = princ_alone p cells (behind_none (Some (Princ p)) None cells none)
@@ -53,7 +53,7 @@ princ_alone p (Some (Princ q) ∷ cells) none =
     (other_way q.name p.name (first_none (Some (Princ p)) (Some (Princ q)) cells none), princ_alone p cells (behind_none (Some (Princ p)) (Some (Princ q)) cells none))
 princ_alone p (Some (Policy q) ∷ cells) none = princ_alone p cells (behind_none (Some (Princ p)) (Some (Policy q)) cells none)
 
-policy_alone : (p : Rules) (cells : List Cell) → NoneHas (Some (Policy p)) cells → AllByRecursion (λ k. bytes_eq p.name k ≡ false) (policy_keys (policies_of cells))
+pub policy_alone : (p : Rules) (cells : List Cell) → NoneHas (Some (Policy p)) cells → AllByRecursion (λ k. bytes_eq p.name k ≡ false) (policy_keys (policies_of cells))
 unfolding policies_of
 policy_alone p [] none = tt
 policy_alone p (None ∷ cells) none = policy_alone p cells (behind_none (Some (Policy p)) None cells none)

@@ -106,9 +106,28 @@ stored_more format c cells here stored i = ⊎_elim
     (λ other. subst (IsCell format) (sym (others_here c cells i other)) (stored i))
     (cases_eq i (length cells))
 
--- with a unit more to which no key leads
-pub gathered_free : (format : ℕ) (u v : Units) (n m : ℕ) (princs : List Principal) (policies : List Rules) (cells : List Cell) → v.of ≡ u.of → v.next ≡ u.next + 1 → m ≡ n → IsGathered format u n princs policies cells → IsGathered format v m princs policies (with_more None cells)
-gathered_free format u v n m princs policies cells of next same is = record {
+-- a unit that was given stays free
+given_more : (c : Cell) (cells : List Cell) (i : ℕ) → (i < length cells) × (cell_no i cells ≡ None) → (i < length (with_more c cells)) × (cell_no i (with_more c cells) ≡ None)
+given_more c cells i there = (omega (arith, there.0, length-more c cells), others_here c cells i (λ e. absurd (omega (arith, there.0, e))) ∙ there.1)
+
+given_last : (cells : List Cell) (i : ℕ) → i ≡ length cells → (i < length (with_more None cells)) × (cell_no i (with_more None cells) ≡ None)
+given_last cells i same = (omega (arith, same, length-more None cells), ap (λ (j : ℕ). cell_no j (with_more None cells)) same ∙ last_here None cells)
+
+-- the unit that is given is one that was given before, or the one that was read
+pub given_either : (torn : Option ℕ) (unit i : ℕ) (before after : Option ℕ) → before ≡ placed_at torn unit → after ≡ placed_at torn (unit + 1) → after ≡ Some i → (before ≡ Some i) ⊎ (i ≡ unit)
+given_either None unit i before after old new is = let none : None ≡ Some i = sym new ∙ is in absurd cc
+given_either (Some j) unit i before after old new is = ⊎_elim
+    (λ lt. inl (old ∙ cond-true (ltb j unit) (Some j) None (lt-ltb _ _ lt) ∙ sym (cond-true (ltb j (unit + 1)) (Some j) None (lt-ltb _ _ (omega (arith, lt)))) ∙ sym new ∙ is))
+    (λ ge. ⊎_elim
+    (λ more. let same : Some j ≡ Some i = sym (cond-true (ltb j (unit + 1)) (Some j) None (lt-ltb _ _ more)) ∙ sym new ∙ is in inr (omega (arith, same_Some j i same, ge, more)))
+    (λ past. let none : None ≡ Some i = sym (cond-false (ltb j (unit + 1)) (Some j) None (le-ltb _ _ past)) ∙ sym new ∙ is in absurd cc)
+    (cases_lt j (unit + 1)))
+    (cases_lt j unit)
+
+-- with a unit more to which no key leads, which may be the one that is given
+pub gathered_free : (format : ℕ) (u v : Units) (n m : ℕ) (princs : List Principal) (policies : List Rules) (cells : List Cell) → v.of ≡ u.of → v.next ≡ u.next + 1 → m ≡ n → ((i : ℕ) → v.placed ≡ Some i → (u.placed ≡ Some i) ⊎ (i ≡ u.next))
+    → IsGathered format u n princs policies cells → IsGathered format v m princs policies (with_more None cells)
+gathered_free format u v n m princs policies cells of next same placed is = record {
   cells_are = grow_free u v cells of next is.cells_are;
   count_is = omega (arith, same, is.count_is, taken-more None cells);
   few = omega (arith, same, is.few);
@@ -119,7 +138,12 @@ gathered_free format u v n m princs policies cells of next same is = record {
       (cases_eq i (length cells));
   princs_are = is.princs_are ∙ sym (princs-more None cells ∙ append-nil (princs_of cells));
   policies_are = is.policies_are ∙ sym (policies-more None cells ∙ append-nil (policies_of cells));
+  given = λ i there. ⊎_elim (λ before. given_more None cells i (is.given i before)) (λ last. given_last cells i (last ∙ is.cells_are.next)) (placed i there);
 }
+
+pub led_placed : (u v : Units) (key : List ℕ) → v ≡ more_led key u → v.placed ≡ u.placed
+unfolding more_led
+led_placed u v key is = ap (λ (w : Units). w.placed) is
 
 -- with a unit more that has a row
 pub gathered_row : (format : ℕ) (u : Units) (n m : ℕ) (princs newer : List Principal) (policies later : List Rules) (r : StoredRow) (cells : List Cell) → u.next ≤ last_unit → u.of (name_of r) ≡ None → n < most_rows → m ≡ n + 1 → IsStored format r
@@ -135,6 +159,7 @@ gathered_row format u n m princs newer policies later r cells far new room same 
       (cases_eq i (length cells));
   princs_are = ps ∙ ap (λ (l : List Principal). l ++ princ_in (Some r)) is.princs_are ∙ sym (princs-more (Some r) cells);
   policies_are = qs ∙ ap (λ (l : List Rules). l ++ policy_in (Some r)) is.policies_are ∙ sym (policies-more (Some r) cells);
+  given = λ i there. given_more (Some r) cells i (is.given i (sym (led_placed u (more_led (name_of r) u) (name_of r) refl) ∙ there));
 }
 
 -- the first unit alone
@@ -148,6 +173,7 @@ gathered_first format n princs policies same ps qs = record {
   near = λ i r is. let o = none_first i r is in absurd cc;
   princs_are = ps;
   policies_are = qs;
+  given = λ i is. absurd cc;
 }
   where
     none_first : (i : ℕ) (r : StoredRow) → cell_no i (None ∷ []) ≡ Some r → None ≡ Some i
@@ -270,10 +296,6 @@ row_placed torn unit c r before after is none old same = same ∙ old ∙ sym (p
 pub led_next : (u v : Units) (key : List ℕ) → v ≡ more_led key u → v.next ≡ u.next + 1
 unfolding more_led
 led_next u v key is = ap (λ (w : Units). w.next) is
-
-pub led_placed : (u v : Units) (key : List ℕ) → v ≡ more_led key u → v.placed ≡ u.placed
-unfolding more_led
-led_placed u v key is = ap (λ (w : Units). w.placed) is
 
 -- a unit that is not whole spells no cell
 pub short_unit : (format : ℕ) (skips : Bool) (bytes : List ℕ) → skips ≡ false → length bytes < unit_size format → cell_next format skips bytes ≡ None

@@ -53,7 +53,8 @@ policies_of (c ∷ cells) = policy_in c ++ policies_of cells
 
 -- ---- what was gathered
 
--- What is kept of the units that were read: where each key leads, and the rows.
+-- What is kept of the units that were read: where each key leads, and the rows. A unit that is given is one of them, and
+-- no row stands in it.
 pub record IsGathered (format : ℕ) (u : Units) (count : ℕ) (princs : List Principal) (policies : List Rules) (cells : List Cell) : Type 0 where
   pub cells_are : AreCellsOf u cells
   pub count_is : count ≡ taken cells
@@ -62,6 +63,7 @@ pub record IsGathered (format : ℕ) (u : Units) (count : ℕ) (princs : List Pr
   pub near : (i : ℕ) (r : StoredRow) → cell_no i cells ≡ Some r → i ≤ last_unit
   pub princs_are : princs ≡ princs_of cells
   pub policies_are : policies ≡ policies_of cells
+  pub given : (i : ℕ) → u.placed ≡ Some i → (i < length cells) × (cell_no i cells ≡ None)
 
 -- Rows in any order: each has a spelling, no two of one kind have one key, and there are no more than there may be.
 pub record AreApart (princs : List Principal) (policies : List Rules) : Type 0 where
@@ -108,6 +110,11 @@ AreCellsIn format torn file cells = (i : ℕ) → i < length cells → cell_in f
 -- the file is damaged at the place that the refusal names
 abbrev pub IsDamaged : ℕ → ℕ → Option ℕ → List ℕ → Refusal → Type 0
 IsDamaged file format torn bytes refusal = (place : ℕ) × ((refusal ≡ Damaged file place) × (sheet_in format (skipping format torn bytes) ≡ Err place))
+
+-- a refusal is that a file is damaged at some place
+abbrev pub IsDamage : Stop → Type 0
+IsDamage (Refused refusal) = (file : ℕ) × ((place : ℕ) × (refusal ≡ Damaged file place))
+IsDamage (Halt halt) = Unit {0}
 
 -- One cell more was gathered, which is the next unit's where the file is told.
 pub record IsMore (format : ℕ) (torn : Option ℕ) (told : Type 0) (file : List ℕ) (u : Units) (count : ℕ) (princs : List Principal) (policies : List Rules) (cells : List Cell) : Type 0 where

@@ -1,5 +1,5 @@
 //! Whole files of cells, read from a disk.
-ghost use Rattle.std.specs.Prelude.{◌≡◌, ◌≤◌, ◌<◌, ◌+◌, ◌*◌, ◌/◌, ◌^◌, ℕ, List, true, Some, None, Err, length, take, drop, max, IfOk, OnOk};
+ghost use Rattle.std.specs.Prelude.{◌≡◌, ◌≤◌, ◌<◌, ◌+◌, ◌*◌, ◌/◌, ◌^◌, ℕ, List, true, Some, None, Err, length, take, drop, max, IfOk, IfErr, OnOk};
 ghost use Rattle.kdb_base.specs.declared.outcomes.Refusal.{Refusal as Refuses};
 ghost use Rattle.kdb_base.specs.declared.outcomes.Refusal.TheVariants.{Damaged};
 ghost use Rattle.kdb_base.specs.declared.outcomes.Stop.TheVariants.{Refused, Halt as Halts};
@@ -10,7 +10,7 @@ ghost use Rattle.kdb_disk.specs.Reader.{left_of, IsOver};
 ghost use Rattle.kdb_disk.specs.View.{View};
 ghost use Rattle.kdb_cells.specs.Cells.{unit_size as size_of_unit};
 ghost use Rattle.kdb_cells.specs.CellFiles.{is_image, is_format};
-ghost use Rattle.kdb_cells.specs.Scanning.{heading_of, end_of, MaySkip, IsDamaged, AreApart, AreScanned, IsScanned};
+ghost use Rattle.kdb_cells.specs.Scanning.{heading_of, end_of, MaySkip, IsDamage, IsDamaged, AreApart, AreScanned, IsScanned};
 
 use crate::cells::{Cells, unit_size};
 use crate::headings::read_first;
@@ -46,6 +46,7 @@ fn read_realm<D: Disk>(
     requires over { D.tells → IsOver reader.old (D.view disk.old).seen }
     ensures found { D.tells → IfOk result (λ realm. heading_of format (take (size_of_unit format) (left_of reader.old (D.view disk.old).seen)) ≡ Some realm) }
     ensures refused { D.tells → (r : Refuses) → result ≡ Err (Refused r) → (r ≡ Damaged file 0) × (heading_of format (take (size_of_unit format) (left_of reader.old (D.view disk.old).seen)) ≡ None) }
+    ensures damage { IfErr result IsDamage }
     ensures left { D.tells → OnOk result (left_of reader.new (D.view disk.new).seen ≡ drop (size_of_unit format) (left_of reader.old (D.view disk.old).seen)) }
     ensures over { D.tells → IsOver reader.new (D.view disk.new).seen }
     ensures keeps { D.tells → Keeps (D.view disk.old) (D.view disk.new) }
@@ -106,6 +107,8 @@ pub fn scan<D: Disk>(
     ensures file { IfOk result (λ s. s.cells.file ≡ file) }
     ensures format { IfOk result (λ s. s.cells.format ≡ format) }
     ensures refused { D.tells → (r : Refuses) → result ≡ Err (Refused r) → IsDamaged file format torn ((D.view disk.old).seen file) r }
+    // whatever the disk tells
+    ensures damage { IfErr result IsDamage }
     ensures keeps { D.tells → Keeps (D.view disk.old) (D.view disk.new) }
     ensures call { IsCall D.Disk disk.old disk.new (result ≡ Err (Halts IsDiskFault)) }
 {

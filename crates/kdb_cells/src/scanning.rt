@@ -1,5 +1,5 @@
 //! The units of a file of cells, read one after the other.
-ghost use Rattle.std.specs.Prelude.{◌≡◌, ◌≤◌, ◌<◌, ◌+◌, ◌*◌, ◌^◌, ℕ, List, true, false, Some, None, Err, length, take, drop, IfOk, OnOk};
+ghost use Rattle.std.specs.Prelude.{◌≡◌, ◌≤◌, ◌<◌, ◌+◌, ◌*◌, ◌^◌, ℕ, List, true, false, Some, None, Err, length, take, drop, IfOk, IfErr, OnOk};
 ghost use Rattle.kdb_base.specs.declared.outcomes.Refusal.{Refusal as Refuses};
 ghost use Rattle.kdb_base.specs.declared.outcomes.Refusal.TheVariants.{Damaged};
 ghost use Rattle.kdb_base.specs.declared.outcomes.Stop.TheVariants.{Refused, Halt as Halts};
@@ -12,7 +12,7 @@ ghost use Rattle.kdb_format.specs.Answers.{Finds};
 ghost use Rattle.kdb_format.specs.declared.faults.FormatFault.TheVariants.{Malformed as IsMalformed};
 ghost use Rattle.kdb_cells.specs.Cells.{Cell, IsCell, name_of, cell_of, unit_size as size_of_unit};
 ghost use Rattle.kdb_cells.specs.Indexes.{units, count};
-ghost use Rattle.kdb_cells.specs.Scanning.{skipping, is_torn as is_torn_unit, placed_at, cell_next, MaySkip, AreCellsIn, IsDamaged, IsGathered, IsMore, AreGathered, IsRefused, UnitAnswers};
+ghost use Rattle.kdb_cells.specs.Scanning.{skipping, is_torn as is_torn_unit, placed_at, cell_next, MaySkip, AreCellsIn, IsDamage, IsDamaged, IsGathered, IsMore, AreGathered, IsRefused, UnitAnswers};
 ghost use Rattle.kdb_cells.specs.Sheets.{set_cell, count_of, realm_in};
 ghost use Rattle.kdb_cells.specs.declared.units.StoredRow.{StoredRow as Stored};
 
@@ -39,7 +39,8 @@ pub(crate) fn is_torn(torn: Option<u32>, unit: u64) -> bool
 // The unit at this number is damaged.
 fn damaged(file: u8, format: u16, unit: u64) -> Stop
     requires { unit * size_of_unit format < 2 ^ 64 }
-    ensures { result ≡ Refused (Damaged file (unit * size_of_unit format)) }
+    ensures value { result ≡ Refused (Damaged file (unit * size_of_unit format)) }
+    ensures damage { IsDamage result }
 {
     Stop::Refused(Refusal::Damaged {
         file,
@@ -81,6 +82,7 @@ fn read_next<D: Disk>(
     requires fits { unit * size_of_unit format < 2 ^ 64 }
     requires over { D.tells → IsOver reader.old (D.view disk.old).seen }
     ensures found { D.tells → UnitAnswers result file (unit * size_of_unit format) (cell_next format skips (take (size_of_unit format) (left_of reader.old (D.view disk.old).seen))) }
+    ensures damage { IfErr result IsDamage }
     ensures stored { IfOk result (λ c. IsCell format c) }
     ensures none { skips ≡ true → IfOk result (λ c. c ≡ None) }
     ensures left { D.tells → OnOk result (left_of reader.new (D.view disk.new).seen ≡ drop (size_of_unit format) (left_of reader.old (D.view disk.old).seen)) }
@@ -176,6 +178,7 @@ fn gather_unit<D: Disk>(
         → AreCellsIn format torn ((D.view disk.old).seen file) cells
         → (realm : List ℕ) → realm_in format (skipping format torn ((D.view disk.old).seen file)) ≡ Some realm → unit < count_of format (skipping format torn ((D.view disk.old).seen file))
         → (r : Refuses) → result ≡ Err (Refused r) → IsDamaged file format torn ((D.view disk.old).seen file) r }
+    ensures damage { IfErr result IsDamage }
     ensures next { OnOk result (gathered.new.index.next ≡ unit + 1) }
     ensures placed { OnOk result (gathered.new.index.placed ≡ placed_at torn (unit + 1)) }
     ensures left { D.tells → OnOk result (left_of reader.new (D.view disk.new).seen ≡ drop ((unit + 1) * size_of_unit format) ((D.view disk.old).seen file)) }
@@ -215,6 +218,7 @@ pub(crate) fn gather<D: Disk>(
     ensures placed { IfOk result (λ g. g.index.placed ≡ placed_at torn end) }
     ensures refused { D.tells → (realm : List ℕ) → realm_in format (skipping format torn ((D.view disk.old).seen file)) ≡ Some realm → end ≤ count_of format (skipping format torn ((D.view disk.old).seen file))
         → (r : Refuses) → result ≡ Err (Refused r) → IsDamaged file format torn ((D.view disk.old).seen file) r }
+    ensures damage { IfErr result IsDamage }
     ensures keeps { D.tells → Keeps (D.view disk.old) (D.view disk.new) }
     ensures call { IsCall D.Disk disk.old disk.new (result ≡ Err (Halts IsDiskFault)) }
 {

@@ -33,7 +33,7 @@ use Rattle.store_files.proofs.Committing.{under_way_found}
 use Rattle.store_files.proofs.Placed.{held_after, place_after, place_is, kept_recovers, either_place}
 use Rattle.kdb_store.specs.Parts.{LeadsAlike, MayCommit, StandsOn}
 use Rattle.kdb_store.specs.Writes.{number_of, IsGivenTo, MayWrite, HoldsCells, IsPlan}
-use Rattle.kdb_store.specs.declared.writing.UnitWrite.{UnitWrite}
+use Rattle.store_opening.specs.declared.unit_writes.UnitWrite.{UnitWrite}
 use Rattle.princ_rows.specs.declared.begun.Begun.{Begun}
 use Rattle.kdb_store.proofs.Planned.{MakesRows, plan_makes, plan_may}
 
@@ -46,7 +46,7 @@ alike_cells {old} {new} cells same are = record {
   next = same.next_is ∙ are.next;
 }
 
-alike_tie : {old new : CellFile} (sheet : Sheet) (file : List ℕ) → LeadsAlike old new → IsFileOf old sheet file → IsFileOf new sheet file
+pub alike_tie : {old new : CellFile} (sheet : Sheet) (file : List ℕ) → LeadsAlike old new → IsFileOf old sheet file → IsFileOf new sheet file
 alike_tie {old} {new} sheet file same tie = record {
   read = ap (λ (f : ℕ). sheet_in f file) same.format_is ∙ tie.read;
   cells = alike_cells sheet.cells same tie.cells;

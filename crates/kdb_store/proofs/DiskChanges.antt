@@ -1,5 +1,5 @@
 -- A change on the disk: the unit is written behind the entry.
-use Rattle.std.proofs.Common.{◌≡◌, ◌≢◌, ℕ, ◌*◌, inr, ⊎_elim, List, sym, ap, subst, ◌∙◌}
+use Rattle.std.proofs.Common.{◌≡◌, ◌≢◌, ℕ, ◌*◌, inr, ⊎_elim, List, Option, sym, ap, subst, ◌∙◌}
 use Rattle.std.specs.Prelude.{Ok}
 use Rattle.std.proofs.lemmas.Bool.{cases_eq}
 use Rattle.kdb_disk.specs.Files.{Files}
@@ -7,18 +7,20 @@ use Rattle.kdb_disk.specs.View.{View}
 use Rattle.kdb_disk.specs.Moments.{LeavesOnly, LeavesTorn}
 use Rattle.kdb_disk.proofs.Runs.{started, then_on}
 use Rattle.princ_entries.specs.declared.entries.Logged.{Logged}
-use Rattle.update_log.specs.Logs.{Journal}
+use Rattle.update_log.specs.Logs.{Journal, with_prepared}
 use Rattle.update_log.specs.Moments.{IsDurable, ReadsOthers}
-use Rattle.kdb_cells.specs.Cells.{unit_size}
+use Rattle.kdb_cells.specs.Cells.{Cell, unit_size}
 use Rattle.kdb_cells.specs.CellFiles.{CellFile}
 use Rattle.kdb_cells.specs.FileCells.{IsFileOf}
 use Rattle.kdb_cells.specs.Sheets.{sheet_in}
 use Rattle.store_files.specs.Found.{Found}
-use Rattle.store_files.specs.Standing.{Holds, Pending, IsUnderWay, after}
+use Rattle.store_files.specs.Standing.{Holds, Pending, IsLogOf, IsUnderWay, after}
 use Rattle.store_files.proofs.Committing.{unit_runs, written_each, unchanged_stands, after_done, other_durable}
 use Rattle.store_files.proofs.Units.{numbered_none, numbered_some}
 use Rattle.kdb_store.specs.Parts.{ArePending, MayCommit}
-use Rattle.kdb_store.specs.Writes.{IsWritten}
+use Rattle.store_opening.specs.declared.unit_writes.UnitWrite.{UnitWrite}
+use Rattle.store_opening.specs.Writes.{WritesIn}
+use Rattle.kdb_store.specs.Writes.{Writes, IsWritten}
 
 module _ {D : Type 0} (view : D → View) where
   -- nothing is written where there is no unit
@@ -77,3 +79,19 @@ module _ {D : Type 0} (view : D → View) where
 pub tie_kept : {old : View} (mid : View) (log : Journal) (cells : CellFile) (l : Logged) (o : Found) → log.file ≢ cells.file
     → MayCommit log cells l o old → ReadsOthers log.file old mid → IsFileOf cells o.sheet (mid.seen cells.file)
 tie_kept {old} mid log cells l o apart may others = subst (λ (b : List ℕ). IsFileOf cells o.sheet b) (sym (others cells.file (λ e. apart (sym e)))) may.tie
+
+-- an entry may be made of what stands, whatever is noted of what is prepared
+pub noted_commit : {log : Journal} {cells : CellFile} {l : Logged} {o : Found} {v : View} (noted : Journal) (p : Option Logged) → noted ≡ with_prepared p log
+    → MayCommit log cells l o v → MayCommit noted cells l o v
+noted_commit {log} {cells} {l} {o} {v} noted p is may = record {
+  log_is = subst (λ (j : Journal). IsLogOf j o) (sym is) (record { file_is = may.log_is.file_is; base_is = may.log_is.base_is; size_is = may.log_is.size_is; block_is = may.log_is.block_is; held_is = may.log_is.held_is });
+  stands = may.stands;
+  change = may.change;
+  file_is = may.file_is;
+  format_is = may.format_is;
+  tie = may.tie;
+}
+
+-- what is written in format 2 is written in the format of the file
+pub writes_there : (cells : CellFile) (w : UnitWrite) (left : Cell) → cells.format ≡ 2 → Writes w left → WritesIn cells.format w left
+writes_there cells w left newer writes = subst (λ (f : ℕ). WritesIn f w left) (sym newer) writes

@@ -1,10 +1,12 @@
 pub mod Lengths
 pub mod Given
 pub mod Ranges
-pub mod WrittenUnits
 pub mod Entries
 pub mod DiskChanges
 pub mod Planned
 pub mod Changed
 pub mod Committed
 pub mod Switched
+pub mod Anew
+pub mod Renewals
+pub mod Recovered

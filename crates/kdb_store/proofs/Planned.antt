@@ -19,8 +19,8 @@ use Rattle.store_files.specs.Standing.{MayChange, AreRowCells}
 use Rattle.store_files.proofs.Units.{numbered_none, numbered_some, IsApart}
 use Rattle.store_files.proofs.Changing.{may_stand, rows_given, drop_princ_absent, drop_policy_absent, princ_absent, policy_absent, cell_fits, leads_alone}
 use Rattle.kdb_store.specs.Writes.{number_of, IsGivenTo, MayWrite, MayPut, HasNoRow, IsPlan}
-use Rattle.kdb_store.specs.declared.writing.UnitWrite.{UnitWrite}
-use Rattle.kdb_store.specs.declared.writing.UnitWrite.TheVariants.{Nothing, Put, Free}
+use Rattle.store_opening.specs.declared.unit_writes.UnitWrite.{UnitWrite}
+use Rattle.store_opening.specs.declared.unit_writes.UnitWrite.TheVariants.{Nothing, Put, Free}
 
 -- What is known of the cells that a planned change makes.
 pub record MakesRows (n : ℕ) (op : Op) (cells : List Cell) (rows : RowLists) : Type 0 where

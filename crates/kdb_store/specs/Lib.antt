@@ -1,2 +1,5 @@
 pub mod Writes
+pub mod Reading
 pub mod Parts
+pub mod Anew
+pub mod Renewals

@@ -25,13 +25,14 @@ ghost use Rattle.kdb_store.specs.Parts.{LeadsAlike, HoldsAlike, MayCommit, SameN
 ghost use Rattle.kdb_store.specs.Writes.{number_of, Writes, IsGivenTo, MayWrite, HoldsCells, IsPlan};
 
 use crate::disk_changes::write_change;
-use crate::writing::{UnitWrite, plan};
+use crate::writing::plan;
 use kdb_base::{Halt, MemoryOut, Point};
 use kdb_cells::Cells;
 use kdb_disk::Disk;
 use princ_entries::laws::entries_have_their_lengths;
 use princ_rows::{Begun, Entry, Op, Rows, copy_op};
 use std::alloc::Global;
+use store_opening::UnitWrite;
 use update_log::Log;
 
 /// A change with all that it wants of memory: its entry, the change of the rows, which is begun, and what
@@ -50,8 +51,8 @@ pub(crate) fn holds_rows(rows: &Rows)
     let _ = rows.princs();
 }
 
-// Plans a change at this point, and begins it in the rows.
-fn begin_change(
+/// Plans a change at this point, and begins it in the rows.
+pub(crate) fn begin_change(
     alloc: Global,
     cells: &mut Cells,
     rows: &mut Rows,

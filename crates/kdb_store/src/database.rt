@@ -126,6 +126,13 @@ impl Database {
         }
     }
 
+    /// The number of the file that has the stash; 0 where there is none.
+    pub fn stash_file(&self) -> u8
+        ensures { result ≡ self.now.control.stash }
+    {
+        self.control.stash
+    }
+
     /// The log of the last changes.
     pub fn log(&self) -> &Log
         ensures { result.now ≡ self.now.log }

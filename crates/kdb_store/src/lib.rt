@@ -8,9 +8,12 @@ pub mod database;
 mod disk_changes;
 mod entry_writes;
 pub mod opening;
+pub mod recovering;
+pub mod replacing;
+mod reset_changes;
 pub mod resetting;
+pub mod resetting_with;
 pub mod stashing;
-mod unit_writes;
 mod writing;
 
 pub use database::{Database, entry_length};

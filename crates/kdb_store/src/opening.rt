@@ -25,8 +25,8 @@ use princ_rows::Rows;
 use std::alloc::Global;
 use store_opening::{Parts, create_parts};
 
-// The database of the parts that were made or read.
-fn database_of(parts: Parts) -> Database
+/// The database of the parts that were made or read.
+pub(crate) fn database_of(parts: Parts) -> Database
     requires { IsKept (kept_of parts) }
     ensures { result ≡ kept_of parts }
 {

@@ -23,30 +23,7 @@ use princ_record::policies::encode_policy;
 use princ_record::princs::encode;
 use princ_rows::{Op, Rows};
 use std::alloc::Global;
-
-/// What a change writes into the file of cells.
-#[derive(Drop)]
-pub enum UnitWrite {
-    /// Nothing: it drops a row that is not there.
-    Nothing,
-    /// Into the unit of this number a row, by its key, its bytes and its kind.
-    Put(u32, Blob, Blob, u8),
-    /// The unit of this number is freed.
-    Free(u32),
-}
-
-impl UnitWrite {
-    /// The number of the unit, 0 for none.
-    pub fn number(&self) -> u32
-        ensures value { result ≡ number_of self.now }
-    {
-        match self {
-            UnitWrite::Nothing => 0,
-            UnitWrite::Put(cell, _, _, _) => *cell,
-            UnitWrite::Free(cell) => *cell,
-        }
-    }
-}
+use store_opening::UnitWrite;
 
 // The unit for the row of this key.
 fn place(cells: &mut Cells, key: &[u8]) -> Result<u32, MemoryOut>

@@ -6,3 +6,7 @@ pub mod Torn
 pub mod Joining
 pub mod Ranges
 pub mod Refusals
+pub mod WrittenUnits
+pub mod Again
+pub mod Redone
+pub mod Looked

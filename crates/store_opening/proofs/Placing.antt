@@ -16,7 +16,7 @@ use Rattle.store_files.specs.Found.{is_placed}
 use Rattle.store_files.proofs.Units.{no_clashes}
 use Rattle.store_opening.specs.Redoing.{AreUnits, IsHeld}
 
-no_clash_at : (u : Units) (all : List Cell) (r : StoredRow) → AreCellsOf u all → u.of (name_of r) ≡ None → (j : ℕ) (c : Cell) → cell_no j all ≡ c → clash (Some r) c ≡ false
+pub no_clash_at : (u : Units) (all : List Cell) (r : StoredRow) → AreCellsOf u all → u.of (name_of r) ≡ None → (j : ℕ) (c : Cell) → cell_no j all ≡ c → clash (Some r) c ≡ false
 no_clash_at u all r are new j None is = refl
 no_clash_at u all r are new j (Some s) is = false_from_ne_true _ (λ same. let both : None ≡ Some j = sym new ∙ ap u.of (same_key_name r s same) ∙ are.found j s is in absurd cc)
 
@@ -49,7 +49,7 @@ not_true : (b : Bool) → not b ≡ true → b ≡ false
 not_true true e = absurd (true≢false (sym e))
 not_true false e = refl
 
-held_from : (format : ℕ) (c : CellFile) (all : List Cell) (unit : Option ℕ) (r : StoredRow) → AreUnits format c all → IsStored format r → is_placed unit (Some r) all ≡ true → IsHeld unit (name_of r) (units c) (count c)
+pub held_from : (format : ℕ) (c : CellFile) (all : List Cell) (unit : Option ℕ) (r : StoredRow) → AreUnits format c all → IsStored format r → is_placed unit (Some r) all ≡ true → IsHeld unit (name_of r) (units c) (count c)
 held_from format c all None r are stored placed = absurd (true≢false (sym placed))
 held_from format c all (Some i) r are stored placed =
     let parts = and_parts (not (clashes (Some r) all)) (nat_lt (taken all) most_rows) placed in

@@ -1,5 +1,5 @@
 //! What is in force on a disk, read piece by piece. Nothing here changes a file.
-ghost use Rattle.std.specs.Prelude.{◌≡◌, ◌≤◌, ◌<◌, nat_le, IfOk, IsErr, Err};
+ghost use Rattle.std.specs.Prelude.{◌≡◌, ◌≤◌, ◌<◌, nat_le, IfOk, IfErr, IsErr, Err};
 ghost use Rattle.kdb_base.specs.declared.outcomes.Halt.TheVariants.{DiskFault as IsDiskFault};
 ghost use Rattle.kdb_base.specs.declared.outcomes.Refusal.{Refusal as Refuses};
 ghost use Rattle.kdb_base.specs.declared.outcomes.Stop.TheVariants.{Refused, Halt as Halts};
@@ -12,6 +12,7 @@ ghost use Rattle.kdb_control.specs.Force.{in_force};
 ghost use Rattle.kdb_cells.specs.Sheets.{count_of};
 ghost use Rattle.store_files.specs.Found.{found_in, stash_in};
 ghost use Rattle.store_files.specs.Standing.{HasFiles};
+ghost use Rattle.store_opening.specs.Looking.{StopsOpening};
 
 use kdb_base::{Blob, Halt, Refusal, Stop};
 use kdb_cells::unit_size;
@@ -30,6 +31,7 @@ pub(crate) fn holds_files(control: &Control)
 pub(crate) fn read_control<D: Disk>(disk: &mut D) -> Result<Control, Stop>
     ensures force { D.tells → IfOk result (λ control. in_force ((D.view disk.old).seen 0) ≡ Is control) }
     ensures refused { D.tells → (r : Refuses) → result ≡ Err (Refused r) → found_in (D.view disk.old).seen ≡ Err r }
+    ensures stops { IfErr result StopsOpening }
     ensures keeps { D.tells → Keeps (D.view disk.old) (D.view disk.new) }
     ensures call { IsCall D.Disk disk.old disk.new (result ≡ Err (Halts IsDiskFault)) }
 {

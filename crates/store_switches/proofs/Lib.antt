@@ -1,3 +1,5 @@
 pub mod Ranges
 pub mod Switched
 pub mod Ended
+pub mod Images
+pub mod Renewed

@@ -6,7 +6,7 @@ use Rattle.kdb_control.specs.Choice.{Choice, is_format, in_ranges, is_choice}
 use Rattle.kdb_control.specs.Force.{turn_after}
 use Rattle.store_files.specs.Switches.{IsSpareFor}
 
-one_of_two : (n a b : ℕ) → (nat_eq n a || nat_eq n b) ≡ true → (n ≡ a) ⊎ (n ≡ b)
+pub one_of_two : (n a b : ℕ) → (nat_eq n a || nat_eq n b) ≡ true → (n ≡ a) ⊎ (n ≡ b)
 one_of_two n a b is = ⊎_elim
     (λ e. inl e)
     (λ other. ⊎_elim (λ e. inr e) (λ neither. let none : (nat_eq n a || nat_eq n b) ≡ false = rw (ne_eqb n a other, ne_eqb n b neither) refl in absurd (false≢true (sym none ∙ is))) (cases_eq n b))
@@ -26,7 +26,7 @@ pub record AreRanged (turn image log stash size block : ℕ) : Type 0 where
   pub sizes : (nat_lt 1 size && nat_lt size 10001) ≡ true
   pub blocks : (nat_lt 2047 block && nat_lt block 16385) ≡ true
 
-ranged : (format turn image log stash size block : ℕ) → (is_format format && in_ranges turn image log stash size block) ≡ true
+pub ranged : (format turn image log stash size block : ℕ) → (is_format format && in_ranges turn image log stash size block) ≡ true
     → AreRanged turn image log stash size block
 unfolding in_ranges
 ranged format turn image log stash size block all =
@@ -62,7 +62,7 @@ pub log_high : (format turn image log stash size block : ℕ) → (is_format for
 log_high format turn image log stash size block all =
     ⊎_elim (λ e. omega (arith, e)) (λ e. omega (arith, e)) (one_of_two log 3 4 (ranged format turn image log stash size block all).logs)
 
-stash_low : (format turn image log stash size block : ℕ) → (is_format format && in_ranges turn image log stash size block) ≡ true → stash ≢ 0 → 5 ≤ stash
+pub stash_low : (format turn image log stash size block : ℕ) → (is_format format && in_ranges turn image log stash size block) ≡ true → stash ≢ 0 → 5 ≤ stash
 stash_low format turn image log stash size block all some =
     ⊎_elim (λ e. absurd (some e)) (⊎_elim (λ e. omega (arith, e)) (λ e. omega (arith, e))) (one_of_three stash 0 5 6 (ranged format turn image log stash size block all).stashes)
 

@@ -30,13 +30,13 @@ use Rattle.store_switches.specs.Switched.{with_log, with_stash, IsUnder, StandsE
 -- ---- the spare file
 
 -- another file than the one that differs
-other_file : {file g : ℕ} {old : View} {c : Files} → g ≢ file → (from : IsAfter (Differs file) old c) → c g ≡ from.before g
+pub other_file : {file g : ℕ} {old : View} {c : Files} → g ≢ file → (from : IsAfter (Differs file) old c) → c g ≡ from.before g
 other_file {file} {g} other from = ap (λ (files : Files). files g) from.went.is ∙ with_file-other file g from.went.content from.before other
 
-turned : {a b : ℕ} → a ≢ b → b ≢ a
+pub turned : {a b : ℕ} → a ≢ b → b ≢ a
 turned apart e = apart (sym e)
 
-spare_run : {old mid : View} (o : Found) (file : ℕ) → IsSpareFor o.control file → ((c : Files) → old.images c → StandsOnDisk o c)
+pub spare_run : {old mid : View} (o : Found) (file : ℕ) → IsSpareFor o.control file → ((c : Files) → old.images c → StandsOnDisk o c)
     → LeavesOnly old mid (IsAfter (Differs file) old) → LeavesOnly old mid (StandsOnDisk o)
 spare_run o file spare stands run = weaken run (λ c from. spare_stands o c from.before file spare (stands from.before from.was) (λ g other. other_file other from))
 
@@ -102,12 +102,12 @@ holds_next {p = p} is set = record {
       would_stand p c b.0 is.next_files (is.would b.0 b.1.0 (stands_mid is b.0 b.1.0).would) b.1.1 (ap in_force (set.durable c now) ∙ set.here);
 }
 
-log_after : {mid new : View} {one other : Force} (log : Journal) → log.file ≢ 0 → LeavesOnly mid new (LeavesEither one other mid) → HasLog log mid → HasLog log new
+pub log_after : {mid new : View} {one other : Force} (log : Journal) → log.file ≢ 0 → LeavesOnly mid new (LeavesEither one other mid) → HasLog log mid → HasLog log new
 log_after log some switch has = record {
   each = λ c now. let b = same_files switch c now in subst (logs.Holds log) (sym (b.1.1 log.file some)) (has.each b.0 b.1.0);
 }
 
-durable_after : {mid new : View} {one other force : Force} (g : ℕ) → g ≢ 0 → LeavesOnly mid new (LeavesEither one other mid) → IsInForce force mid new → IsDurable g mid → IsDurable g new
+pub durable_after : {mid new : View} {one other force : Force} (g : ℕ) → g ≢ 0 → LeavesOnly mid new (LeavesEither one other mid) → IsInForce force mid new → IsDurable g mid → IsDurable g new
 durable_after g some switch set was = record {
   durable = λ c now. let b = same_files switch c now in b.1.1 g some ∙ was.durable b.0 b.1.0 ∙ sym (set.others g some);
 }
@@ -265,7 +265,7 @@ pub record IsRestashed (now next : Choice) (bytes : List ℕ) (old mid new : Vie
   pub replaced : Replaced next.stash bytes old mid
   pub switch : LeavesOnly mid new (LeavesEither (Is now) (Is next) mid)
 
-stash_spare : {now : Choice} {old : View} (file : ℕ) (k : Kept) → IsUnder now k old → IsSpareFor now file → IsSpareFor k.control file
+pub stash_spare : {now : Choice} {old : View} (file : ℕ) (k : Kept) → IsUnder now k old → IsSpareFor now file → IsSpareFor k.control file
 stash_spare file k under spare = subst (λ (c : Choice). IsSpareFor c file) (sym under.control_is) spare
 
 stash_next : {now : Choice} {old : View} (next : Choice) (k : Kept) → IsUnder now k old → next ≡ stash_choice next.stash now → next ≡ stash_choice next.stash k.control

@@ -1,2 +1,3 @@
 pub mod Switched
 pub mod Ending
+pub mod Renewed

@@ -5,9 +5,9 @@ ghost use Rattle.store_files.specs.Switches.{IsSpareFor, reset_choice, stash_cho
 use kdb_base::Point;
 use kdb_control::Control;
 
-// The log file that is not in force.
+/// The log file that is not in force.
 #[tactic(auto, using(crate::proofs::Ranges::log_low, crate::proofs::Ranges::log_high))]
-fn spare_log(now: &Control) -> u8
+pub(crate) fn spare_log(now: &Control) -> u8
     ensures other { result ≡ 7 - now.now.log }
     ensures low { 3 ≤ result }
     ensures high { result ≤ 4 }

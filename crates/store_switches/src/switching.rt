@@ -1,5 +1,5 @@
 //! A spare file written whole, and the choice that names it put into force.
-ghost use Rattle.std.specs.Prelude.{◌≡◌, ◌≤◌, ◌<◌, ◌∷◌, [], OnOk, IsErr};
+ghost use Rattle.std.specs.Prelude.{◌≡◌, ◌≢◌, ◌≤◌, ◌<◌, ◌∷◌, [], ℕ, OnOk, IsErr};
 ghost use Rattle.kdb_disk.specs.View.{View};
 ghost use Rattle.kdb_disk.specs.Frames.{IsCall};
 ghost use Rattle.kdb_disk.specs.Moments.{LeavesOnly};
@@ -35,6 +35,7 @@ pub fn reset_files<D: Disk>(
     requires log { log.now ≡ begun next.now.log next.now.base next.now.size next.now.block }
     ensures crash { D.tells → (k : Kept) → IsUnder now.now k (D.view disk.old) → LeavesOnly (D.view disk.old) (D.view disk.new) (LeavesPart (place_kept k) (log_anew next.now.base next.now.size next.now.block (place_kept k) ∷ [])) }
     ensures on { D.tells → (k : Kept) → IsUnder now.now k (D.view disk.old) → OnOk result (IsOnDisk (with_log next.now log.now k) (D.view disk.new)) }
+    ensures others { D.tells → OnOk result ((g : ℕ) → g ≢ 0 → g ≢ next.now.log → (D.view disk.new).seen g ≡ (D.view disk.old).seen g) }
     ensures call { IsCall D.Disk disk.old disk.new (IsErr result) }
 {
     log.write(disk)?;

@@ -13,7 +13,7 @@ use Rattle.kdb_disk.proofs.Differing.{differs_run}
 use Rattle.princ_entries.specs.declared.entries.Logged.{Logged}
 use Rattle.update_log.specs.Slots.{slot_of, Shuts, Fills, Spells}
 use Rattle.update_log.specs.Logs.{Journal, Holds, HoldsIn, ComesNext, with_prepared, log_committed, newest, begun, marker_of}
-use Rattle.update_log.specs.Moments.{LeavesLog, HasLog, IsDurable, MayShut, IsFilled, IsNext, IsReady, HasPrepared, Prepares, LeavesEither, IsMarker, ReadsOthers}
+use Rattle.update_log.specs.Moments.{LeavesLog, HasLog, IsBodyFor, IsDurable, MayShut, IsFilled, IsNext, IsReady, HasPrepared, Prepares, LeavesEither, IsMarker, ReadsOthers}
 use Rattle.update_log.proofs.SlotWrites.{fills_shut, slot_within, opened_by}
 use Rattle.update_log.proofs.Journals.{HoldsMore, shut_holds, ready_filled, commit_torn, opened_holds, begun_holds}
 use Rattle.update_log.proofs.Leaving.{torn_each, run_weaker}
@@ -23,16 +23,20 @@ pub shut_log_slot : (log : Journal) {next : Logged} {bytes now : List ℕ} → H
 shut_log_slot log holds comes (inl same) = subst (Holds log) (sym same) holds
 shut_log_slot log holds comes (inr shuts) = shut_holds holds comes shuts
 
--- the plan by which the next entry is written
-pub next_plan : (log noted : Journal) (next : Logged) (file at : ℕ) (body text : List ℕ) → noted ≡ with_prepared (Some next) log → file ≡ noted.file → at ≡ slot_of noted.base noted.size next.entry.point.sno * noted.block → text ≡ body
-    → length body + 1 ≡ log.block → ComesNext log.held next → Spells log.block (0 ∷ body) next → IsNext log next file at text
-next_plan log noted next file at body text is file_is place same long comes spelled = record {
-  file_is = sym (file_is ∙ ap (λ (j : Journal). j.file) is);
-  place = place ∙ ap (λ (j : Journal). slot_of j.base j.size next.entry.point.sno * j.block) is;
-  long = ap (λ (b : List ℕ). length b + 1) same ∙ long;
+-- the plan by which an entry that is prepared is written
+pub ready_plan : (log : Journal) (next : Logged) (file at : ℕ) (body : List ℕ) → file ≡ log.file → at ≡ slot_of log.base log.size next.entry.point.sno * log.block
+    → ComesNext log.held next → IsBodyFor next log.block body → IsNext log next file at body
+ready_plan log next file at body file_is place comes is = record {
+  file_is = sym file_is;
+  place = place;
+  long = is.long;
   comes = comes;
-  spelled = subst (λ (b : List ℕ). Spells log.block (0 ∷ b) next) (sym same) spelled;
+  spelled = is.spelled;
 }
+
+-- a log is the one with what it has prepared
+pub prepared_log : (log : Journal) (next : Logged) → log.prepared ≡ Some next → with_prepared (Some next) log ≡ log
+prepared_log log next is = ap (λ (o : Option Logged). with_prepared o log) (sym is)
 
 pub next_moments : {old new : View} {log : Journal} {next : Logged} {file at : ℕ} {body : List ℕ} → IsNext log next file at body → Holds log (old.seen log.file)
     → ((block slot : ℕ) → length body + 1 ≡ block → at ≡ slot * block → LeavesOnly old new (MayShut file block slot old)) → LeavesOnly old new (LeavesLog log old)
@@ -56,6 +60,10 @@ prepared_each log next is c now = subst (IsReady log next) (sym (is.durable.dura
 
 same_next : (log : Journal) (a b : Logged) (bytes : List ℕ) → a ≡ b → IsReady log a bytes → IsReady log b bytes
 same_next log a b bytes is ready = subst (λ (e : Logged). IsReady log e bytes) is ready
+
+-- a log stands, whatever is noted of what is prepared
+pub noted_log : {now : View} (log noted : Journal) (o : Option Logged) → noted ≡ with_prepared o log → HasLog log now → HasLog noted now
+noted_log {now} log noted o is has = subst (λ (j : Journal). HasLog j now) (sym is) (record { each = has.each })
 
 -- ready is ready, whatever is noted of what is prepared
 ready_noted : (log : Journal) (noted : Option Logged) (next : Logged) (bytes : List ℕ) → IsReady log next bytes → IsReady (with_prepared noted log) next bytes

@@ -7,6 +7,11 @@ use Rattle.princ_entries.specs.declared.entries.Logged.{Logged}
 use Rattle.update_log.specs.Slots.{slot_of, slot_bytes, Spells, Shuts, Fills}
 use Rattle.update_log.specs.Logs.{Journal, Holds, ComesNext, marker_of}
 
+-- This body is written for the entry: it spells the entry behind a closed gate.
+pub record IsBodyFor (next : Logged) (block : ℕ) (body : List ℕ) : Type 0 where
+  pub long : length body + 1 ≡ block
+  pub spelled : Spells block (0 ∷ body) next
+
 -- Whatever a crash leaves holds what the log holds.
 pub record HasLog (log : Journal) (now : View) : Type 0 where
   pub each : (c : Files) → now.images c → Holds log (c log.file)

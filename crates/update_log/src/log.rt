@@ -9,7 +9,7 @@ ghost use Rattle.std.specs.VecDeque.{deque_len, deque_capacity};
 ghost use Rattle.princ_entries.specs.Entries.{IsOp, logged};
 ghost use Rattle.update_log.specs.Slots.{slot_of, Spells, IsSpelled};
 ghost use Rattle.update_log.specs.Logs.{IsJournal, ComesNext, entry_of, log_of, marker_of, with_prepared, log_committed, newest, begun};
-ghost use Rattle.update_log.specs.Moments.{HasLog, HasPrepared, IsDurable, LeavesLog, LeavesEither, ReadsOthers};
+ghost use Rattle.update_log.specs.Moments.{HasLog, HasPrepared, IsBodyFor, IsDurable, LeavesLog, LeavesEither, ReadsOthers};
 ghost use Rattle.update_log.specs.Runs.{stands_in};
 ghost use Rattle.update_log.specs.Scanning.{scanned, Scans};
 
@@ -315,6 +315,13 @@ impl Log {
         self.file
     }
 
+    // Tells a proof that what is prepared comes next, and does nothing.
+    fn holds_prepared(&self)
+        ensures { (next : Logged) → self.now.prepared ≡ Some next → ComesNext self.now.held next }
+    {
+        let _ = &self.held;
+    }
+
     // Forgets what is prepared.
     fn forget(&mut self)
         ensures { self.new ≡ with_prepared None self.old }
@@ -339,16 +346,17 @@ impl Log {
         }
     }
 
-    // What is written for the entry, which is noted as prepared.
-    fn body_of(&mut self, alloc: Global, entry: &Entry, cell: u32) -> Result<Vec<u8>, MemoryOut>
+    /// Prepares the next entry in memory, and gives what is written for it by [`Log::write_ready`]. All memory
+    /// that the entry needs is taken. What was prepared before is prepared no more.
+    ///
+    /// `cell` is the number of the unit that the entry changes, 0 where it changes none.
+    pub fn ready(&mut self, alloc: Global, entry: &Entry, cell: u32) -> Result<Vec<u8>, MemoryOut>
         requires comes { ComesNext self.old.held (record { entry = entry.now; cell = cell }) }
         requires fits { IsOp entry.now.op }
         requires short { length (logged (record { entry = entry.now; cell = cell })) ≤ self.old.block - 1 }
         ensures ok { OnOk result (self.new ≡ with_prepared (Some (record { entry = entry.now; cell = cell })) self.old) }
         ensures err { OnErr result (self.new ≡ with_prepared None self.old) }
-        ensures long { IfOk result (λ body. length body.items + 1 ≡ self.old.block) }
-        ensures spelled { IfOk result (λ body. Spells self.old.block (0 ∷ body.items) (record { entry = entry.now; cell = cell })) }
-        ensures range { IfOk result (λ body. (1 ≤ length body.items) × (length body.items < 2 ^ 32)) }
+        ensures body { IfOk result (λ body. IsBodyFor (record { entry = entry.now; cell = cell }) self.old.block body.items) }
     {
         holds_entry(entry, cell, self.block);
         self.forget();
@@ -365,6 +373,35 @@ impl Log {
         ensures small { result < 2 ^ 32 }
     {
         place_of(&self.base, self.size, self.block, entry.point.sno)
+    }
+
+    /// Writes the entry that is prepared behind a closed gate, on the disk: [`Log::open_prepared`] opens it.
+    /// `body` is what [`Log::ready`] gave for it. It takes no memory.
+    ///
+    /// At each moment a crash leaves the entries that are held, and all other files as before. The
+    /// log's file is not synced first: it is durable after [`NewLog::write`] and after [`Log::open_prepared`].
+    ///
+    /// [`NewLog::write`]: crate::NewLog::write
+    pub fn write_ready<D: Disk>(
+        &self,
+        disk: &mut D,
+        entry: &Entry,
+        cell: u32,
+        body: &[u8],
+    ) -> Result<(), DiskFailed>
+        requires ready { self.now.prepared ≡ Some (record { entry = entry.now; cell = cell }) }
+        requires body { IsBodyFor (record { entry = entry.now; cell = cell }) self.now.block body.now }
+        requires log { D.tells → HasLog self.now (D.view disk.old) }
+        requires durable { D.tells → IsDurable self.now.file (D.view disk.old) }
+        ensures crash { IsCrashSafe D.Disk disk.old disk.new (LeavesLog self.now (D.view disk.old)) }
+        ensures prepared { D.tells → OnOk result (HasPrepared self.now (D.view disk.new)) }
+        ensures others { D.tells → OnOk result (ReadsOthers self.now.file (D.view disk.old) (D.view disk.new)) }
+        ensures call { IsCall D.Disk disk.old disk.new (IsErr result) }
+    {
+        self.holds_journal();
+        self.holds_prepared();
+        let at = self.place(entry, cell);
+        write_next(disk, self.in_file(), at, body)
     }
 
     /// Writes the next entry behind a closed gate, on the disk: [`Log::commit`] opens it. Memory is
@@ -394,12 +431,11 @@ impl Log {
         ensures memory { result ≡ Err IsMemoryOut → disk.new ≡ disk.old }
         ensures call { IsCall D.Disk disk.old disk.new (result ≡ Err IsDiskFault) }
     {
-        let body = match self.body_of(alloc, entry, cell) {
+        let body = match self.ready(alloc, entry, cell) {
             Ok(body) => body,
             Err(_) => return Err(Halt::MemoryOut),
         };
-        let at = self.place(entry, cell);
-        match write_next(disk, self.in_file(), at, &body) {
+        match self.write_ready(disk, entry, cell, &body) {
             Ok(()) => Ok(()),
             Err(_) => {
                 self.forget();

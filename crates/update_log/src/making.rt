@@ -86,6 +86,14 @@ impl NewLog {
         write_first(disk, self.file, &self.body)
     }
 
+    /// The log in memory, to prepare an entry in before the file is written. It is a log of its own.
+    pub fn to_log(&self, alloc: Global) -> Result<Log, MemoryOut>
+        ensures { IfOk result (λ log. log ≡ self.now) }
+    {
+        let held = queue_of(alloc, &self.base, true)?;
+        Ok(log_of(self.file, self.base, self.size, self.block, held))
+    }
+
     /// The log, once it is made.
     pub fn into_log(self) -> Log
         ensures { result ≡ self }

@@ -1,4 +1,4 @@
-use Rattle.std.proofs.Common.{ℕ, ◌+◌, List, length, Some, None, ap, sym, subst, ◌∙◌}
+use Rattle.std.proofs.Common.{◌≡◌, ℕ, ◌+◌, ◌⊎◌, List, length, Some, None, ap, sym, subst, ◌∙◌}
 use Rattle.std.specs.Prelude.{OnOk}
 use Rattle.std.proofs.lemmas.Result.{on_ok_weaker}
 use Rattle.policy_rules.specs.Rules.{Rules}
@@ -8,7 +8,7 @@ use Rattle.kdb_cells.specs.Indexes.{units, count}
 use Rattle.kdb_cells.specs.Leads.{Units}
 use Rattle.kdb_cells.specs.Scanning.{IsGathered}
 use Rattle.kdb_cells.specs.Sheets.{set_cell}
-use Rattle.kdb_cells.proofs.Gathered.{on_both, gathered_row, gathered_free, led_next, led_placed, row_placed, with_more}
+use Rattle.kdb_cells.proofs.Gathered.{on_both, gathered_row, gathered_free, led_next, led_placed, row_placed, given_either, with_more}
 use Rattle.kdb_cells.proofs.scanning.gather_cell.Goals as goal
 
 pub returns-in-Some-clause-gathered : goal.returns-in-Some-clause-gathered
@@ -51,5 +51,6 @@ returns-in-None-clause-gathered c = λ cells is.
     (λ all.
     subst (λ (ps : List Principal). IsGathered c.args.format (units new.index) (count new.index) ps new.policies.items (with_more None cells)) (sym e.princs)
     (subst (λ (qs : List Rules). IsGathered c.args.format (units new.index) (count new.index) old.princs.items qs (with_more None cells)) (sym e.policies)
-    (gathered_free c.args.format (units old.index) (units new.index) (count old.index) (count new.index) old.princs.items old.policies.items cells all.0 (all.1.1 ∙ ap (λ (n : ℕ). n + 1) (sym c.requires.next)) all.1.0 is)))
-    (on_both _ _ r e.of (on_both _ _ r e.count e.next)))
+    (gathered_free c.args.format (units old.index) (units new.index) (count old.index) (count new.index) old.princs.items old.policies.items cells all.0 (all.1.1.0 ∙ ap (λ (n : ℕ). n + 1) (sym c.requires.next)) all.1.0
+    (λ i there. subst (λ (n : ℕ). (old.index.placed ≡ Some i) ⊎ (i ≡ n)) (sym c.requires.next) (given_either c.args.torn c.args.unit i old.index.placed new.index.placed c.requires.placed all.1.1.1 there)) is)))
+    (on_both _ _ r e.of (on_both _ _ r e.count (on_both _ _ r e.next e.placed))))

@@ -44,4 +44,4 @@ returns-in-Err-Malformed-clause-refused g c = λ tells cells long is read realm 
     let here = next_cell a.format a.torn bytes a.unit left (c.requires.torn tells) c.requires.first (c.requires.left tells)
     ∙ ap (λ (b : Bool). cell_next a.format b (take (unit_size a.format) left)) (sym c.is_torn-skips.ensures.value) in
     row_damaged a.file a.format a.torn bytes (units old.index) (count old.index) old.princs.items old.policies.items cells realm a.unit r c.in-Ok.cell is read long named lt (here ∙ c.in-Ok.ensures.found tells) c.in-Ok.ensures.stored
-    (c.gather_cell.ensures.refused cc) (same_damaged c.damaged.result _ r c.damaged.ensures same)
+    (c.gather_cell.ensures.refused cc) (same_damaged c.damaged.result _ r c.damaged.ensures.value same)

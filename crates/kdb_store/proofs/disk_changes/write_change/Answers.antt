@@ -1,59 +1,39 @@
-use Rattle.std.proofs.Common.{◌≢◌, ◌*◌, ℕ, sym, subst, ◌∙◌, ap}
-use Rattle.kdb_disk.specs.Moments.{LeavesOnly}
-use Rattle.kdb_cells.specs.Cells.{unit_size}
+use Rattle.std.proofs.Common.{ℕ, inl, Some, ap, ◌∙◌}
+use Rattle.kdb_disk.proofs.Runs.{started}
 use Rattle.princ_entries.specs.declared.entries.Logged.{Logged}
-use Rattle.update_log.specs.Logs.{Journal, log_committed}
-use Rattle.update_log.specs.Moments.{HasLog, IsDurable}
-use Rattle.store_files.proofs.Committing.{other_log}
-use Rattle.store_files.specs.Found.{left_by}
-use Rattle.store_files.specs.Standing.{IsChange, IsUnderWay}
-use Rattle.kdb_store.specs.Parts.{ArePending}
+use Rattle.update_log.specs.Logs.{Journal, with_prepared, log_committed}
+use Rattle.update_log.proofs.Preparing.{noted_log}
+use Rattle.store_files.specs.Standing.{IsUnderWay}
 use Rattle.kdb_store.specs.Writes.{number_of}
-use Rattle.kdb_store.proofs.DiskChanges.{change_crash, change_stands, change_durable, tie_kept}
+use Rattle.kdb_store.proofs.DiskChanges.{noted_commit}
 use Rattle.kdb_store.proofs.disk_changes.write_change.Goals as goal
 
-pub returns-in-Ok-write_unit-clause-crash : goal.returns-in-Ok-write_unit-clause-crash
-returns-in-Ok-write_unit-clause-crash g c tells o may =
+pub write_prepared-requires-clause-ready : goal.write_prepared-requires-clause-ready
+write_prepared-requires-clause-ready g c =
     let made : ℕ → Logged = λ (k : ℕ). record { entry = c.args.entry.now; cell = k } in
-    let n = c.number.ensures.value in
-    let change = subst (λ (k : ℕ). IsChange o (made k)) (sym n) may.change in
-    let pending = subst (λ (k : ℕ). ArePending (made k) o (g.D.Disk.view c.write_entry.new.disk)) n (c.in-Ok.ensures.pending tells o may.log_is may.stands change) in
-    let first = subst (λ (k : ℕ). LeavesOnly (g.D.Disk.view c.args.disk.now) (g.D.Disk.view c.write_entry.new.disk) (IsUnderWay (made k) o)) n (c.write_entry.ensures.crash tells o may.log_is may.stands change) in
-    change_crash g.D.Disk.view c.args.disk.now c.write_entry.new.disk c.write_unit.new.disk c.args.log.now c.args.cells.now (made (number_of c.args.write)) o may pending c.write_unit.ensures.nothing (c.write_unit.ensures.crash tells) first
+    ap (λ (j : Journal). j.prepared) c.in-Ok.ensures.ok ∙ ap (λ (k : ℕ). Some (made k)) c.number.ensures.value
 
-pub returns-in-Err-write_unit-clause-crash : goal.returns-in-Err-write_unit-clause-crash
-returns-in-Err-write_unit-clause-crash g c tells o may =
+pub write_prepared-requires-clause-log : goal.write_prepared-requires-clause-log
+write_prepared-requires-clause-log g c tells = noted_log c.args.log.now c.ready.new.self _ c.in-Ok.ensures.ok (c.requires.log tells)
+
+pub returns-in-Ok-write_prepared-clause-crash : goal.returns-in-Ok-write_prepared-clause-crash
+returns-in-Ok-write_prepared-clause-crash g c tells o may = c.write_prepared.ensures.crash tells o (noted_commit c.ready.new.self _ c.in-Ok.ensures.ok may)
+
+pub returns-in-Ok-clause-crash : goal.returns-in-Ok-clause-crash
+returns-in-Ok-clause-crash g c tells o may = c.write_prepared.ensures.crash tells o (noted_commit c.ready.new.self _ c.in-Ok.ensures.ok may)
+
+pub returns-in-Ok-write_prepared-clause-stands : goal.returns-in-Ok-write_prepared-clause-stands
+returns-in-Ok-write_prepared-clause-stands g c tells o may = c.in-Ok-write_prepared.ensures.stands tells o (noted_commit c.ready.new.self _ c.in-Ok.ensures.ok may)
+
+pub returns-in-Ok-write_prepared-clause-file : goal.returns-in-Ok-write_prepared-clause-file
+returns-in-Ok-write_prepared-clause-file g c tells o may = c.in-Ok-write_prepared.ensures.file tells o (noted_commit c.ready.new.self _ c.in-Ok.ensures.ok may)
+
+pub returns-in-Ok-write_prepared-clause-held : goal.returns-in-Ok-write_prepared-clause-held
+returns-in-Ok-write_prepared-clause-held g c =
     let made : ℕ → Logged = λ (k : ℕ). record { entry = c.args.entry.now; cell = k } in
-    let n = c.number.ensures.value in
-    let change = subst (λ (k : ℕ). IsChange o (made k)) (sym n) may.change in
-    let pending = subst (λ (k : ℕ). ArePending (made k) o (g.D.Disk.view c.write_entry.new.disk)) n (c.in-Ok.ensures.pending tells o may.log_is may.stands change) in
-    let first = subst (λ (k : ℕ). LeavesOnly (g.D.Disk.view c.args.disk.now) (g.D.Disk.view c.write_entry.new.disk) (IsUnderWay (made k) o)) n (c.write_entry.ensures.crash tells o may.log_is may.stands change) in
-    change_crash g.D.Disk.view c.args.disk.now c.write_entry.new.disk c.write_unit.new.disk c.args.log.now c.args.cells.now (made (number_of c.args.write)) o may pending c.write_unit.ensures.nothing (c.write_unit.ensures.crash tells) first
+    c.in-Ok-write_prepared.ensures.held ∙ ap log_committed c.in-Ok.ensures.ok ∙ ap (λ (k : ℕ). log_committed (with_prepared (Some (made k)) c.args.log.now)) c.number.ensures.value
 
-pub returns-in-Ok-write_unit-clause-stands : goal.returns-in-Ok-write_unit-clause-stands
-returns-in-Ok-write_unit-clause-stands g c tells o may =
-    let made : ℕ → Logged = λ (k : ℕ). record { entry = c.args.entry.now; cell = k } in
-    let n = c.number.ensures.value in
-    let change = subst (λ (k : ℕ). IsChange o (made k)) (sym n) may.change in
-    let pending = subst (λ (k : ℕ). ArePending (made k) o (g.D.Disk.view c.write_entry.new.disk)) n (c.in-Ok.ensures.pending tells o may.log_is may.stands change) in
-    let tie = c.in-Ok-write_unit.ensures.file tells (left_by c.args.entry.now.op) o.sheet c.requires.writes
-    (tie_kept (g.D.Disk.view c.write_entry.new.disk) c.args.log.now c.args.cells.now (made (number_of c.args.write)) o c.requires.apart may (c.in-Ok.ensures.others tells)) in
-    change_stands g.D.Disk.view c.write_entry.new.disk c.write_unit.new.disk c.args.log.now c.args.cells.now c.write_unit.new.cells (made (number_of c.args.write)) o (g.D.Disk.view c.args.disk.now) may pending c.write_unit.ensures.nothing (c.write_unit.ensures.crash tells)
-    (c.in-Ok-write_unit.ensures.written tells) c.write_unit.ensures.same_format tie
-
-pub returns-in-Ok-write_unit-clause-file : goal.returns-in-Ok-write_unit-clause-file
-returns-in-Ok-write_unit-clause-file g c tells o may =
-    c.in-Ok-write_unit.ensures.file tells (left_by c.args.entry.now.op) o.sheet c.requires.writes
-    (tie_kept (g.D.Disk.view c.write_entry.new.disk) c.args.log.now c.args.cells.now _ o c.requires.apart may (c.in-Ok.ensures.others tells))
-
-pub returns-in-Ok-write_unit-clause-log : goal.returns-in-Ok-write_unit-clause-log
-returns-in-Ok-write_unit-clause-log g c tells =
-    let apart : c.write_entry.new.log.file ≢ c.args.cells.now.file = λ e. c.requires.apart (sym c.write_entry.ensures.alike.file_is ∙ e) in
-    subst (λ (j : Journal). HasLog j (g.D.Disk.view c.write_unit.new.disk)) (sym c.take_prepared.ensures)
-    (other_log (log_committed c.write_entry.new.log) c.args.cells.now.file (number_of c.args.write * unit_size c.args.cells.now.format) (unit_size c.args.cells.now.format) apart (c.in-Ok.ensures.log tells) (c.write_unit.ensures.crash tells))
-
-pub returns-in-Ok-write_unit-clause-durable : goal.returns-in-Ok-write_unit-clause-durable
-returns-in-Ok-write_unit-clause-durable g c tells =
-    subst (λ (f : ℕ). IsDurable f (g.D.Disk.view c.write_unit.new.disk)) (sym (ap (λ (j : Journal). j.file) c.take_prepared.ensures ∙ c.write_entry.ensures.alike.file_is))
-    (change_durable g.D.Disk.view c.write_entry.new.disk c.write_unit.new.disk c.args.cells.now (number_of c.args.write) c.args.log.now.file c.requires.apart c.write_unit.ensures.nothing (c.write_unit.ensures.crash tells)
-    (c.in-Ok-write_unit.ensures.written tells) (c.in-Ok.ensures.durable tells))
+pub returns-clause-crash : goal.returns-clause-crash
+returns-clause-crash g c tells o may =
+    let l : Logged = record { entry = c.args.entry.now; cell = number_of c.args.write } in
+    started (g.D.Disk.view c.args.disk.now) (IsUnderWay l o) (λ files here. inl (may.stands.each files here))

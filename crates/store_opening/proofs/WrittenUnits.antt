@@ -1,8 +1,10 @@
 -- What a written unit leaves of the file of cells and of its index.
-use Rattle.std.proofs.Common.{◌≡◌, ℕ, ◌+◌, ◌≤◌, List, length, Option, Some, None, refl, sym, ap, subst, ◌∙◌, arith}
+use Rattle.std.proofs.Common.{◌≡◌, ℕ, ◌+◌, ◌*◌, ◌≤◌, List, length, Option, Some, None, refl, sym, ap, subst, ◌∙◌, arith}
 use Rattle.std.specs.Prelude.{Result, Ok, Err, OnOk}
 use Rattle.kdb_cells.specs.declared.units.StoredRow.{StoredRow}
-use Rattle.kdb_cells.specs.Cells.{Cell, name_of, IsRowText}
+use Rattle.kdb_disk.specs.View.{View}
+use Rattle.kdb_disk.specs.Moments.{Stands}
+use Rattle.kdb_cells.specs.Cells.{Cell, unit_size, unit_text, name_of, IsRowText}
 use Rattle.kdb_cells.specs.CellFiles.{CellFile, units, count}
 use Rattle.kdb_cells.specs.Changes.{cell_no}
 use Rattle.kdb_cells.specs.FileCells.{AreCellsOf, IsFileOf, with_cell}
@@ -12,9 +14,9 @@ use Rattle.kdb_cells.proofs.Cellwise.{lead_cells, free_cells, cell_free}
 use Rattle.kdb_cells.proofs.Sheeting.{taken_set}
 use Rattle.store_files.specs.Found.{unit_numbered, with_unit}
 use Rattle.store_files.proofs.Units.{numbered_some}
-use Rattle.kdb_store.specs.Writes.{number_of, Writes, IsGivenTo, MayWrite, HoldsCells, changed_sheet}
-use Rattle.kdb_store.specs.declared.writing.UnitWrite.{UnitWrite}
-use Rattle.kdb_store.specs.declared.writing.UnitWrite.TheVariants.{Put, Free}
+use Rattle.store_opening.specs.Writes.{number_of, WritesIn, IsGivenTo, MayWrite, HoldsCells, changed_sheet}
+use Rattle.store_opening.specs.declared.unit_writes.UnitWrite.{UnitWrite}
+use Rattle.store_opening.specs.declared.unit_writes.UnitWrite.TheVariants.{Put, Free}
 
 some_number : (cell : ℕ) → 1 ≤ cell → unit_numbered cell ≡ Some cell
 some_number cell low = numbered_some cell (λ e. absurd (omega (arith, low, e)))
@@ -37,14 +39,13 @@ put_nothing w c cell kind key row is given none =
     absurd (omega (arith, low, sym (ap number_of is) ∙ none))
 
 pub put_file : {T E : Type 0} (result : Result T E) (old new : CellFile) (w : UnitWrite) (cell kind : ℕ) (key row before late : List ℕ)
-    → w ≡ Put cell key row kind → old.format ≡ 2 → IsGivenTo w old
+    → w ≡ Put cell key row kind → IsGivenTo w old
     → ((r : StoredRow) (sheet : Sheet) → IsRowText old.format kind key row r → 1 ≤ cell → IsFileOf old sheet before → OnOk result (IsFileOf new (with_cell cell (Some r) sheet) late))
-    → (c : Cell) (sheet : Sheet) → Writes w c → IsFileOf old sheet before → OnOk result (IsFileOf new (changed_sheet (number_of w) c sheet) late)
-put_file result old new w cell kind key row before late is newer given keeps c sheet writes tie =
+    → (c : Cell) (sheet : Sheet) → WritesIn old.format w c → IsFileOf old sheet before → OnOk result (IsFileOf new (changed_sheet (number_of w) c sheet) late)
+put_file result old new w cell kind key row before late is given keeps c sheet writes tie =
     let low = (subst (λ (x : UnitWrite). IsGivenTo x old) is given).0 in
-    let row_is = subst (λ (x : UnitWrite). Writes x c) is writes in
-    let text = subst (λ (f : ℕ). IsRowText f kind key row row_is.0) (sym newer) row_is.1.1 in
-    subst (λ (s : Sheet). OnOk result (IsFileOf new s late)) (same_sheet (number_of w) cell c (Some row_is.0) sheet (ap number_of is) low row_is.1.0) (keeps row_is.0 sheet text low tie)
+    let row_is = subst (λ (x : UnitWrite). WritesIn old.format x c) is writes in
+    subst (λ (s : Sheet). OnOk result (IsFileOf new s late)) (same_sheet (number_of w) cell c (Some row_is.0) sheet (ap number_of is) low row_is.1.0) (keeps row_is.0 sheet row_is.1.1 low tie)
 
 put_count : (u : Units) (held : List Cell) (cell old new : ℕ) (r : StoredRow) (c : Cell) → cell_no cell held ≡ c → AreCellsOf u held
     → cell ≤ length held → old ≡ taken held → (IsFree cell u → new ≡ old + 1) → ((k : List ℕ) → u.of k ≡ Some cell → new ≡ old)
@@ -58,13 +59,13 @@ pub put_leads : {T E : Type 0} (result : Result T E) (old new : CellFile) (w : U
     → w ≡ Put cell key row kind → IsGivenTo w old → MayWrite w old
     → OnOk result (units new ≡ leading key cell (units old)) → (IsFree cell (units old) → OnOk result (count new ≡ count old + 1))
     → ((k : List ℕ) → (units old).of k ≡ Some cell → OnOk result (count new ≡ count old))
-    → (c : Cell) (held : List Cell) → Writes w c → HoldsCells old held → number_of w ≤ length held
+    → (c : Cell) (held : List Cell) → WritesIn old.format w c → HoldsCells old held → number_of w ≤ length held
     → OnOk result (HoldsCells new (with_unit (unit_numbered (number_of w)) c held))
 put_leads (Err e) old new w cell kind key row is given may led more as_many c held writes holds within = tt
 put_leads (Ok x) old new w cell kind key row is given may led more as_many c held writes holds within =
     let low = (subst (λ (x : UnitWrite). IsGivenTo x old) is given).0 in
     let alone = (subst (λ (x : UnitWrite). MayWrite x old) is may).alone in
-    let row_is = subst (λ (x : UnitWrite). Writes x c) is writes in
+    let row_is = subst (λ (x : UnitWrite). WritesIn old.format x c) is writes in
     let r = row_is.0 in
     let named = row_is.1.1.named in
     let at = ap number_of is in
@@ -77,6 +78,14 @@ put_leads (Ok x) old new w cell kind key row is given may led more as_many c hel
     } in
     subst (HoldsCells new) (same_held (number_of w) cell c (Some r) held at low row_is.1.0) holds_new
 
+pub put_stands : {T E : Type 0} (before late : View) (result : Result T E) (old : CellFile) (w : UnitWrite) (cell kind : ℕ) (key row : List ℕ) → w ≡ Put cell key row kind
+    → ((r : StoredRow) → IsRowText old.format kind key row r → OnOk result (Stands old.file (cell * unit_size old.format) (unit_text old.format (Some r)) before late))
+    → (c : Cell) → WritesIn old.format w c → OnOk result (Stands old.file (number_of w * unit_size old.format) (unit_text old.format c) before late)
+put_stands before late result old w cell kind key row is stands c writes =
+    let row_is = subst (λ (x : UnitWrite). WritesIn old.format x c) is writes in
+    subst (λ (n : ℕ). OnOk result (Stands old.file (n * unit_size old.format) (unit_text old.format c) before late)) (sym (ap number_of is))
+    (subst (λ (x : Cell). OnOk result (Stands old.file (cell * unit_size old.format) (unit_text old.format x) before late)) (sym row_is.1.0) (stands row_is.0 row_is.1.1))
+
 -- ---- a unit is freed
 
 pub free_nothing : {A : Type 0} {x y : A} (w : UnitWrite) (c : CellFile) (cell : ℕ) → w ≡ Free cell → IsGivenTo w c → number_of w ≡ 0 → x ≡ y
@@ -87,10 +96,10 @@ free_nothing w c cell is given none =
 pub free_file : {T E : Type 0} (result : Result T E) (old new : CellFile) (w : UnitWrite) (cell : ℕ) (before late : List ℕ) → w ≡ Free cell
     → IsGivenTo w old
     → ((sheet : Sheet) → 1 ≤ cell → IsFileOf old sheet before → OnOk result (IsFileOf new (with_cell cell None sheet) late))
-    → (c : Cell) (sheet : Sheet) → Writes w c → IsFileOf old sheet before → OnOk result (IsFileOf new (changed_sheet (number_of w) c sheet) late)
+    → (c : Cell) (sheet : Sheet) → WritesIn old.format w c → IsFileOf old sheet before → OnOk result (IsFileOf new (changed_sheet (number_of w) c sheet) late)
 free_file result old new w cell before late is given keeps c sheet writes tie =
     let low = (subst (λ (x : UnitWrite). IsGivenTo x old) is given).0 in
-    let free = subst (λ (x : UnitWrite). Writes x c) is writes in
+    let free = subst (λ (x : UnitWrite). WritesIn old.format x c) is writes in
     subst (λ (s : Sheet). OnOk result (IsFileOf new s late)) (same_sheet (number_of w) cell c None sheet (ap number_of is) low free) (keeps sheet low tie)
 
 free_count : (u : Units) (held : List Cell) (cell old new : ℕ) (c : Cell) → cell_no cell held ≡ c → AreCellsOf u held → cell ≤ length held
@@ -103,12 +112,12 @@ free_count u held cell old new (Some s) is are within many as_many fewer =
 pub free_leads : {T E : Type 0} (result : Result T E) (old new : CellFile) (w : UnitWrite) (cell : ℕ) → w ≡ Free cell → IsGivenTo w old
     → OnOk result (units new ≡ freed cell (units old)) → (IsFree cell (units old) → OnOk result (count new ≡ count old))
     → ((k : List ℕ) → (units old).of k ≡ Some cell → OnOk result (count new + 1 ≡ count old))
-    → (c : Cell) (held : List Cell) → Writes w c → HoldsCells old held → number_of w ≤ length held
+    → (c : Cell) (held : List Cell) → WritesIn old.format w c → HoldsCells old held → number_of w ≤ length held
     → OnOk result (HoldsCells new (with_unit (unit_numbered (number_of w)) c held))
 free_leads (Err e) old new w cell is given led as_many fewer c held writes holds within = tt
 free_leads (Ok x) old new w cell is given led as_many fewer c held writes holds within =
     let low = (subst (λ (x : UnitWrite). IsGivenTo x old) is given).0 in
-    let free = subst (λ (x : UnitWrite). Writes x c) is writes in
+    let free = subst (λ (x : UnitWrite). WritesIn old.format x c) is writes in
     let at = ap number_of is in
     let in_file : cell ≤ length held = omega (arith, within, at) in
     let holds_new : HoldsCells new (set_cell cell None held) = record {
@@ -116,3 +125,11 @@ free_leads (Ok x) old new w cell is given led as_many fewer c held writes holds 
       many = free_count (units old) held cell (count old) (count new) (cell_no cell held) refl holds.leads in_file holds.many as_many fewer;
     } in
     subst (HoldsCells new) (same_held (number_of w) cell c None held at low free) holds_new
+
+pub free_stands : {T E : Type 0} (before late : View) (result : Result T E) (old : CellFile) (w : UnitWrite) (cell : ℕ) → w ≡ Free cell
+    → OnOk result (Stands old.file (cell * unit_size old.format) (unit_text old.format None) before late)
+    → (c : Cell) → WritesIn old.format w c → OnOk result (Stands old.file (number_of w * unit_size old.format) (unit_text old.format c) before late)
+free_stands before late result old w cell is stands c writes =
+    let free = subst (λ (x : UnitWrite). WritesIn old.format x c) is writes in
+    subst (λ (n : ℕ). OnOk result (Stands old.file (n * unit_size old.format) (unit_text old.format c) before late)) (sym (ap number_of is))
+    (subst (λ (x : Cell). OnOk result (Stands old.file (cell * unit_size old.format) (unit_text old.format x) before late)) (sym free) stands)

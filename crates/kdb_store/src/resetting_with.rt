@@ -1,0 +1,94 @@
+//! The log of a database begun anew, and one change behind it.
+ghost use Rattle.std.specs.Prelude.{◌≡◌, ◌≤◌, ◌<◌, ◌-◌, ◌+◌, ◌⊎◌, ◌∷◌, [], true, false, Some, Err, IfOk, OnOk, OnErr};
+ghost use Rattle.kdb_base.specs.Moments.{micros};
+ghost use Rattle.kdb_base.specs.declared.outcomes.Halt.TheVariants.{MemoryOut as IsMemoryOut, DiskFault as IsDiskFault};
+ghost use Rattle.kdb_disk.specs.View.{View};
+ghost use Rattle.kdb_disk.specs.Frames.{IsCall, IsCrashSafe};
+ghost use Rattle.princ_entries.specs.Entries.{IsOp, entry_len};
+ghost use Rattle.kdb_places.specs.Applying.{may_apply};
+ghost use Rattle.kdb_places.specs.Places.{point_of, committed, log_anew};
+ghost use Rattle.store_files.specs.Kept.{IsOnDisk, place_kept};
+ghost use Rattle.store_files.specs.Recovery.{LeavesPart};
+ghost use Rattle.kdb_store.specs.Anew.{point_behind};
+
+use crate::database::Database;
+use crate::reset_changes::reset_change;
+use kdb_base::{Halt, Point};
+use kdb_disk::Disk;
+use kdb_places::laws::what_may_be_applied;
+use princ_rows::Op;
+use std::alloc::Global;
+
+// The point of the change behind this base.
+fn behind(base: &Point) -> Point
+    requires { base.now.sno < 4294967295 }
+    ensures { result ≡ point_behind base.now }
+{
+    Point {
+        sno: base.sno + 1,
+        time: base.time,
+    }
+}
+
+impl Database {
+    /// Begins the log anew at this base, with as many entries at most as before and in blocks of `block` bytes
+    /// (2048 to 16384), and makes the change behind it, at the base's time. It gives the point of the change.
+    /// All memory is taken before the first device call.
+    ///
+    /// At each moment a crash leaves the place before, the one with the log begun anew, or the one with the
+    /// change behind it. After `DiskFault` the disk is to be opened again.
+    pub fn reset_and_commit<D: Disk>(
+        &mut self,
+        alloc: Global,
+        disk: &mut D,
+        base: Point,
+        block: u32,
+        op: Op,
+    ) -> Result<Point, Halt>
+        requires on { D.tells → IsOnDisk self.old (D.view disk.old) }
+        requires whole { self.old.broken ≡ false }
+        requires format { (place_kept self.old).format ≡ 2 }
+        requires block { (2048 ≤ block) × (block ≤ 16384) }
+        requires op { IsOp (Some op) }
+        requires fits { entry_len (Some op) ≤ block - 1 }
+        requires applies { may_apply op self.old.rows ≡ true }
+        requires serial { base.sno < 4294967295 }
+        requires time { micros (point_of (place_kept self.old)).time < micros base.time }
+        ensures point { IfOk result (λ p. p ≡ record { sno = base.sno + 1; time = base.time }) }
+        ensures place { OnOk result (place_kept self.new ≡ committed op base.time (log_anew base (place_kept self.old).size block (place_kept self.old))) }
+        ensures on { D.tells → OnOk result (IsOnDisk self.new (D.view disk.new)) }
+        ensures err { OnErr result ((place_kept self.new ≡ place_kept self.old) ⊎ (place_kept self.new ≡ log_anew base (place_kept self.old).size block (place_kept self.old))) }
+        ensures crash { IsCrashSafe D.Disk disk.old disk.new (LeavesPart (place_kept self.old) (log_anew base (place_kept self.old).size block (place_kept self.old) ∷ committed op base.time (log_anew base (place_kept self.old).size block (place_kept self.old)) ∷ [])) }
+        ensures memory { result ≡ Err IsMemoryOut → disk.new ≡ disk.old }
+        ensures memory_place { result ≡ Err IsMemoryOut → place_kept self.new ≡ place_kept self.old }
+        // Where memory ran out, the database stands on the disk as before.
+        ensures still { D.tells → result ≡ Err IsMemoryOut → IsOnDisk self.new (D.view disk.new) }
+        ensures whole { OnOk result (self.new.broken ≡ false) }
+        ensures whole_still { result ≡ Err IsMemoryOut → self.new.broken ≡ false }
+        ensures broken { result ≡ Err IsDiskFault → self.new.broken ≡ true }
+        ensures call { IsCall D.Disk disk.old disk.new (result ≡ Err IsDiskFault) }
+    {
+        what_may_be_applied();
+        let point = behind(&base);
+        let next = behind(&base);
+        match reset_change(
+            alloc,
+            disk,
+            &mut self.control,
+            &mut self.log,
+            &mut self.cells,
+            &mut self.rows,
+            base,
+            block,
+            op,
+            next,
+        ) {
+            Ok(()) => Ok(point),
+            Err(Halt::DiskFault) => {
+                self.broken = true;
+                Err(Halt::DiskFault)
+            }
+            Err(Halt::MemoryOut) => Err(Halt::MemoryOut),
+        }
+    }
+}
