@@ -1,5 +1,6 @@
 -- What a primary is asked, and what that comes to in a state of which its rows are told too.
 use Rattle.std.specs.Prelude.{ℕ, Bool, false, List, Option, Some, None, is_some, if◌then◌else◌, option_map, option_and_then}
+use Rattle.std.specs.Option.{option_or}
 use Rattle.command_plans.specs.KeptEntries.{kept_entry}
 use Rattle.kadm_commands.specs.declared.commands.Command.{Command}
 use Rattle.kadm_commands.specs.declared.commands.Command.TheVariants as command
@@ -17,6 +18,7 @@ use Rattle.kdb_model.specs.Steps.{step}
 use Rattle.kdb_plain.specs.States.{master_of, princ_named}
 use Rattle.kdb_plain.specs.declared.princs.PlainPrinc.{PlainPrinc}
 use Rattle.kdb_plain.specs.declared.states.State.{State}
+use Rattle.mkey_admin.specs.KeptMasters.{kept_masters}
 use Rattle.princ_entries.specs.declared.entries.Op.{Op}
 use Rattle.princ_entries.specs.declared.entries.Op.TheVariants as op
 use Rattle.princ_name.specs.Names.{NameParts, printed}
@@ -78,9 +80,13 @@ kept_rekeying rows s name clock random =
     (master_of s.masters version))
     (active_at s (at_clock clock false))
 
--- The change of rows that the ask would make, were it accepted. Of the commands of master keys nothing is said here.
+-- The change of a command: of K/M's record where it is one of master keys, of which `kept_entry` says nothing.
+abbrev pub kept_commanded : RowLists → State → Call → Option Op
+kept_commanded rows s call = option_or (kept_entry rows s call) (kept_masters rows s call)
+
+-- The change of rows that the ask would make, were it accepted.
 unfoldable pub kept_op : RowLists → State → Ask → Option Op
-kept_op rows s (Commanded call) = kept_entry rows s call
+kept_op rows s (Commanded call) = kept_commanded rows s call
 kept_op rows s (RekeyedNow name clock random) = kept_rekeying rows s name clock random
 kept_op rows s (Settles name clock work) = Some (op.PutPrinc work.made)
 

@@ -1,3 +1,4 @@
 pub mod StepLaws
 pub mod Performed
+pub mod PerformedMasters
 pub mod ChangedPlaces

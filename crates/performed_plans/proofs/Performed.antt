@@ -1,6 +1,7 @@
 -- What a plan says of a state, as what the primary performs.
 use Rattle.std.proofs.Common.{◌≡◌, ◌<◌, ◌+◌, ℕ, Bool, true, false, List, [], ◌∷◌, Option, Some, None, refl, sym, ap, subst, ◌∙◌}
 use Rattle.std.specs.Prelude.{is_some, length, if◌then◌else◌}
+use Rattle.std.specs.Option.{option_or}
 use Rattle.acl_text.specs.declared.rules.AclLine.{AclLine}
 use Rattle.command_plans.specs.Given.{IsAnswer, IsChange}
 use Rattle.command_plans.specs.KeptEntries.{kept_entry}
@@ -31,6 +32,7 @@ use Rattle.kdb_plain.specs.Changes.{effect_on}
 use Rattle.kdb_plain.specs.States.{IsValid}
 use Rattle.kdb_plain.specs.declared.changes.PlainOp.{PlainOp}
 use Rattle.kdb_plain.specs.declared.states.State.{State}
+use Rattle.mkey_admin.specs.KeptMasters.{kept_masters}
 use Rattle.performed_plans.proofs.StepLaws.{StepLaws}
 use Rattle.performed_plans.specs.Ready.{IsReady}
 use Rattle.princ_entries.specs.declared.entries.Op.{Op}
@@ -127,34 +129,34 @@ no_master_line command.Dump e = refl
 
 -- ---- steps
 
-step_commits : (s : State) (call : Call) (plain : PlainOp) → refusal s call ≡ None → entry s call ≡ Some plain → step s call ≡ committed s call plain
+pub step_commits : (s : State) (call : Call) (plain : PlainOp) → refusal s call ≡ None → entry s call ≡ Some plain → step s call ≡ committed s call plain
 unfolding step unless_refused performed
 step_commits s call plain accepted is = ap (unless_refused s call) accepted ∙ ap (performed s call) is
 
-step_reads : (s : State) (call : Call) → refusal s call ≡ None → entry s call ≡ None → step s call ≡ answered s (reading s call)
+pub step_reads : (s : State) (call : Call) → refusal s call ≡ None → entry s call ≡ None → step s call ≡ answered s (reading s call)
 unfolding step unless_refused performed
 step_reads s call accepted is = ap (unless_refused s call) accepted ∙ ap (performed s call) is
 
-step_refuses : (s : State) (call : Call) (why : Refusal) → refusal s call ≡ Some why → step s call ≡ answered s (Refused why)
+pub step_refuses : (s : State) (call : Call) (why : Refusal) → refusal s call ≡ Some why → step s call ≡ answered s (Refused why)
 unfolding step unless_refused
 step_refuses s call why is = ap (unless_refused s call) is
 
 -- nothing is said of the point
-shows_at : (rows : RowLists) (point : Point) (s : State) → Shows rows s → Shows rows (at_point point s)
+pub shows_at : (rows : RowLists) (point : Point) (s : State) → Shows rows s → Shows rows (at_point point s)
 shows_at rows point s h = record { history = h.history; history_is = h.history_is; princs = h.princs; policies = h.policies; entry = h.entry; there = h.there; chain = h.chain }
 
 -- the state of an outcome whose step is known
-abbrev outcome_of : Kind → steps.Outcome → Outcome
+abbrev pub outcome_of : Kind → steps.Outcome → Outcome
 outcome_of kind o = record { state = o.state; answer = Replied o.reply; kind = kind }
 
-commanded_is : (s : State) (call : Call) (due : Bool) (o : steps.Outcome) (kind : Kind) → step s (told due call) ≡ o → kind_of s call (refusal s (told due call)) ≡ kind → commanded call due s ≡ outcome_of kind o
+pub commanded_is : (s : State) (call : Call) (due : Bool) (o : steps.Outcome) (kind : Kind) → step s (told due call) ≡ o → kind_of s call (refusal s (told due call)) ≡ kind → commanded call due s ≡ outcome_of kind o
 unfolding commanded
 commanded_is s call due o kind stepped is = ap (outcome_of (kind_of s call (refusal s (told due call)))) stepped ∙ ap (λ (k : Kind). outcome_of k o) is
 
 -- ---- what is performed
 
 -- what is made is read off the plan
-kept_performs : (p : Place) (s : State) (ask : Ask) (answer : Answer) → outcome p.rows ask (due_at ask (seen p s)) s ≡ kept s answer → Performs p s ask answer []
+pub kept_performs : (p : Place) (s : State) (ask : Ask) (answer : Answer) → outcome p.rows ask (due_at ask (seen p s)) s ≡ kept s answer → Performs p s ask answer []
 kept_performs p s ask answer e =
     let plan : plan_at ask (seen p s) ≡ Keep = ap (λ (o : Outcome). planned o.kind (kept_op p.rows s ask) (stash_of s (moment_at (clock_of ask) p))) e in
     record {
@@ -164,7 +166,7 @@ kept_performs p s ask answer e =
       is = sym (ap (λ (x : Plan). made_by ask x p) plan);
     }
 
-put_performs : (p : Place) (s : State) (ask : Ask) (answer : Answer) (op : Op) (after : State) → outcome p.rows ask (due_at ask (seen p s)) s ≡ record { state = after; answer = answer; kind = Enters }
+pub put_performs : (p : Place) (s : State) (ask : Ask) (answer : Answer) (op : Op) (after : State) → outcome p.rows ask (due_at ask (seen p s)) s ≡ record { state = after; answer = answer; kind = Enters }
     → kept_op p.rows s ask ≡ Some op → Leads (clock_of ask) p s after (Put op) → IsFit p op → Performs p s ask answer (changed ask op p)
 put_performs p s ask answer op after e is leads fit =
     let kind : plan_at ask (seen p s) ≡ planned Enters (kept_op p.rows s ask) (stash_of s (moment_at (clock_of ask) p)) = ap (λ (o : Outcome). planned o.kind (kept_op p.rows s ask) (stash_of s (moment_at (clock_of ask) p))) e in
@@ -177,10 +179,10 @@ put_performs p s ask answer op after e is leads fit =
     }
 
 module _ (laws : StepLaws) (p : Place) (s : State) (client : NameParts) (access : Option (List AclLine)) (cmd : Command) (clock : Moment) (random : List ℕ) where
-  abbrev call : Call
+  abbrev pub call : Call
   call = call_of client access cmd clock random false
 
-  abbrev ask : Ask
+  abbrev pub ask : Ask
   ask = Commanded call
 
   refused_told : (why : Refusal) (due : Bool) → refusal s call ≡ Some why → refusal s (told due call) ≡ Some why
@@ -199,7 +201,7 @@ module _ (laws : StepLaws) (p : Place) (s : State) (client : NameParts) (access 
 
   -- ---- what is read
 
-  reads_told : (due : Bool) → refusal s call ≡ None → entry s call ≡ None → step s (told due call) ≡ answered s (reading s call)
+  pub reads_told : (due : Bool) → refusal s call ≡ None → entry s call ≡ None → step s (told due call) ≡ answered s (reading s call)
   reads_told false accepted is = step_reads s call accepted is
   reads_told true accepted is = laws.reading s call accepted is ∙ step_reads s call accepted is
 
@@ -218,7 +220,7 @@ module _ (laws : StepLaws) (p : Place) (s : State) (client : NameParts) (access 
 
   -- ---- what is changed
 
-  accepted_told : (due : Bool) (plain : PlainOp) → (due ≡ true → is_last s.point.time ≡ false) → refusal s call ≡ None → entry s call ≡ Some plain → refusal s (told due call) ≡ None
+  pub accepted_told : (due : Bool) (plain : PlainOp) → (due ≡ true → is_last s.point.time ≡ false) → refusal s call ≡ None → entry s call ≡ Some plain → refusal s (told due call) ≡ None
   accepted_told false plain more accepted is = accepted
   accepted_told true plain more accepted is = laws.accepted s call plain accepted is (more refl)
 
@@ -226,8 +228,12 @@ module _ (laws : StepLaws) (p : Place) (s : State) (client : NameParts) (access 
   unfolding kind_of
   enters planned_ plain is = ap (λ (o : Option PlainOp). kind_by (is_some o) cmd) is ∙ no_stash true cmd planned_
 
+  -- a change of a command that rows alone decide is the one that is kept
+  kept_exact : (op : Op) → kept_entry p.rows s call ≡ Some op → option_or (kept_entry p.rows s call) (kept_masters p.rows s call) ≡ Some op
+  kept_exact op is = ap (λ (o : Option Op). option_or o (kept_masters p.rows s call)) is
+
   -- the point of the change is that of its entry
-  point_is : (op : Op) (due : Bool) → is_due op p ≡ due → s.point ≡ point_of p → change_point s (told due call) ≡ entry_point clock op p
+  pub point_is : (op : Op) (due : Bool) → is_due op p ≡ due → s.point ≡ point_of p → change_point s (told due call) ≡ entry_point clock op p
   unfolding point_after
   point_is op false e at = ap (λ (x : Point). record { sno = x.sno + 1; time = later_moment x.time clock }) at ∙ sym (ap (λ (b : Bool). if b then record { sno = 2; time = (reset_point clock p).time } else next_point (moment_at clock p) p) e)
   point_is op true e at = ap (λ (x : Point). let made : Point = record { sno = 2; time = later_moment clock (next_moment x.time) } in made) at ∙ sym (ap (λ (b : Bool). if b then record { sno = 2; time = (reset_point clock p).time } else next_point (moment_at clock p) p) e)
@@ -259,8 +265,8 @@ module _ (laws : StepLaws) (p : Place) (s : State) (client : NameParts) (access 
       let outcome_is : commanded call due s ≡ record { state = after; answer = Replied (Done (entry_point clock op p)); kind = Enters } =
       commanded_is s call due (committed s (told due call) is.plain) Enters stepped (ap (kind_of s call) accepted ∙ enters planned_ is.plain is.entry_is)
       ∙ ap (λ (r : Reply). let made : Outcome = record { state = after; answer = Replied r; kind = Enters } in made) reply in
-      put_performs p s ask (Replied (Done (entry_point clock op p))) op after (ap (λ (d : Bool). commanded call d s) due_is ∙ outcome_is) is.exact leads fit
+      put_performs p s ask (Replied (Done (entry_point clock op p))) op after (ap (λ (d : Bool). commanded call d s) due_is ∙ outcome_is) (kept_exact op is.exact) leads fit
 
   pub changes : (op : Op) → is_planned cmd ≡ true → IsReady p s cmd clock random op → IsChange p.rows s call op → Performs p s ask (Replied (Done (entry_point clock op p))) (changed ask op p)
   unfolding kept_op
-  changes op planned_ ready is = changed_at op (is_due op p) refl planned_ ready is (ap (λ (o : Option Op). is_due_of o p) is.exact)
+  changes op planned_ ready is = changed_at op (is_due op p) refl planned_ ready is (ap (λ (o : Option Op). is_due_of o p) (kept_exact op is.exact))

@@ -1,0 +1,13 @@
+pub mod MasterTests
+pub mod OwnRecord
+pub mod MasterPuts
+pub mod ToldRows
+pub mod UsedRecord
+pub mod UsedMasters
+pub mod AddedRecord
+pub mod AddedMasters
+pub mod Counts
+pub mod Unserving
+pub mod PurgedRecord
+pub mod PurgedMasters
+pub mod JudgedMasters

@@ -1,0 +1,4 @@
+pub mod Told
+pub mod KeptMasters
+pub mod Counting
+pub mod Plans
