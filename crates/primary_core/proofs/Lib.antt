@@ -1,0 +1,10 @@
+pub mod Serials
+pub mod Asked
+pub mod Asking
+pub mod Ended
+pub mod Decisions
+pub mod Shown
+pub mod Carried
+pub mod Created
+pub mod Renewed
+pub mod Recovered

@@ -1,0 +1,4 @@
+//! What a primary makes, as events of a world.
+#![tactic(auto)]
+
+pub mod laws;
