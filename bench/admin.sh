@@ -1,7 +1,7 @@
 #!/bin/sh
-# Lines a second of kdb_tool over a real folder: additions to databases of 100 and 1000 principals, getprinc
-# and listprincs over 1000 and 100000, and the opening of 100000 rows. Each figure is the time by the clock of
-# a whole run, with the opening, and the best of three.
+# Lines a second of kdb_tool over a real folder: additions and new keys in databases of 100 and 10000
+# principals, getprinc and listprincs over 1000 and 10000, and the opening of 10000 rows. Each figure is the
+# time by the clock of a whole run, with the opening, and the best of three. A file of 10000 rows has 160 MB.
 set -eu
 root=$(CDPATH= cd -- "$(dirname -- "$0")/.." && pwd)
 program=${KDB_TOOL:-$root/crates/kdb_tool/out/kdb_tool}
@@ -26,14 +26,12 @@ def principal(number):
 
 
 def database(folder, count):
-    """A database of so many principals: what `create` makes, with an image of these rows."""
+    """A database of so many principals without keys beside those that `create` makes, a unit each."""
     subprocess.run([program, "create", REALM.decode()], cwd=folder, check=True, stdout=subprocess.DEVNULL)
-    with open(os.path.join(folder, "image.0"), "wb") as image:
-        image.write(b"KDBI\0\1" + counted(REALM) + struct.pack(">III", 1, MOMENT, 0) + struct.pack(">I", count))
+    with open(os.path.join(folder, "image.0"), "ab") as rows:
         for number in range(count):
             row = principal(number)
-            image.write(struct.pack(">BI", 1, len(row)) + row)
-        image.write(b"END.")
+            rows.write((b"\1" + counted(row)).ljust(16384, b"\0"))
 
 
 def run(folder, lines):
@@ -60,11 +58,14 @@ def figure(name, rows, lines):
 
 
 added = ["addprinc -nokey m%d" % number for number in range(200)]
-figure("addprinc at 100 principals", 100, added)
-figure("addprinc at 1000 principals", 1000, added)
+random = ["addprinc -randkey m%d" % number for number in range(200)]
+figure("addprinc -nokey at 100 principals", 100, added)
+figure("addprinc -nokey at 10000 principals", 10000, added)
+figure("addprinc -randkey at 100 principals", 100, random)
+figure("cpw -pw at 100 principals", 100, ["cpw -pw secret%d n%06d" % (number, number) for number in range(50)])
 figure("getprinc at 1000 principals", 1000, ["getprinc n%06d" % (number % 1000) for number in range(20000)])
-figure("getprinc at 100000 principals", 100000, ["getprinc n%06d" % (number * 5 % 100000) for number in range(20000)])
+figure("getprinc at 10000 principals", 10000, ["getprinc n%06d" % (number * 5 % 10000) for number in range(20000)])
 figure("listprincs of 1000 names", 1000, ["listprincs"] * 100)
-figure("listprincs *7@* of 100000 names", 100000, ["listprincs *7@*"] * 5)
-figure("opening of 100000 rows", 100000, [])
+figure("listprincs *7@* of 10000 names", 10000, ["listprincs *7@*"] * 50)
+figure("opening of 10000 rows", 10000, [])
 END

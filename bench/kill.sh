@@ -1,6 +1,6 @@
 #!/bin/sh
-# Kills kdb_tool (SIGKILL) at random moments of long runs, opens its folder again each time, and checks that the
-# database holds every line that was answered by `ok`, and no more than one line beyond them.
+# Kills kdb_tool (SIGKILL) at random moments of creations and of long runs, opens its folder again each time, and
+# checks that the database is whole, holds every line that was answered by `ok`, and no more than one line beyond them.
 # Usage: bench/kill.sh [KILLS]   (200 unless given). Prints the runs, the kills and the losses; status 1 after a loss.
 set -eu
 root=$(CDPATH= cd -- "$(dirname -- "$0")/.." && pwd)
@@ -20,12 +20,28 @@ def admin(text):
     return subprocess.run([program, "admin"], cwd=work, input=text, capture_output=True).stdout.decode().splitlines()
 
 def add(name):
-    return f"addprinc -nokey {name}\n".encode()
+    return f"addprinc -randkey {name}\n".encode()
+
+def create():
+    return subprocess.Popen([program, "create", "EXAMPLE.ORG"], cwd=work, stdout=subprocess.PIPE)
 
 while kills < wanted:
     for name in os.listdir(work):
         os.remove(os.path.join(work, name))
-    subprocess.run([program, "create", "EXAMPLE.ORG"], cwd=work, check=True, capture_output=True)
+    # A creation that is killed leaves no database or the new one, and the new one where it was answered.
+    process = create()
+    time.sleep(random.uniform(0.0, 0.03))
+    process.kill()
+    answered = process.communicate()[0].startswith(b"ok ")
+    runs += 1
+    kills += process.returncode == -9
+    there = admin(b"getprinc K/M\n")
+    if there == ["err 20 NotADatabase"] and not answered:
+        create().communicate()
+    elif not there or there[0] != "- principal K/M@EXAMPLE.ORG":
+        losses += 1
+        print("not created whole:", answered, there[:1])
+        continue
     done = 0
     # Several kills in a row over one database, so that one crash comes behind another.
     for _ in range(random.randint(1, 8)):

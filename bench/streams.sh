@@ -74,8 +74,8 @@ for name in modes:
     os.chmod(os.path.join(work, name), 0o644)
 for _ in range(2):
     run(["admin"], b"modprinc -maxlife 1h a\n")
-wide = {name for name in ("control", "image.0", "image.1") if os.stat(os.path.join(work, name)).st_mode & 0o77}
-tell("permissions of files that others could read", wide, set())
+wide = {name for name in ("image.0", "log.0") if os.stat(os.path.join(work, name)).st_mode & 0o77}
+tell("permissions of files that others could read, written", wide, set())
 
 both = 0
 for _ in range(40):

@@ -1,7 +1,6 @@
-pub mod LocalNames
-pub mod Performing
-pub mod OneCommand
-pub mod Coming
-pub mod Turning
+pub mod Telling
 pub mod Running
-pub mod Making
+pub mod Courses
+pub mod Openings
+pub mod Creating
+pub mod ByStatus

@@ -1,73 +1,32 @@
--- From a session to a whole run.
-use Rattle.std.proofs.Common.{◌≡◌, ℕ, ◌+◌, List, [], length, refl, ap, sym, ◌∙◌, subst, inl, inr, Bool, true, false, IsTrue, arith, add-zero}
-use Rattle.std.specs.Prelude.{Option, Some, None, Result, Ok, Err, IfOk, OnErr, option_map}
+-- Runs by their openings: refused, opened, or not begun.
+use Rattle.std.proofs.Common.{◌≡◌, ◌∙◌, ◌⊎◌, ℕ, List, refl, sym, subst, inl, inr, Bool, true}
+use Rattle.std.specs.Prelude.{Option, Some, None, Result, Ok, Err, IfErr, IfOk, OnErr, OnOk, option_map}
 use Rattle.std.proofs.lemmas.Option.{same_Some}
-use Rattle.kdb_base.specs.Moment.{Moment}
+use Rattle.first_rows.specs.Parts.{SpecParts}
+use Rattle.kadm_session.specs.Courses.{Ending, ending}
+use Rattle.kadm_session.specs.Draws.{Draws}
+use Rattle.kadm_session.specs.Halts.{disk_as_session}
+use Rattle.kadm_session.specs.declared.halts.SessionHalt.{SessionHalt}
+use Rattle.kadm_session.specs.declared.halts.SessionHalt.TheVariants as session
+use Rattle.kadm_top.specs.Openings.{AMoment, ABlock, Drawn, Ends, Makes, NoDraw, Opening, Opens, Refuses, behind}
+use Rattle.kadm_top.specs.Reads.{IsReadWhole}
+use Rattle.kadm_top.specs.Run.{HasCourse, HasRun, IfTold, IsSame, LeavesAll, MakesStop, OpensPart, RunEnd, RunEndsAs, RunLeaves, RunRests, RunStops, Told, SparesOutput, course_behind, end_opened, place_made, refusal_line}
+use Rattle.kadm_top.specs.Statuses.{IsSayHalt}
+use Rattle.kdb_base.specs.declared.outcomes.Halt.{Halt}
+use Rattle.kdb_base.specs.declared.outcomes.Halt.TheVariants as disk
 use Rattle.kdb_base.specs.declared.outcomes.Refusal.{Refusal}
-use Rattle.kdb_base.specs.declared.outcomes.Refusal.TheVariants.{NotADatabase}
-use Rattle.kdb_base.specs.declared.outcomes.Status.{Status}
+use Rattle.kdb_disk.specs.Files.{Files}
+use Rattle.kdb_disk.specs.Moments.{Keeps, LeavesOnly}
+use Rattle.kdb_disk.specs.View.{View}
+use Rattle.kdb_disk.proofs.Runs.{at_end, then_on, weaken}
+use Rattle.kdb_histories.specs.Seen.{Seen}
+use Rattle.kdb_places.specs.Places.{Place}
+use Rattle.kdb_ports.specs.Parts.{SaidPart}
 use Rattle.kdb_ports.specs.Told.{after_told}
 use Rattle.kdb_ports.proofs.Told.{after_told-nil}
-use Rattle.kdb_disk.specs.Files.{Files}
-use Rattle.kdb_disk.specs.View.{View}
-use Rattle.kdb_disk.specs.Moments.{Keeps, LeavesOnly}
-use Rattle.kdb_disk.proofs.Runs.{weaken, kept_first}
-use Rattle.image_store.specs.Places.{Place, Holds, found_in, place_in, place_of, recovers}
-use Rattle.image_store.specs.Moments.{IsLike, RecoversToNone}
-use Rattle.image_store.specs.declared.opened.Opened.{Opened}
-use Rattle.kadm_lines.specs.Lines.{lines_from}
-use Rattle.kadm_lines.specs.Reader.{ReaderState, to_come}
-use Rattle.kadm_top.specs.declared.halts.SessionHalt.{SessionHalt}
-use Rattle.kadm_top.specs.declared.halts.SessionHalt.TheVariants as session
-use Rattle.kadm_top.specs.Halts.{status_after}
-use Rattle.kdb_ports.specs.Parts.{SaidPart}
-use Rattle.kadm_top.specs.Standing.{Stands}
-use Rattle.kadm_top.specs.Steps.{Ending, EndsAs, ending}
-use Rattle.kadm_top.specs.Stops.{IsAtRest, IsStopped, Rests, Stops}
-use Rattle.kadm_top.specs.Intake.{coming, HasTaken}
-use Rattle.kadm_top.specs.Run.{Opening, Opens, Refuses, Makes, Ends, RunEnd, RunEndsAs, RunStops, RunRests, RunLeaves, IsShortInput, WereTaken, OnEnd, OnStop, admin_of, among_places, behind_opening, behind_refusal, end_of, input_commands, refusal_line, run_end}
+use Rattle.store_files.specs.Recovery.{Creates, IsLike}
 
--- a reader at the front of an input
-abbrev pub fresh : ReaderState
-fresh = record { text = []; skipping = false; pending = []; over = false; taken = 0 }
-
--- all of the input's commands are to come
-pub fresh_coming : (realm : List ℕ) (reader : ReaderState) (told : Option (List ℕ)) → reader ≡ fresh → coming realm reader told ≡ input_commands realm told
-unfolding to_come lines_from
-fresh_coming realm reader told is = ap (λ (r : ReaderState). coming realm r told) is
-
-nothing_taken : (told : Option (List ℕ)) → option_map length told ≡ option_map (λ left. length left + 0) told
-nothing_taken None = refl
-nothing_taken (Some left) = ap Some (sym (add-zero (length left)))
-
--- nothing was taken yet
-pub fresh_taken : (reader : ReaderState) (told : Option (List ℕ)) → reader ≡ fresh → HasTaken told reader told
-fresh_taken reader told is = subst (λ (r : ReaderState). HasTaken told r told) (sym is)
-    (record { count = nothing_taken told; spent = λ no. absurd cc; below = λ no. absurd cc })
-
--- an input that was read to its end was short
-pub short_input : (told left : Option (List ℕ)) (reader : ReaderState) → HasTaken told reader left → IsTrue reader.over → IsShortInput told
-short_input None left reader takes over = tt
-short_input (Some xs) None reader takes over = let no = takes.count in absurd cc
-short_input (Some xs) (Some ys) reader takes over =
-    let count : length xs ≡ length ys + reader.taken = same_Some _ _ takes.count in
-    let none : length ys ≡ 0 = ap length (takes.spent over) in
-    let below = takes.below over in
-    omega arith
-
--- so many bytes were taken
-pub were_taken : (n : ℕ) (told left : Option (List ℕ)) (reader : ReaderState) → HasTaken told reader left → reader.taken ≡ n → WereTaken n told left
-were_taken n told left reader takes is = takes.count ∙ ap (λ (k : ℕ). option_map (λ (ys : List ℕ). length ys + k) left) is
-
--- a run over a database ended
-pub run_ended : {opened : Opened} (taken : Option (List ℕ)) (refused : Bool) (moments : Option (ℕ → Moment)) (old now : View) (end : Ending)
-    → EndsAs taken refused (place_of opened) moments end → Holds opened now → RunEndsAs taken refused moments old now (end_of end)
-run_ended {opened} taken refused moments old now end ends holds = record {
-  out_is = ends.out;
-  refused_is = ends.refused_is;
-  stands = record { each = λ c image. ap place_in (holds.each c image) ∙ ap Ok ends.place_is };
-  moments_is = ends.moments_is;
-}
+-- ---- what stays
 
 -- an image of before is like itself
 pub like_itself : {old : View} (c : Files) → old.images c → IsLike old c
@@ -76,119 +35,146 @@ like_itself c image = record { before = c; was = image; same = refl }
 pub keeps_like : {old now : View} → Keeps old now → LeavesOnly old now (IsLike old)
 keeps_like keeps = weaken keeps.leaves (λ c image. like_itself c image)
 
-pub none_stands : {now : View} → RecoversToNone now → Stands (Err NotADatabase) now
-none_stands none = record { each = λ c image. ap place_in (none.each c image) }
+pub keeps_same : {old now : View} (drawn : Drawn) → Keeps old now → IsSame drawn old now
+keeps_same NoDraw keeps = keeps
+keeps_same AMoment keeps = keeps_like keeps
+keeps_same ABlock keeps = keeps
 
-pub opened_stands : {opened : Opened} {place : Place} {now : View} → Holds opened now → place_of opened ≡ place → Stands (Ok place) now
-opened_stands holds is = record { each = λ c image. ap place_in (holds.each c image) ∙ ap Ok is }
+pub same_leaves : {old now : View} (drawn : Drawn) → IsSame drawn old now → LeavesOnly old now (IsLike old)
+same_leaves NoDraw same = keeps_like same
+same_leaves AMoment same = same
+same_leaves ABlock same = keeps_like same
 
--- ---- the status
+-- nothing was written
+pub said_nothing : (text : List ℕ) (old new : Option (List ℕ)) → new ≡ old → SaidPart text old new
+said_nothing text old new is = record { count = 0; part = is ∙ sym (after_told-nil old) }
 
--- a run that went through
-pub on_end : (s : Status) (r : Result Bool SessionHalt) (P : Bool → Type 0) → s ≡ status_after r → IfOk r P → OnEnd s P
-on_end s (Ok true) P is p = subst (λ (x : Status). OnEnd x P) (sym is) p
-on_end s (Ok false) P is p = subst (λ (x : Status). OnEnd x P) (sym is) p
-on_end s (Err session.MemoryOut) P is p = subst (λ (x : Status). OnEnd x P) (sym is) tt
-on_end s (Err session.ReadFault) P is p = subst (λ (x : Status). OnEnd x P) (sym is) tt
-on_end s (Err session.WriteFault) P is p = subst (λ (x : Status). OnEnd x P) (sym is) tt
-on_end s (Err session.DiskFault) P is p = subst (λ (x : Status). OnEnd x P) (sym is) tt
-on_end s (Err session.InputTooLong) P is p = subst (λ (x : Status). OnEnd x P) (sym is) tt
+all_at_end : {old now : View} {P : Files → Type 0} → LeavesOnly old now P → LeavesAll P now
+all_at_end run = record { each = λ c image. at_end run c image }
 
--- a run that was stopped
-pub on_stop : (s : Status) (r : Result Bool SessionHalt) (P : Type 0) → s ≡ status_after r → OnErr r P → OnStop s P
-on_stop s (Ok true) P is p = subst (λ (x : Status). OnStop x P) (sym is) tt
-on_stop s (Ok false) P is p = subst (λ (x : Status). OnStop x P) (sym is) tt
-on_stop s (Err session.MemoryOut) P is p = subst (λ (x : Status). OnStop x P) (sym is) p
-on_stop s (Err session.ReadFault) P is p = subst (λ (x : Status). OnStop x P) (sym is) p
-on_stop s (Err session.WriteFault) P is p = subst (λ (x : Status). OnStop x P) (sym is) p
-on_stop s (Err session.DiskFault) P is p = subst (λ (x : Status). OnStop x P) (sym is) p
-on_stop s (Err session.InputTooLong) P is p = subst (λ (x : Status). OnStop x P) (sym is) p
+-- of the two ends of a call of the disk, the one by which the disk did not fail is want of memory
+pub spares_for_memory : (h : Halt) (halt : SessionHalt) → halt ≡ disk_as_session h → SparesOutput halt → h ≡ disk.MemoryOut
+spares_for_memory disk.MemoryOut halt is spares = refl
+spares_for_memory disk.DiskFault halt is spares = absurd (subst SparesOutput is spares)
 
--- ---- a refusal of the opening
+-- no disk fails while a refusal is written
+pub says_no_disk : {P : Type 0} (halt : SessionHalt) → IsSayHalt halt → ◌≡◌ {A = Result Bool SessionHalt} (Err halt) (Err session.DiskFault) → P
+says_no_disk session.MemoryOut says e = absurd cc
+says_no_disk session.WriteFault says e = absurd cc
+says_no_disk session.ReadFault says e = absurd says
+says_no_disk session.DiskFault says e = absurd says
+says_no_disk session.DrawFault says e = absurd says
+says_no_disk session.InputTooLong says e = absurd says
 
-pub refused_ended : (opening : Opening) (refusal : Refusal) (read : Bool) (taken out : Option (List ℕ)) (left : Option (List ℕ)) (moments later : Option (ℕ → Moment)) (old now : View) (end : RunEnd)
-    → opening ≡ Refuses refusal read → run_end opening taken left moments ≡ Some end → out ≡ after_told taken (refusal_line refusal) → Keeps old now → later ≡ behind_refusal read moments
-    → RunEndsAs out true later old now end
-refused_ended opening refusal read taken out left moments later old now end is e said_it keeps clock =
-    subst (λ (x : RunEnd). RunEndsAs out true later old now x) (same_Some _ _ (sym (ap (λ (o : Opening). run_end o taken left moments) is) ∙ e))
-    (record { out_is = said_it; refused_is = refl; stands = keeps; moments_is = clock })
+-- ---- a refusal
 
-pub refused_stops : {read : Bool} (opening : Opening) (refusal : Refusal) (old : View) (taken out : Option (List ℕ)) (left : Option (List ℕ)) (moments : Option (ℕ → Moment)) (now : View)
-    → opening ≡ Refuses refusal read → SaidPart (refusal_line refusal) taken out → Keeps old now → RunStops opening old taken left moments out now
-refused_stops opening refusal old taken out left moments now is part keeps =
-    subst (λ (o : Opening). RunStops o old taken left moments out now) (sym is) (part, keeps)
+pub refused_run : {old now : View} {before after : Told} (why : Refusal) (drawn : Drawn)
+    → after.taken ≡ after_told before.taken (refusal_line why) → after.draws ≡ behind drawn before.draws → IsSame drawn old now
+    → HasRun (Refuses why drawn) old now before after (Ok true)
+refused_run {old} {now} {before} {after} why drawn said_it draws same = record {
+  ended = λ end e. subst (λ (x : RunEnd). RunEndsAs after.taken true after.draws old now x) (same_Some _ _ e)
+      (record { out_is = said_it; refused_is = refl; stands = same; draws_are = draws });
+  stopped = tt;
+  rests = tt;
+  moments = same_leaves drawn same;
+  read = λ no. absurd no;
+}
 
-pub refused_leaves : {old now : View} {read : Bool} (opening : Opening) (refusal : Refusal) (left : Option (List ℕ)) (moments : Option (ℕ → Moment))
-    → opening ≡ Refuses refusal read → Keeps old now → LeavesOnly old now (RunLeaves opening old left moments)
-refused_leaves {old} opening refusal left moments is keeps =
-    weaken (keeps_like keeps) (λ c like. subst (λ (o : Opening). RunLeaves o old left moments c) (sym is) like)
+-- of which not all was written
+pub cut_refusal_run : {old now : View} {before after : Told} (why : Refusal) (drawn : Drawn) (halt : SessionHalt)
+    → SaidPart (refusal_line why) before.taken after.taken → IsSame drawn old now
+    → (SparesOutput halt → after.taken ≡ before.taken)
+    → HasRun (Refuses why drawn) old now before after (Err halt)
+cut_refusal_run {old} {now} {before} {after} why drawn halt part same nothing = record {
+  ended = λ end e. tt;
+  stopped = (part, same);
+  rests = λ is. (nothing is, same);
+  moments = same_leaves drawn same;
+  read = λ no. absurd no;
+}
 
--- nothing was written yet
-pub refused_at_once : {read : Bool} (opening : Opening) (refusal : Refusal) (old : View) (taken : Option (List ℕ)) (left : Option (List ℕ)) (moments : Option (ℕ → Moment)) (now : View)
-    → opening ≡ Refuses refusal read → Keeps old now → RunStops opening old taken left moments taken now
-refused_at_once opening refusal old taken left moments now is keeps =
-    refused_stops opening refusal old taken taken left moments now is (record { count = 0; part = sym (after_told-nil taken) }) keeps
+-- ---- a run that did nothing
 
--- ---- an opening for the input
+made_idle : {old now : View} (spec : SpecParts) (draws : Option Draws) (taken out : Option (List ℕ)) → Keeps old now → out ≡ taken → IfTold draws (λ d. MakesStop spec old taken d out now)
+made_idle spec None taken out keeps is = tt
+made_idle {old} {now} spec (Some draws) taken out keeps is = inl (is, all_at_end (weaken (keeps_like keeps) (λ c like. inl like)))
 
-pub opens_as : (seen : Files) (opened : Opened) → found_in seen ≡ Ok opened → admin_of (recovers seen) ≡ Opens (place_of opened)
-opens_as seen opened is = ap (λ (r : Result Opened Refusal). admin_of (place_in r)) is
+made_like : {old : View} (spec : SpecParts) (draws : Option Draws) (c : Files) → IsLike old c → IfTold draws (λ d. Creates old (place_made spec d) c)
+made_like spec None c like = tt
+made_like spec (Some draws) c like = inl like
 
-pub opens_not : (seen : Files) (refusal : Refusal) → found_in seen ≡ Err refusal → admin_of (recovers seen) ≡ Refuses refusal true
-opens_not seen refusal is = ap (λ (r : Result Opened Refusal). admin_of (place_in r)) is
+idle_stops : {old now : View} (before : Told) (o : Opening) (out : Option (List ℕ)) → Keeps old now → out ≡ before.taken → RunStops o old before out now
+idle_stops {old} {now} before (Refuses why drawn) out keeps is = (said_nothing (refusal_line why) before.taken out is, keeps_same drawn keeps)
+idle_stops before (Opens begin made at) out keeps is = inr (is, all_at_end (weaken (keeps_like keeps) (λ c like. inl like)))
+idle_stops {old} {now} before (Makes spec) out keeps is = made_idle spec before.draws before.taken out keeps is
+idle_stops before Ends out keeps is = inl (is, all_at_end (weaken (keeps_like keeps) (λ c like. inl like)))
+
+idle_rests : {old now : View} (before : Told) (o : Opening) (out : Option (List ℕ)) → Keeps old now → out ≡ before.taken → RunRests o old before out now
+idle_rests before (Refuses why drawn) out keeps is = (is, keeps_same drawn keeps)
+idle_rests before (Opens begin made at) out keeps is = inr (is, all_at_end (weaken (keeps_like keeps) (λ c like. inl like)))
+idle_rests before (Makes spec) out keeps is = (is, keeps)
+idle_rests before Ends out keeps is = (is, keeps)
+
+idle_leaves : {old now : View} (before : Told) (o : Opening) → Keeps old now → LeavesOnly old now (RunLeaves o old before)
+idle_leaves before (Refuses why drawn) keeps = keeps_like keeps
+idle_leaves before (Opens begin made at) keeps = weaken (keeps_like keeps) (λ c like. inl (inl like))
+idle_leaves before (Makes spec) keeps = weaken (keeps_like keeps) (λ c like. made_like spec before.draws c like)
+idle_leaves before Ends keeps = weaken (keeps_like keeps) (λ c like. inl like)
+
+pub idle_run : {old now : View} {before after : Told} (o : Opening) (halt : SessionHalt) → Keeps old now → after.taken ≡ before.taken → HasRun o old now before after (Err halt)
+idle_run {old} {now} {before} {after} o halt keeps is = record {
+  ended = λ end e. tt;
+  stopped = idle_stops before o after.taken keeps is;
+  rests = λ at. idle_rests before o after.taken keeps is;
+  moments = idle_leaves before o keeps;
+  read = λ reads. tt;
+}
+
+-- ---- a database that was opened
+
+-- the opening was stopped
+pub unopened_run : {old now : View} {before after : Told} (begin : Place) (made : List Place) (at : Seen) (halt : SessionHalt)
+    → LeavesOnly old now (OpensPart old begin made) → after.taken ≡ before.taken → HasRun (Opens begin made at) old now before after (Err halt)
+unopened_run begin made at halt run is = record {
+  ended = λ end e. tt;
+  stopped = inr (is, all_at_end run);
+  rests = λ at_rest. inr (is, all_at_end run);
+  moments = weaken run (λ c part. inl part);
+  read = λ reads. tt;
+}
 
 -- an end at a place does not speak of the disk of before
-end_over : {out : Option (List ℕ)} {refused : Bool} {moments : Option (ℕ → Moment)} {now : View} (mid old : View) (e : Ending) → RunEndsAs out refused moments mid now (end_of e) → RunEndsAs out refused moments old now (end_of e)
-end_over mid old e ends = record { out_is = ends.out_is; refused_is = ends.refused_is; stands = ends.stands; moments_is = ends.moments_is }
+end_over : {out : Option (List ℕ)} {refused : Bool} {draws : Option Draws} {now : View} (mid old : View) (e : Ending) → RunEndsAs out refused draws mid now (end_opened e) → RunEndsAs out refused draws old now (end_opened e)
+end_over mid old e ends = record { out_is = ends.out_is; refused_is = ends.refused_is; stands = ends.stands; draws_are = ends.draws_are }
 
-pub opened_ended : (opening : Opening) (place : Place) (taken out : Option (List ℕ)) (refused : Bool) (left : Option (List ℕ)) (moments later rest : Option (ℕ → Moment)) (old mid now : View) (end : RunEnd)
-    → opening ≡ Opens place → later ≡ behind_opening moments → run_end opening taken left moments ≡ Some end
-    → ((e : Ending) → ending taken false (input_commands place.realm left) later place ≡ Some e → RunEndsAs out refused rest mid now (end_of e)) → RunEndsAs out refused rest old now end
-opened_ended opening place taken out refused left moments later rest old mid now end is next e ends =
-    by (ending taken false (input_commands place.realm left) later place) ends
-    (ap (λ (m : Option (ℕ → Moment)). option_map end_of (ending taken false (input_commands place.realm left) m place)) next ∙ sym (ap (λ (o : Opening). run_end o taken left moments) is) ∙ e)
+ended_over : (out : Option (List ℕ)) (draws : Option Draws) (now mid old : View) (r : Result Bool SessionHalt) (e : Ending)
+    → IfOk r (λ refused. RunEndsAs out refused draws mid now (end_opened e)) → IfOk r (λ refused. RunEndsAs out refused draws old now (end_opened e))
+ended_over out draws now mid old (Ok refused) e ends = end_over mid old e ends
+ended_over out draws now mid old (Err halt) e ends = tt
+
+stopped_over : (P Q : Type 0) (r : Result Bool SessionHalt) → OnErr r P → OnErr r (P ⊎ Q)
+stopped_over P Q (Ok refused) p = tt
+stopped_over P Q (Err halt) p = inl p
+
+rests_over : (P Q : Type 0) (r : Result Bool SessionHalt) → IfErr r (λ halt. SparesOutput halt → P) → IfErr r (λ halt. SparesOutput halt → P ⊎ Q)
+rests_over P Q (Ok refused) rests = tt
+rests_over P Q (Err halt) rests = λ spares. inl (rests spares)
+
+-- its input went its course
+pub opened_run : {old mid now : View} {before after : Told} {result : Result Bool SessionHalt} (begin : Place) (made : List Place) (at : Seen)
+    → LeavesOnly old mid (OpensPart old begin made)
+    → HasCourse (course_behind before at) mid now after result
+    → OnOk result (IsReadWhole before.left after.left)
+    → HasRun (Opens begin made at) old now before after result
+opened_run {old} {mid} {now} {before} {after} {result} begin made at opening course whole = record {
+  ended = λ end e. by (ending (course_behind before at)) course.ended end e;
+  stopped = stopped_over _ _ result course.stopped;
+  rests = rests_over _ _ result course.rests;
+  moments = then_on (weaken opening (λ c part. inl part)) course.moments (λ c leaves. inr leaves);
+  read = λ reads. whole;
+}
   where
-    by : (o : Option Ending) → ((x : Ending) → o ≡ Some x → RunEndsAs out refused rest mid now (end_of x)) → option_map end_of o ≡ Some end → RunEndsAs out refused rest old now end
-    by None f e = absurd cc
-    by (Some x) f e = subst (λ (y : RunEnd). RunEndsAs out refused rest old now y) (same_Some _ _ e) (end_over mid old x (f x refl))
-
-pub opened_stops : (opening : Opening) (place : Place) (old : View) (taken out : Option (List ℕ)) (left : Option (List ℕ)) (moments later : Option (ℕ → Moment)) (now : View)
-    → opening ≡ Opens place → later ≡ behind_opening moments → IsStopped (Stops taken (input_commands place.realm left) later place) out now → RunStops opening old taken left moments out now
-opened_stops opening place old taken out left moments later now is next stopped =
-    subst (λ (o : Opening). RunStops o old taken left moments out now) (sym is)
-    (inl (subst (λ (m : Option (ℕ → Moment)). IsStopped (Stops taken (input_commands place.realm left) m place) out now) next stopped))
-
-pub opened_rests : (opening : Opening) (place : Place) (old : View) (taken out : Option (List ℕ)) (left : Option (List ℕ)) (moments later : Option (ℕ → Moment)) (now : View)
-    → opening ≡ Opens place → later ≡ behind_opening moments → IsAtRest (Rests taken (input_commands place.realm left) later place) out now → RunRests opening old taken left moments out now
-opened_rests opening place old taken out left moments later now is next rest =
-    subst (λ (o : Opening). RunRests o old taken left moments out now) (sym is)
-    (inl (subst (λ (m : Option (ℕ → Moment)). IsAtRest (Rests taken (input_commands place.realm left) m place) out now) next rest))
-
--- nothing was done at all
-pub nothing_done : (opening : Opening) (old : View) (taken out : Option (List ℕ)) (left : Option (List ℕ)) (moments : Option (ℕ → Moment)) (now : View)
-    → out ≡ taken → Keeps old now → RunRests opening old taken left moments out now
-nothing_done (Refuses refusal read) old taken out left moments now is keeps = (is, keeps)
-nothing_done (Opens place) old taken out left moments now is keeps = inr (is, keeps)
-nothing_done (Makes realm) old taken out left moments now is keeps = (is, keeps)
-nothing_done Ends old taken out left moments now is keeps = (is, keeps)
-
-pub opened_leaves : {old mid now : View} (opening : Opening) (place : Place) (left : Option (List ℕ)) (moments later : Option (ℕ → Moment))
-    → opening ≡ Opens place → later ≡ behind_opening moments → Keeps old mid
-    → LeavesOnly mid now (among_places (input_commands place.realm left) later place) → LeavesOnly old now (RunLeaves opening old left moments)
-opened_leaves {old} opening place left moments later is next keeps run =
-    kept_first keeps
-    (weaken run (λ c h. turn c (inr (subst (λ (m : Option (ℕ → Moment)). among_places (input_commands place.realm left) m place c) next h))))
-    (λ c image. turn c (inl (like_itself c image)))
-  where
-    turn : (c : Files) → RunLeaves (Opens place) old left moments c → RunLeaves opening old left moments c
-    turn c h = subst (λ (o : Opening). RunLeaves o old left moments c) (sym is) h
-
--- a run whose database was not opened
-pub unopened_stops : (found : Result Place Refusal) (old : View) (taken : Option (List ℕ)) (left : Option (List ℕ)) (moments : Option (ℕ → Moment)) (now : View)
-    → Keeps old now → RunStops (admin_of found) old taken left moments taken now
-unopened_stops (Ok place) old taken left moments now keeps = inr (refl, keeps)
-unopened_stops (Err refusal) old taken left moments now keeps = (record { count = 0; part = sym (after_told-nil taken) }, keeps)
-
-pub unopened_leaves : {old now : View} (found : Result Place Refusal) (left : Option (List ℕ)) (moments : Option (ℕ → Moment)) → Keeps old now → LeavesOnly old now (RunLeaves (admin_of found) old left moments)
-unopened_leaves (Ok place) left moments keeps = weaken (keeps_like keeps) (λ c like. inl like)
-unopened_leaves (Err refusal) left moments keeps = keeps_like keeps
+    by : (o : Option Ending) → ((x : Ending) → o ≡ Some x → IfOk result (λ refused. RunEndsAs after.taken refused after.draws mid now (end_opened x))) → (end : RunEnd) → option_map end_opened o ≡ Some end
+        → IfOk result (λ refused. RunEndsAs after.taken refused after.draws old now end)
+    by None f end e = absurd cc
+    by (Some x) f end e = subst (λ (y : RunEnd). IfOk result (λ refused. RunEndsAs after.taken refused after.draws old now y)) (same_Some _ _ e) (ended_over after.taken after.draws now mid old result x (f x refl))

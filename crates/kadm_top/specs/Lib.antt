@@ -1,11 +1,5 @@
 pub mod Words
-pub mod Standing
-pub mod Replies
-pub mod Steps
-pub mod Changes
-pub mod Stops
-pub mod Input
-pub mod Intake
+pub mod Openings
+pub mod Reads
 pub mod Run
-pub mod Halts
-pub mod Turns
+pub mod Statuses

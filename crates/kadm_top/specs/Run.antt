@@ -1,193 +1,196 @@
--- A whole run of the program: its words, the opening of the database, and its end.
-use Rattle.std.specs.Prelude.{ℕ, ◌+◌, ◌≡◌, ◌<◌, ◌⊎◌, Bool, true, false, List, [], ◌∷◌, Option, Some, None, IfSome, Result, Ok, Err, length, option_map, if◌then◌else◌, ⊤}
-use Rattle.kdb_base.specs.Moment.{Moment}
-use Rattle.kdb_base.specs.declared.outcomes.Field.TheVariants.{Realm}
-use Rattle.kdb_base.specs.declared.outcomes.Refusal.{Refusal}
-use Rattle.kdb_base.specs.declared.outcomes.Refusal.TheVariants.{BadLine, BadValue, NotADatabase, AlreadyThere, Damaged}
-use Rattle.kdb_base.specs.declared.outcomes.Status.{Status}
-use Rattle.kdb_base.specs.declared.outcomes.Status.TheVariants as status
-use Rattle.kdb_ports.specs.Told.{after_told, later_moments}
-use Rattle.kdb_disk.specs.Files.{Files}
-use Rattle.kdb_disk.specs.View.{View}
-use Rattle.kdb_disk.specs.Moments.{Keeps}
-use Rattle.kdb_control.specs.Force.{in_force}
-use Rattle.kdb_control.specs.declared.force.Force.{Force}
-use Rattle.kdb_control.specs.declared.force.Force.TheVariants.{Nothing, Is, Broken}
-use Rattle.princ_name.specs.Realms.{is_realm}
-use Rattle.image_store.specs.Places.{Place, recovers}
-use Rattle.image_store.specs.Moments.{IsLike, Creates, Destroys}
-use Rattle.image_store.specs.Steps.{created}
+-- A whole run of the program, from its opening on: how it ends, where it may stop early, and what a crash may leave.
+use Rattle.std.specs.Prelude.{ℕ, ◌≡◌, ◌⊎◌, Bool, true, false, List, codes, Option, Some, None, Result, IfErr, IfOk, OnErr, OnOk, option_map, ⊤}
+use Rattle.first_rows.specs.Creation.{first_point}
+use Rattle.first_rows.specs.Parts.{SpecParts}
+use Rattle.kadm_commands.specs.declared.replies.Reply.TheVariants.{Done, Refused}
 use Rattle.kadm_lines.specs.Lines.{seen_lines}
+use Rattle.kadm_replies.specs.Replies.{reply_text}
+use Rattle.kadm_session.specs.Courses.{Course, Ending, IsAtRest, IsStopped, Leaves, Stops, course, ending}
+use Rattle.kadm_session.specs.Draws.{Draws, behind_command, block_in, moment_in}
+use Rattle.kadm_session.specs.Input.{commands_in}
+use Rattle.kadm_session.specs.declared.intake.Asked.{Asked}
+use Rattle.kadm_session.specs.declared.halts.SessionHalt.{SessionHalt}
+use Rattle.kadm_session.specs.declared.halts.SessionHalt.TheVariants.{WriteFault, DiskFault}
+use Rattle.kadm_top.specs.Openings.{AMoment, ABlock, Drawn, Ends, Makes, NoDraw, Opening, Opens, ReadsInput, Refuses, behind}
+use Rattle.kadm_top.specs.Reads.{IsReadWhole}
+use Rattle.kdb_base.specs.Moment.{Moment}
+use Rattle.kdb_base.specs.declared.outcomes.Refusal.{Refusal}
+use Rattle.kdb_disk.specs.Files.{Files}
+use Rattle.kdb_disk.specs.Moments.{Keeps, LeavesOnly}
+use Rattle.kdb_disk.specs.View.{View}
+use Rattle.kdb_histories.specs.Seen.{Seen}
+use Rattle.kdb_places.specs.Places.{Place}
 use Rattle.kdb_ports.specs.Parts.{SaidPart}
-use Rattle.keyless_wire.specs.Replies.{reply_text}
-use Rattle.keyless_model.specs.declared.replies.Reply.TheVariants.{Done, Refused}
-use Rattle.kadm_top.specs.Replies.{ended_text}
-use Rattle.kadm_top.specs.declared.intake.Asked.{Asked}
-use Rattle.kadm_top.specs.declared.words.Words.{Words}
-use Rattle.kadm_top.specs.declared.words.Words.TheVariants.{Admin, Create, Destroy}
-use Rattle.kadm_top.specs.Input.{commands_in}
-use Rattle.kadm_top.specs.Standing.{Stands, LeavesAll, RecoversToOne}
-use Rattle.kadm_top.specs.Steps.{Ending, ending, places_after}
-use Rattle.kadm_top.specs.Stops.{Stops, IsStopped, Rests, IsAtRest}
+use Rattle.kdb_ports.specs.Told.{after_told}
+use Rattle.primary_core.specs.Opening.{first_place}
+use Rattle.store_files.specs.Recovery.{Creates, Destroys, IsLike, LeavesPart, RecoversTo, RecoversToNone}
 
--- ---- what a run begins with, by its words and the files
+-- ---- what is told before it
 
--- A refusal, and whether the clock was read before it; a database whose input is to be answered; one that is to be made,
--- of this realm; or one that is to be ended.
-pub data Opening : Type 0 where
-  Refuses : Refusal → Bool → Opening
-  Opens : Place → Opening
-  Makes : List ℕ → Opening
-  Ends : Opening
+-- what the sink has taken, what is left of the input, and what the clock and the source of random bytes will give
+pub record Told : Type 0 where
+  pub taken : Option (List ℕ)
+  pub left : Option (List ℕ)
+  pub draws : Option Draws
 
-abbrev pub admin_of : Result Place Refusal → Opening
-admin_of (Ok place) = Opens place
-admin_of (Err refusal) = Refuses refusal true
-
-abbrev pub create_of : List ℕ → Force → Opening
-create_of realm Nothing = Makes realm
-create_of realm (Is choice) = Refuses AlreadyThere true
-create_of realm (Broken place) = Refuses AlreadyThere true
-
-abbrev pub destroy_of : Force → Opening
-destroy_of Nothing = Refuses NotADatabase false
-destroy_of (Is choice) = Ends
-destroy_of (Broken place) = Refuses (Damaged 0 place) false
-
--- the words are judged first, then the realm, and then the files
-unfoldable pub opening_of : Option Words → Files → Opening
-opening_of None files = Refuses BadLine false
-opening_of (Some Admin) files = admin_of (recovers files)
-opening_of (Some (Create realm)) files = if is_realm realm then create_of realm (in_force (files 0)) else Refuses (BadValue Realm) false
-opening_of (Some Destroy) files = destroy_of (in_force (files 0))
-
--- ---- how it ends where nothing fails
-
--- What is in the sink, whether a refusal was written, what the disk recovers to, or nothing where no file has changed, and
--- the moments that the clock has left, where it tells them.
-pub record RunEnd : Type 0 where
-  pub out : Option (List ℕ)
-  pub refused : Bool
-  pub found : Option (Result Place Refusal)
-  pub moments : Option (ℕ → Moment)
-
-abbrev pub refusal_line : Refusal → List ℕ
-refusal_line refusal = reply_text (Refused refusal)
-
--- a database that is made has no rows and no stash; its control slot says that a log is to hold 1000 entries in blocks of 2048 bytes
-abbrev pub made : List ℕ → Moment → Place
-made realm moment = created realm (record { princs = []; policies = [] }) (record { sno = 1; time = moment }) 1000 2048 None
-
-abbrev pub end_of : Ending → RunEnd
-end_of end = record { out = end.out; refused = end.refused; found = Some (Ok end.place); moments = Some end.moments }
+abbrev pub told : Option (List ℕ) → Option (List ℕ) → Option Draws → Told
+told taken left draws = record { taken = taken; left = left; draws = draws }
 
 -- what the lines of an input ask for, in a database of this realm
 abbrev pub input_commands : List ℕ → Option (List ℕ) → Option (List Asked)
 input_commands realm left = commands_in realm (option_map seen_lines left)
 
--- an opening reads the clock once
-abbrev pub behind_opening : Option (ℕ → Moment) → Option (ℕ → Moment)
-behind_opening moments = option_map later_moments moments
+-- the course of the input from a place and the state that its rows show
+abbrev pub course_from : Told → Seen → Course
+course_from before at = course before.taken false (input_commands at.place.realm before.left) before.draws at
 
--- a refusal reads it once, or not at all
-abbrev pub behind_refusal : Bool → Option (ℕ → Moment) → Option (ℕ → Moment)
-behind_refusal read moments = if read then behind_opening moments else moments
+-- the same behind an opening, which takes a moment
+abbrev pub course_behind : Told → Seen → Course
+course_behind before at = course_from (told before.taken before.left (behind AMoment before.draws)) at
 
-abbrev pub end_made : List ℕ → Option (List ℕ) → (ℕ → Moment) → RunEnd
-end_made realm taken moments = record { out = after_told taken (reply_text (Done (made realm (moments 0)).point)); refused = false; found = Some (Ok (made realm (moments 0))); moments = Some (later_moments moments) }
+-- ---- what is written
 
--- as far as it is told
-abbrev pub run_end : Opening → Option (List ℕ) → Option (List ℕ) → Option (ℕ → Moment) → Option RunEnd
-run_end (Refuses refusal read) taken left moments = Some (record { out = after_told taken (refusal_line refusal); refused = true; found = None; moments = behind_refusal read moments })
-run_end (Opens place) taken left moments = option_map end_of (ending taken false (input_commands place.realm left) (behind_opening moments) place)
-run_end (Makes realm) taken left moments = option_map (end_made realm taken) moments
-run_end Ends taken left moments = Some (record { out = after_told taken ended_text; refused = false; found = Some (Err NotADatabase); moments = moments })
+abbrev pub refusal_line : Refusal → List ℕ
+refusal_line refusal = reply_text (Refused refusal)
 
--- whatever a crash leaves recovers to this, or no file has changed
-abbrev pub EndsAt : Option (Result Place Refusal) → View → View → Type 0
-EndsAt None old now = Keeps old now
-EndsAt (Some found) old now = Stands found now
+-- the answer to `create`
+abbrev pub made_line : Draws → List ℕ
+made_line draws = reply_text (Done (first_point (moment_in draws)))
 
-pub record RunEndsAs (out : Option (List ℕ)) (refused : Bool) (moments : Option (ℕ → Moment)) (old now : View) (end : RunEnd) : Type 0 where
-  pub out_is : out ≡ end.out
-  pub refused_is : refused ≡ end.refused
-  pub stands : EndsAt end.found old now
-  pub moments_is : moments ≡ end.moments
+-- the answer to `destroy`
+unfoldable pub ended_text : List ℕ
+ended_text = codes "ok\n"
 
--- ---- where it may stop early
-
--- while a database is made: the disk stands for what it stood for, for none, or for the one that is made
-abbrev pub MakesStop : List ℕ → View → Option (List ℕ) → (ℕ → Moment) → Option (List ℕ) → View → Type 0
-MakesStop realm old taken moments out now =
-    ((out ≡ taken) × LeavesAll (Creates old (made realm (moments 0))) now)
-    ⊎ (SaidPart (reply_text (Done (made realm (moments 0)).point)) taken out × Stands (Ok (made realm (moments 0))) now)
+-- the place that a creation makes
+abbrev pub place_made : SpecParts → Draws → Place
+place_made spec draws = first_place spec (moment_in draws) (block_in draws)
 
 abbrev pub IfTold : {A : Type 0} → Option A → (A → Type 0) → Type 0
 IfTold None P = ⊤
 IfTold (Some x) P = P x
 
--- while one is ended: the disk stands for what it stood for, or for none
+-- the moment and the block that a creation took are those that came next
+abbrev pub AreDrawn : Option Draws → Moment → List ℕ → Type 0
+AreDrawn draws now random = IfTold draws (λ told. (now ≡ moment_in told) × (random ≡ block_in told))
+
+-- ---- how it ends where nothing fails
+
+-- Each file reads as before. An opening that is refused has looked at more than that: there a crash leaves what stands for the same.
+abbrev pub IsSame : Drawn → View → View → Type 0
+IsSame AMoment old now = LeavesOnly old now (IsLike old)
+IsSame NoDraw old now = Keeps old now
+IsSame ABlock old now = Keeps old now
+
+-- what the disk then has
+pub data Standing : Type 0 where
+  -- what it had
+  Same : (drawn : Drawn) → Standing
+  -- whatever a crash leaves recovers to this place
+  At : (place : Place) → Standing
+  -- to no database
+  Gone : Standing
+
+abbrev pub Stands : Standing → View → View → Type 0
+Stands (Same drawn) old now = IsSame drawn old now
+Stands (At place) old now = RecoversTo place now
+Stands Gone old now = RecoversToNone now
+
+-- the bytes in the sink, whether a refusal was written, the disk, and what the clock and the source of random bytes have left
+pub record RunEnd : Type 0 where
+  pub out : Option (List ℕ)
+  pub refused : Bool
+  pub disk : Standing
+  pub draws : Option Draws
+
+abbrev pub end_opened : Ending → RunEnd
+end_opened end = record { out = end.out; refused = end.refused; disk = At end.at.place; draws = Some end.draws }
+
+abbrev pub end_made : SpecParts → Option (List ℕ) → Draws → RunEnd
+end_made spec taken draws = record { out = after_told taken (made_line draws); refused = false; disk = At (place_made spec draws); draws = Some (behind_command draws) }
+
+-- as far as it is told
+abbrev pub run_end : Opening → Told → Option RunEnd
+run_end (Refuses why drawn) before = Some (record { out = after_told before.taken (refusal_line why); refused = true; disk = Same drawn; draws = behind drawn before.draws })
+run_end (Opens begin made at) before = option_map end_opened (ending (course_behind before at))
+run_end (Makes spec) before = option_map (end_made spec before.taken) before.draws
+run_end Ends before = Some (record { out = after_told before.taken ended_text; refused = false; disk = Gone; draws = before.draws })
+
+pub record RunEndsAs (out : Option (List ℕ)) (refused : Bool) (draws : Option Draws) (old now : View) (end : RunEnd) : Type 0 where
+  pub out_is : out ≡ end.out
+  pub refused_is : refused ≡ end.refused
+  pub stands : Stands end.disk old now
+  pub draws_are : draws ≡ end.draws
+
+-- ---- where it may stop early
+
+-- whatever a crash leaves has P
+pub record LeavesAll (P : Files → Type 0) (now : View) : Type 0 where
+  pub each : (c : Files) → now.images c → P c
+
+-- while a database is opened: the files stand for what they stood for, or for a place of the opening
+abbrev pub OpensPart : View → Place → List Place → Files → Type 0
+OpensPart old begin made c = IsLike old c ⊎ LeavesPart begin made c
+
+-- while one is made: nothing was written, and the files stand for what they stood for, for none, or for the one that is made; or a part of the
+-- answer was, and that alone stands
+abbrev pub MakesStop : SpecParts → View → Option (List ℕ) → Draws → Option (List ℕ) → View → Type 0
+MakesStop spec old taken draws out now =
+    ((out ≡ taken) × LeavesAll (Creates old (place_made spec draws)) now)
+    ⊎ (SaidPart (made_line draws) taken out × RecoversTo (place_made spec draws) now)
+
+-- while one is ended
 abbrev pub EndsStop : View → Option (List ℕ) → Option (List ℕ) → View → Type 0
 EndsStop old taken out now =
     ((out ≡ taken) × LeavesAll (Destroys old) now)
-    ⊎ (SaidPart ended_text taken out × Stands (Err NotADatabase) now)
+    ⊎ (SaidPart ended_text taken out × RecoversToNone now)
 
-abbrev pub RunStops : Opening → View → Option (List ℕ) → Option (List ℕ) → Option (ℕ → Moment) → Option (List ℕ) → View → Type 0
-RunStops (Refuses refusal read) old taken left moments out now = SaidPart (refusal_line refusal) taken out × Keeps old now
-RunStops (Opens place) old taken left moments out now = IsStopped (Stops taken (input_commands place.realm left) (behind_opening moments) place) out now ⊎ ((out ≡ taken) × Keeps old now)
-RunStops (Makes realm) old taken left moments out now = IfTold moments (λ told. MakesStop realm old taken told out now)
-RunStops Ends old taken left moments out now = EndsStop old taken out now
+abbrev pub RunStops : Opening → View → Told → Option (List ℕ) → View → Type 0
+RunStops (Refuses why drawn) old before out now = SaidPart (refusal_line why) before.taken out × IsSame drawn old now
+RunStops (Opens begin made at) old before out now =
+    IsStopped (Stops (course_behind before at)) out now ⊎ ((out ≡ before.taken) × LeavesAll (OpensPart old begin made) now)
+RunStops (Makes spec) old before out now = IfTold before.draws (λ draws. MakesStop spec old before.taken draws out now)
+RunStops Ends old before out now = EndsStop old before.taken out now
 
--- for want of memory: the first so many lines were done and are answered in full, or nothing was done at all
-abbrev pub RunRests : Opening → View → Option (List ℕ) → Option (List ℕ) → Option (ℕ → Moment) → Option (List ℕ) → View → Type 0
-RunRests (Refuses refusal read) old taken left moments out now = (out ≡ taken) × Keeps old now
-RunRests (Opens place) old taken left moments out now = IsAtRest (Rests taken (input_commands place.realm left) (behind_opening moments) place) out now ⊎ ((out ≡ taken) × Keeps old now)
-RunRests (Makes realm) old taken left moments out now = (out ≡ taken) × Keeps old now
-RunRests Ends old taken left moments out now = (out ≡ taken) × Keeps old now
+-- neither the sink nor the disk failed
+abbrev pub SparesOutput : SessionHalt → Type 0
+SparesOutput WriteFault = ⊥
+SparesOutput DiskFault = ⊥
+SparesOutput other = Unit {0}
+
+-- There the first so many lines were done and are answered in full, or nothing was written, and no more was done than an opening does.
+abbrev pub RunRests : Opening → View → Told → Option (List ℕ) → View → Type 0
+RunRests (Refuses why drawn) old before out now = (out ≡ before.taken) × IsSame drawn old now
+RunRests (Opens begin made at) old before out now =
+    IsAtRest (course_behind before at) out now ⊎ ((out ≡ before.taken) × LeavesAll (OpensPart old begin made) now)
+RunRests (Makes spec) old before out now = (out ≡ before.taken) × Keeps old now
+RunRests Ends old before out now = (out ≡ before.taken) × Keeps old now
 
 -- ---- what a crash may leave at any moment of it
 
-abbrev pub among_places : Option (List Asked) → Option (ℕ → Moment) → Place → Files → Type 0
-among_places None moments place c = ⊤
-among_places (Some commands) None place c = ⊤
-among_places (Some commands) (Some moments) place c = RecoversToOne (place ∷ places_after commands moments place) c
+-- what an image of before stood for, a place of the opening or of the input's course, or nothing while a database is made or once its end has begun
+abbrev pub RunLeaves : Opening → View → Told → Files → Type 0
+RunLeaves (Refuses why drawn) old before c = IsLike old c
+RunLeaves (Opens begin made at) old before c = OpensPart old begin made c ⊎ Leaves (course_behind before at) c
+RunLeaves (Makes spec) old before c = IfTold before.draws (λ draws. Creates old (place_made spec draws) c)
+RunLeaves Ends old before c = Destroys old c
 
--- what is among these places is among those
-abbrev pub AmongWithin : (Files → Type 0) → (Files → Type 0) → Type 0
-AmongWithin here there = (c : Files) → here c → there c
+-- ---- all of it
 
--- what an image of before stood for, a place of the run, or nothing while a database is made or once its end has begun
-abbrev pub RunLeaves : Opening → View → Option (List ℕ) → Option (ℕ → Moment) → Files → Type 0
-RunLeaves (Refuses refusal read) old left moments c = IsLike old c
-RunLeaves (Opens place) old left moments c = IsLike old c ⊎ among_places (input_commands place.realm left) (behind_opening moments) place c
-RunLeaves (Makes realm) old left moments c = IfTold moments (λ told. Creates old (made realm (told 0)) c)
-RunLeaves Ends old left moments c = Destroys old c
+-- What the course of an input comes to, over a database that is open: it was read to its end, or the run was stopped.
+pub record HasCourse (c : Course) (old now : View) (after : Told) (result : Result Bool SessionHalt) : Type 0 where
+  pub ended : (end : Ending) → ending c ≡ Some end → IfOk result (λ refused. RunEndsAs after.taken refused after.draws old now (end_opened end))
+  pub stopped : OnErr result (IsStopped (Stops c) after.taken now)
+  pub rests : IfErr result (λ halt. SparesOutput halt → IsAtRest c after.taken now)
+  pub moments : LeavesOnly old now (Leaves c)
 
--- ---- by the status
-
--- a fact of a run that went through, by whether a refusal was written
-abbrev pub OnEnd : Status → (Bool → Type 0) → Type 0
-OnEnd status.Done P = P false
-OnEnd status.Refused P = P true
-OnEnd _ P = ⊤
-
--- a fact of a run that was stopped
-abbrev pub OnStop : Status → Type 0 → Type 0
-OnStop status.Done P = ⊤
-OnStop status.Refused P = ⊤
-OnStop _ P = P
-
--- a source that tells what is left has fewer bytes than an input may have
-abbrev pub IsShortInput : Option (List ℕ) → Type 0
-IsShortInput told = IfSome told (λ left. length left < 4294967296)
-
--- so many bytes were taken, as far as it is told
-abbrev pub WereTaken : ℕ → Option (List ℕ) → Option (List ℕ) → Type 0
-WereTaken n before after = option_map length before ≡ option_map (λ left. length left + n) after
-
--- the input is read where a database is opened for it
-abbrev pub ReadsInput : Opening → Type 0
-ReadsInput (Opens place) = Unit {0}
-ReadsInput (Refuses refusal read) = ⊥
-ReadsInput (Makes realm) = ⊥
-ReadsInput Ends = ⊥
+-- What a run comes to from its opening on: it went through, and says whether a refusal was written, or it was stopped.
+pub record HasRun (o : Opening) (old now : View) (before after : Told) (result : Result Bool SessionHalt) : Type 0 where
+  -- where nothing fails, as far as it is told
+  pub ended : (end : RunEnd) → run_end o before ≡ Some end → IfOk result (λ refused. RunEndsAs after.taken refused after.draws old now end)
+  -- where it stopped early, and where it did so though neither the sink nor the disk failed
+  pub stopped : OnErr result (RunStops o old before after.taken now)
+  pub rests : IfErr result (λ halt. SparesOutput halt → RunRests o old before after.taken now)
+  -- at any moment of it
+  pub moments : LeavesOnly old now (RunLeaves o old before)
+  -- an input that was opened for was read to its end
+  pub read : ReadsInput o → OnOk result (IsReadWhole before.left after.left)

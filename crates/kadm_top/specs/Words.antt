@@ -1,36 +1,118 @@
 -- What the words of a run ask for.
-use Rattle.std.specs.Prelude.{ℕ, List, [], ◌∷◌, Bool, true, false, codes, Option, Some, None, if◌then◌else◌}
+use Rattle.std.specs.Prelude.{ℕ, ◌≤◌, ◌&&◌, List, [], ◌∷◌, Bool, true, false, codes, Option, Some, None, Result, Ok, Err, IfSome, unwrap_or, if◌then◌else◌}
+use Rattle.std.specs.Option.{option_and_then}
 use Rattle.std.specs.Str.{bytes_eq}
+use Rattle.first_rows.specs.Parts.{SpecParts}
+use Rattle.kadm_options.specs.Options.{OptionParts, are_single, is_dashes, option_named, options_in}
+use Rattle.kadm_options.specs.OptionValues.{first_bad_in, number_within, word_given}
+use Rattle.kadm_options.specs.declared.options.Given.{Given}
+use Rattle.kadm_options.specs.declared.options.Opening.{Opening}
+use Rattle.kadm_options.specs.declared.options.Opening.TheVariants as opening
+use Rattle.kadm_options.specs.declared.options.OptionName.TheVariants as option
+use Rattle.kadm_options.specs.declared.options.ValueKind.TheVariants.{Word, OneEtype, Number}
 use Rattle.kadm_top.specs.declared.alone.TheConstants.{USAGE, VERSION}
 use Rattle.kadm_top.specs.declared.words.Words.{Words}
 use Rattle.kadm_top.specs.declared.words.Words.TheVariants.{Admin, Create, Destroy}
+use Rattle.kadm_values.specs.EtypeWords.{etype_named}
+use Rattle.kdb_base.specs.declared.keys.Etype.{Etype}
+use Rattle.kdb_base.specs.declared.keys.Etype.TheVariants.{Aes256}
+use Rattle.kdb_base.specs.declared.outcomes.Field.{Field}
+use Rattle.kdb_base.specs.declared.outcomes.Field.TheVariants as field
+use Rattle.kdb_base.specs.declared.outcomes.Refusal.{Refusal}
+use Rattle.kdb_base.specs.declared.outcomes.Refusal.TheVariants.{BadLine, BadValue}
+use Rattle.princ_name.specs.Realms.{is_realm}
 
--- no word more, but for the one that ends the options
+-- ---- the options
+
+unfoldable pub admin_options : List Opening
+admin_options = opening.Value (record { option = option.UlogSize; kind = Number 2 10000; field = field.UlogSize }) ∷ []
+
+-- any word is a password, so no refusal names the field of -P
+unfoldable pub create_options : List Opening
+create_options =
+    opening.Value (record { option = option.MasterPassword; kind = Word; field = field.Value })
+    ∷ opening.Value (record { option = option.Enctypes; kind = OneEtype; field = field.Enctypes })
+    ∷ opening.Value (record { option = option.UlogSize; kind = Number 2 10000; field = field.UlogSize })
+    ∷ []
+
+-- it has no effect
+unfoldable pub destroy_options : List Opening
+destroy_options = opening.Alone option.ShortForce ∷ []
+
+-- no word is left, but for the one that ends the options
 unfoldable pub no_more : List (List ℕ) → Bool
 no_more [] = true
-no_more (word ∷ []) = bytes_eq word (codes "--")
+no_more (word ∷ []) = is_dashes word
 no_more (word ∷ _ ∷ _) = false
 
--- the same behind an option that has no effect
-unfoldable pub no_more_but_f : List (List ℕ) → Bool
-no_more_but_f [] = true
-no_more_but_f (word ∷ words) = if bytes_eq word (codes "-f") then no_more words else no_more (word ∷ words)
+abbrev pub when_alone : OptionParts → Option (List Given)
+when_alone parts = if no_more parts.rest && are_single parts.options then Some parts.options else None
 
-abbrev pub as_create : List (List ℕ) → Option Words
-as_create [] = None
-as_create (realm ∷ words) = if no_more words then Some (Create realm) else None
+-- the options that the words spell, of which each stands at most once, where these are all of the words
+unfoldable pub options_alone : List Opening → List (List ℕ) → Option (List Given)
+options_alone known words = option_and_then when_alone (options_in (option_named known false) words)
 
--- `admin`, `create REALM` or `destroy [-f]`
-abbrev pub words_behind : List ℕ → List (List ℕ) → Option Words
+-- ---- what they say
+
+abbrev pub size_given : List Given → Option ℕ
+size_given options = option_and_then (number_within 2 10000) (word_given option.UlogSize options)
+
+abbrev pub etype_given : List Given → Option Etype
+etype_given options = option_and_then etype_named (word_given option.Enctypes options)
+
+-- a random master key of enctype 18, and a log of 1000 entries, where nothing else is said
+abbrev pub spec_of : List ℕ → List Given → SpecParts
+spec_of realm options = record {
+  realm = realm;
+  password = word_given option.MasterPassword options;
+  etype = unwrap_or (etype_given options) Aes256;
+  size = unwrap_or (size_given options) 1000;
+}
+
+-- a bad value refuses
+abbrev pub unless_bad : Option Field → Words → Result Words Refusal
+unless_bad None words = Ok words
+unless_bad (Some field) words = Err (BadValue field)
+
+-- ---- the commands: `admin [-ulogsize N]`, `create REALM [-P PASS] [-e ETYPE] [-ulogsize N]` and `destroy [-f]`
+
+abbrev pub admin_by : Option (List Given) → Result Words Refusal
+admin_by None = Err BadLine
+admin_by (Some options) = unless_bad (first_bad_in options) (Admin (size_given options))
+
+-- the realm is judged before the options
+abbrev pub create_by : List ℕ → Option (List Given) → Result Words Refusal
+create_by realm None = Err BadLine
+create_by realm (Some options) = if is_realm realm then unless_bad (first_bad_in options) (Create (spec_of realm options)) else Err (BadValue field.Realm)
+
+-- the realm stands directly behind the command, whatever it is
+abbrev pub create_in : List (List ℕ) → Result Words Refusal
+create_in [] = Err BadLine
+create_in (realm ∷ words) = create_by realm (options_alone create_options words)
+
+abbrev pub destroy_by : Option (List Given) → Result Words Refusal
+destroy_by None = Err BadLine
+destroy_by (Some options) = Ok Destroy
+
+abbrev pub words_behind : List ℕ → List (List ℕ) → Result Words Refusal
 words_behind word words =
-    if bytes_eq word (codes "admin") then (if no_more words then Some Admin else None)
-    else if bytes_eq word (codes "create") then as_create words
-    else if bytes_eq word (codes "destroy") then (if no_more_but_f words then Some Destroy else None)
-    else None
+    if bytes_eq word (codes "admin") then admin_by (options_alone admin_options words)
+    else if bytes_eq word (codes "create") then create_in words
+    else if bytes_eq word (codes "destroy") then destroy_by (options_alone destroy_options words)
+    else Err BadLine
 
-unfoldable pub words_in : List (List ℕ) → Option Words
-words_in [] = None
+-- what the words ask for, or why they are refused: they are not of the grammar, or a value is bad
+unfoldable pub words_in : List (List ℕ) → Result Words Refusal
+words_in [] = Err BadLine
 words_in (word ∷ words) = words_behind word words
+
+-- the size of a log is one that a log may have
+abbrev pub AreSized : Result Words Refusal → Type 0
+AreSized (Ok (Admin size)) = IfSome size (λ n. (2 ≤ n) × (n ≤ 10000))
+AreSized (Ok other) = Unit {0}
+AreSized (Err refusal) = Unit {0}
+
+-- ---- words that stand alone
 
 -- the text that a word asks for where it stands alone
 abbrev pub text_for : List ℕ → Option (List ℕ)

@@ -12,12 +12,18 @@ use kdb_ports::{Sink, write_whole};
 pub const USAGE: &[u8] = b"\
 kdb_tool keeps the principal database of the folder that it is started in.
 usage:
-  kdb_tool create REALM [--]    makes a database of this realm
-  kdb_tool admin [--]           answers the lines of standard input
+  kdb_tool create REALM [-P PASS] [-e ETYPE] [-ulogsize N] [--]
+                                makes a database of this realm: its master key
+                                is made of PASS, else at random, and is of type
+                                ETYPE, else aes256-cts; its log holds N entries,
+                                else 1000
+  kdb_tool admin [-ulogsize N] [--]
+                                answers the lines of standard input; a log that
+                                does not hold N entries is begun anew
   kdb_tool destroy [-f] [--]    ends the database; -f has no effect
   kdb_tool --help               prints this
   kdb_tool --version            prints the version
-docs/COMMANDS.md describes the lines, the replies and the status.
+N is 2 to 10000. docs/COMMANDS.md describes the lines, the replies and the status.
 ";
 
 /// The answer to `--version`.

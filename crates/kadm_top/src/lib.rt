@@ -2,14 +2,9 @@
 #![tactic(auto)]
 
 pub mod alone;
-pub mod changes;
-pub mod clients;
-pub mod halts;
-pub mod intake;
-pub mod laws;
-pub mod replies;
+mod making;
 pub mod run;
-pub mod session;
+mod statuses;
 pub mod words;
 
 pub use alone::{say_text, text_alone};

@@ -1,19 +1,82 @@
-ghost use Rattle.std.specs.Prelude.{◌≡◌, Option, Some, map, IfOk};
-ghost use Rattle.std.specs.Str.{bytes_eq};
-ghost use Rattle.kadm_top.specs.Words.{no_more, no_more_but_f, words_in, words_behind, as_create};
+//! What the words of a run ask for.
 
-use kdb_base::{Blob, MemoryOut};
+ghost use Rattle.std.specs.Prelude.{◌≡◌, ◌≤◌, Some, map, option_map, IfOk, IfSome, unwrap_or};
+ghost use Rattle.std.specs.Str.{bytes_eq};
+ghost use Rattle.kadm_options.specs.OptionValues.{word_given};
+ghost use Rattle.kadm_options.specs.declared.options.OptionName.TheVariants as option;
+ghost use Rattle.kadm_top.specs.Words.{AreSized, admin_by, admin_options, create_by, create_in, create_options, destroy_by, destroy_options, etype_given, no_more, options_alone, size_given, spec_of, words_behind, words_in};
+ghost use Rattle.princ_name.specs.Realms.{IsRealm};
+
+use first_rows::CreateSpec;
+use kadm_options::{
+    Given, Opening, OptionName, Setting, ValueKind, are_single, find_word, first_bad, is_dashes,
+    read_options, read_within,
+};
+use kadm_values::read_etype;
+use kdb_base::{Blob, Etype, Field, MemoryOut, Refusal};
+use princ_name::{Realm, is_realm};
 use std::alloc::Global;
 
-/// What the words of a run ask for.
-#[derive(Debug, Drop)]
+/// What the words of a run ask for. It does not print itself: what it would print is a password.
+#[derive(Drop)]
 pub enum Words {
-    /// The lines of the input are answered over the database.
-    Admin,
-    /// A database of this realm is made. The realm is any word.
-    Create(Blob),
+    /// The lines of the input are answered over the database, whose log is to hold so many entries, 2 to
+    /// 10000, where a number is said.
+    Admin(Option<u32>),
+    /// A database is made.
+    Create(CreateSpec),
     /// The database is ended.
     Destroy,
+}
+
+/// How many entries the log of a new database holds.
+const LOG_SIZE: u32 = 1000;
+
+static ADMIN_OPTIONS: [Opening; 1] = [Opening::Value(Setting {
+    option: OptionName::UlogSize,
+    kind: ValueKind::Number(2, 10_000),
+    field: Field::UlogSize,
+})];
+
+static CREATE_OPTIONS: [Opening; 3] = [
+    Opening::Value(Setting {
+        option: OptionName::MasterPassword,
+        kind: ValueKind::Word,
+        field: Field::Value,
+    }),
+    Opening::Value(Setting {
+        option: OptionName::Enctypes,
+        kind: ValueKind::OneEtype,
+        field: Field::Enctypes,
+    }),
+    Opening::Value(Setting {
+        option: OptionName::UlogSize,
+        kind: ValueKind::Number(2, 10_000),
+        field: Field::UlogSize,
+    }),
+];
+
+static DESTROY_OPTIONS: [Opening; 1] = [Opening::Alone(OptionName::ShortForce)];
+
+#[tactic(auto, unfolding(crate::specs::Words::admin_options))]
+fn admin_options() -> &'static [Opening; 1]
+    ensures { result.now ≡ admin_options }
+{
+    &ADMIN_OPTIONS
+}
+
+#[tactic(auto, unfolding(crate::specs::Words::create_options))]
+fn create_options() -> &'static [Opening; 3]
+    ensures { result.now ≡ create_options }
+{
+    &CREATE_OPTIONS
+}
+
+#[tactic(auto, unfolding(crate::specs::Words::destroy_options))]
+fn destroy_options() -> &'static [Opening; 1]
+    ensures { result.now ≡ destroy_options }
+{
+    &DESTROY_OPTIONS
 }
 
 // The words are text by text.
@@ -23,85 +86,219 @@ pub(crate) fn is_word(word: &[u8], text: &[u8]) -> bool
     word == text
 }
 
-// Whether no word follows, but for the one that ends the options.
+// Whether no word is left, but for the one that ends the options.
 #[tactic(auto, unfolding(crate::specs::Words::no_more))]
-fn no_more(words: &[Vec<u8>]) -> bool
-    ensures { result ≡ no_more (map (λ word. word.items) words.now) }
+fn no_more(words: &[Blob]) -> bool
+    ensures { result ≡ no_more words.now }
 {
     match words {
         [] => true,
-        [word] => is_word(word.as_slice(), b"--"),
+        [word] => is_dashes(word.as_slice()),
         _ => false,
     }
 }
 
-// The same behind `-f`, which has no effect.
-#[tactic(auto, unfolding(crate::specs::Words::no_more_but_f))]
-fn no_more_but_f(words: &[Vec<u8>]) -> bool
-    ensures { result ≡ no_more_but_f (map (λ word. word.items) words.now) }
+// The options of the words, where no other word stands and each option stands at most once.
+#[tactic(auto, unfolding(crate::specs::Words::options_alone))]
+fn read_alone(
+    alloc: Global,
+    known: &[Opening],
+    words: &[Blob],
+) -> Result<Option<Vec<Given>>, MemoryOut>
+    ensures { IfOk result (λ found. option_map (λ options. options.items) found ≡ options_alone known.now words.now) }
 {
-    match words {
-        [] => true,
-        [word, rest @ ..] => {
-            if is_word(word.as_slice(), b"-f") {
-                no_more(rest)
-            } else {
-                no_more(words)
-            }
-        }
-    }
-}
-
-// The realm is the word directly behind `create`, whatever it is.
-fn read_create(alloc: Global, words: &[Vec<u8>]) -> Result<Option<Words>, MemoryOut>
-    ensures { IfOk result (λ found. found ≡ as_create (map (λ word. word.items) words.now)) }
-{
-    match words {
-        [] => Ok(None),
-        [realm, rest @ ..] => {
-            if no_more(rest) {
-                let realm = Blob::from_bytes(alloc, realm.as_slice())?;
-                Ok(Some(Words::Create(realm)))
+    match read_options(alloc, known, false, words)? {
+        Some(found) => {
+            if no_more(&words[found.count..]) && are_single(&found.options) {
+                Ok(Some(found.options))
             } else {
                 Ok(None)
             }
         }
+        None => Ok(None),
+    }
+}
+
+// The number of entries that the log is to hold, where one is said.
+fn size_given(options: &[Given]) -> Option<u32>
+    ensures value { result ≡ size_given options.now }
+    ensures within { IfSome result (λ n. (2 ≤ n) × (n ≤ 10000)) }
+{
+    match find_word(OptionName::UlogSize, options) {
+        Some(word) => match read_within(2, 10_000, word) {
+            Some(size) => Some(u32::from(size)),
+            None => None,
+        },
+        None => None,
+    }
+}
+
+// The type of the master key.
+fn etype_given(options: &[Given]) -> Etype
+    ensures { result ≡ unwrap_or (etype_given options.now) Etype.Aes256 }
+{
+    match find_word(OptionName::Enctypes, options) {
+        Some(word) => match read_etype(word) {
+            Some(etype) => etype,
+            None => Etype::Aes256,
+        },
+        None => Etype::Aes256,
+    }
+}
+
+fn password_given(alloc: Global, options: &[Given]) -> Result<Option<Blob>, MemoryOut>
+    ensures { IfOk result (λ password. password ≡ word_given option.MasterPassword options.now) }
+{
+    match find_word(OptionName::MasterPassword, options) {
+        Some(word) => {
+            let password = Blob::from_bytes(alloc, word)?;
+            Ok(Some(password))
+        }
+        None => Ok(None),
+    }
+}
+
+// How many entries the log of a new database is to hold.
+fn size_made(options: &[Given]) -> u32
+    ensures value { result ≡ unwrap_or (size_given options.now) 1000 }
+    ensures least { 2 ≤ result }
+    ensures most { result ≤ 10000 }
+{
+    match size_given(options) {
+        Some(size) => size,
+        None => LOG_SIZE,
+    }
+}
+
+fn spec_of(alloc: Global, realm: &[u8], options: &[Given]) -> Result<CreateSpec, MemoryOut>
+    requires { IsRealm realm.now }
+    ensures { IfOk result (λ spec. spec ≡ spec_of realm.now options.now) }
+{
+    let realm = Realm::from_bytes(alloc, realm)?;
+    let password = password_given(alloc, options)?;
+    Ok(CreateSpec::new(realm, password, etype_given(options), size_made(options)))
+}
+
+fn admin_by(alloc: Global, options: &[Given]) -> Result<Result<Words, Refusal>, MemoryOut>
+    ensures value { IfOk result (λ found. found ≡ admin_by (Some options.now)) }
+    ensures sized { IfOk result AreSized }
+{
+    match first_bad(alloc, options)? {
+        Some(field) => Ok(Err(Refusal::BadValue { field })),
+        None => Ok(Ok(Words::Admin(size_given(options)))),
+    }
+}
+
+fn create_by(
+    alloc: Global,
+    realm: &[u8],
+    options: &[Given],
+) -> Result<Result<Words, Refusal>, MemoryOut>
+    ensures value { IfOk result (λ found. found ≡ create_by realm.now (Some options.now)) }
+    ensures sized { IfOk result AreSized }
+{
+    if !is_realm(realm) {
+        return Ok(Err(Refusal::BadValue {
+            field: Field::Realm,
+        }));
+    }
+    match first_bad(alloc, options)? {
+        Some(field) => Ok(Err(Refusal::BadValue { field })),
+        None => {
+            let spec = spec_of(alloc, realm, options)?;
+            Ok(Ok(Words::Create(spec)))
+        }
+    }
+}
+
+fn read_admin(alloc: Global, words: &[Blob]) -> Result<Result<Words, Refusal>, MemoryOut>
+    ensures value { IfOk result (λ found. found ≡ admin_by (options_alone admin_options words.now)) }
+    ensures sized { IfOk result AreSized }
+{
+    match read_alone(alloc, admin_options(), words)? {
+        Some(options) => admin_by(alloc, &options),
+        None => Ok(Err(Refusal::BadLine)),
+    }
+}
+
+// The realm is the word directly behind `create`, whatever it is.
+fn read_create(alloc: Global, words: &[Blob]) -> Result<Result<Words, Refusal>, MemoryOut>
+    ensures value { IfOk result (λ found. found ≡ create_in words.now) }
+    ensures sized { IfOk result AreSized }
+{
+    match words {
+        [] => Ok(Err(Refusal::BadLine)),
+        [realm, rest @ ..] => match read_alone(alloc, create_options(), rest)? {
+            Some(options) => create_by(alloc, realm.as_slice(), &options),
+            None => Ok(Err(Refusal::BadLine)),
+        },
+    }
+}
+
+fn read_destroy(alloc: Global, words: &[Blob]) -> Result<Result<Words, Refusal>, MemoryOut>
+    ensures value { IfOk result (λ found. found ≡ destroy_by (options_alone destroy_options words.now)) }
+    ensures sized { IfOk result AreSized }
+{
+    match read_alone(alloc, destroy_options(), words)? {
+        Some(_) => Ok(Ok(Words::Destroy)),
+        None => Ok(Err(Refusal::BadLine)),
     }
 }
 
 // What the words behind the first ask for.
-fn read_behind(alloc: Global, word: &[u8], words: &[Vec<u8>]) -> Result<Option<Words>, MemoryOut>
-    ensures { IfOk result (λ found. found ≡ words_behind word.now (map (λ word. word.items) words.now)) }
+fn read_behind(
+    alloc: Global,
+    word: &[u8],
+    words: &[Blob],
+) -> Result<Result<Words, Refusal>, MemoryOut>
+    ensures value { IfOk result (λ found. found ≡ words_behind word.now words.now) }
+    ensures sized { IfOk result AreSized }
 {
     if is_word(word, b"admin") {
-        return Ok(if no_more(words) {
-            Some(Words::Admin)
-        } else {
-            None
-        });
+        return read_admin(alloc, words);
     }
     if is_word(word, b"create") {
         return read_create(alloc, words);
     }
     if is_word(word, b"destroy") {
-        return Ok(if no_more_but_f(words) {
-            Some(Words::Destroy)
-        } else {
-            None
-        });
+        return read_destroy(alloc, words);
     }
-    Ok(None)
+    Ok(Err(Refusal::BadLine))
 }
 
-/// What the words ask for: `admin`, `create REALM` or `destroy [-f]`, each with `--` as its last word or
-/// without. The realm is the word behind `create`, whatever it is. Nothing, where they are not of this
-/// grammar.
 #[tactic(auto, unfolding(crate::specs::Words::words_in))]
-pub fn read_words(alloc: Global, words: &[Vec<u8>]) -> Result<Option<Words>, MemoryOut>
-    ensures { IfOk result (λ found. found ≡ words_in (map (λ word. word.items) words.now)) }
+fn read_copied(alloc: Global, words: &[Blob]) -> Result<Result<Words, Refusal>, MemoryOut>
+    ensures value { IfOk result (λ found. found ≡ words_in words.now) }
+    ensures sized { IfOk result AreSized }
 {
     match words {
-        [] => Ok(None),
+        [] => Ok(Err(Refusal::BadLine)),
         [word, rest @ ..] => read_behind(alloc, word.as_slice(), rest),
     }
+}
+
+fn copy_words(alloc: Global, words: &[Vec<u8>]) -> Result<Vec<Blob>, MemoryOut>
+    ensures { IfOk result (λ copies. copies.items ≡ map (λ word. word.items) words.now) }
+{
+    let mut copies = Vec::new(alloc);
+    for word in words {
+        copies.push(Blob::from_bytes(alloc, word.as_slice())?)?;
+    }
+    Ok(copies)
+}
+
+/// What the words ask for: `admin [-ulogsize N]`, `create REALM [-P PASS] [-e ETYPE] [-ulogsize N]` or
+/// `destroy [-f]`, each with `--` as its last word or without. The realm is the word behind `create`,
+/// whatever it is. Only want of memory can refuse the reading itself.
+///
+/// # Errors
+///
+/// Inside, `BadLine` where the words are not of this grammar, and else `BadValue` of the first bad value:
+/// of the realm, and then of the options in their order.
+pub fn read_words(alloc: Global, words: &[Vec<u8>]) -> Result<Result<Words, Refusal>, MemoryOut>
+    ensures value { IfOk result (λ found. found ≡ words_in (map (λ word. word.items) words.now)) }
+    ensures sized { IfOk result AreSized }
+{
+    let copies = copy_words(alloc, words)?;
+    read_copied(alloc, &copies)
 }

@@ -4,7 +4,7 @@
 use kadm_top::{run_local, say_text, text_alone};
 use kdb_base::Status;
 use kdb_disk::Folder;
-use kdb_ports::{ReaderSource, SystemClock, WriterSink, ZeroEntropy};
+use kdb_ports::{ReaderSource, SeededEntropy, SystemClock, WriterSink};
 use std::alloc::Global;
 use std::io::ErrorKind;
 use std::process::ExitCode;
@@ -36,6 +36,7 @@ fn main(rt: HostRuntime) -> ExitCode {
     let mut source = ReaderSource::new(rt.stdin());
     let mut disk = Folder::new(&rt, alloc, ".");
     let mut clock = SystemClock::new(&rt);
+    let mut entropy = SeededEntropy::new(&rt);
     let status = run_local(
         alloc,
         &words,
@@ -43,7 +44,7 @@ fn main(rt: HostRuntime) -> ExitCode {
         &mut sink,
         &mut disk,
         &mut clock,
-        &mut ZeroEntropy,
+        &mut entropy,
     );
     ExitCode::from(status.code())
 }

@@ -2,11 +2,12 @@
 ghost use Rattle.std.specs.Prelude.{◌<◌};
 
 use crate::rim::Still;
+use crate::runs::words_of;
 use kadm_top::run_local;
 use kdb_base::Status;
 use kdb_disk::folder::NAMES;
 use kdb_disk::{Disk, DiskFailed, FILES, FileReader, Folder};
-use kdb_ports::{ReaderSource, SystemClock, WriterSink, ZeroEntropy};
+use kdb_ports::{ReaderSource, SeededEntropy, SystemClock, WriterSink};
 use std::alloc::Global;
 use std::fs;
 use std::fs::{File, Permissions};
@@ -51,7 +52,7 @@ fn wide_bits(rt: &HostRuntime, folder: &str, name: &str) -> Result<u32, Fail> {
     Ok(fs::metadata(rt, path.as_str())?.mode() & 0o7177)
 }
 
-/// A run over a folder: its status, and what it wrote. The words are separated by spaces.
+/// A run over a folder with random bytes of the system: its status, and what it wrote.
 fn run_in(
     rt: &HostRuntime,
     folder: &str,
@@ -59,23 +60,21 @@ fn run_in(
     input: &[u8],
 ) -> Result<(Status, Vec<u8>), Fail> {
     let alloc = rt.alloc();
-    let mut list = Vec::new(alloc);
-    for word in words.split(' ') {
-        list.push(word.as_bytes().to_vec(alloc)?)?;
-    }
+    let words = words_of(alloc, words)?;
     let mut source = ReaderSource::new(input);
     let mut sink = WriterSink::new(Vec::new(alloc));
     let mut disk = Folder::new(rt, alloc, folder);
     let since_1970 = Some(Duration::new(1_700_000_000, 123_456_789));
     let mut clock = SystemClock::new(Still { since_1970 });
+    let mut entropy = SeededEntropy::new(rt);
     let status = run_local(
         alloc,
-        &list,
+        &words,
         &mut source,
         &mut sink,
         &mut disk,
         &mut clock,
-        &mut ZeroEntropy,
+        &mut entropy,
     );
     Ok((status, sink.into_writer()))
 }
@@ -116,7 +115,7 @@ const RUNS: [(&str, &[u8], Status, &[u8]); 10] = [
     ),
     (
         "admin",
-        b"delprinc a\nlistprincs\n",
+        b"delprinc a\nlistprincs a*\n",
         Status::Done,
         b"ok 3 1700000000.123456\nok\n",
     ),
@@ -147,6 +146,8 @@ fn a_database_in_a_folder(rt: HostRuntime) -> Result<(), Fail> {
     }
     assert_eq!(rt; wide_bits(&rt, folder.as_str(), "control")?, 0);
     assert_eq!(rt; wide_bits(&rt, folder.as_str(), "image.0")?, 0);
+    assert_eq!(rt; wide_bits(&rt, folder.as_str(), "log.0")?, 0);
+    assert_eq!(rt; wide_bits(&rt, folder.as_str(), "stash.0")?, 0);
     fs::remove_dir_all(&rt, folder.as_str())?;
     Ok(())
 }

@@ -9,8 +9,14 @@ mod faults;
 #[cfg(test)]
 mod folders;
 #[cfg(test)]
+mod keys;
+#[cfg(test)]
 mod lines;
 #[cfg(test)]
 mod rim;
 #[cfg(test)]
+mod rules;
+#[cfg(test)]
 mod runs;
+#[cfg(test)]
+mod stores;

@@ -1,12 +1,12 @@
 //! The adapters over readers, writers and clocks, and what is answered to words that stand alone.
 
+use crate::runs::words_of;
 use kadm_top::alone::{USAGE, VERSION};
 use kadm_top::{say_text, text_alone};
 use kdb_base::Status;
 use kdb_ports::{
     Clock, ReadFailed, ReaderSource, Sink, Source, SystemClock, WriteFailed, WriterSink,
 };
-use std::alloc::Global;
 use std::io::{ErrorKind, Read, Write};
 use std::test::Fail;
 use std::time::Duration;
@@ -146,15 +146,6 @@ fn a_writer_gets_what_is_written(rt: HostRuntime) -> Result<(), Fail> {
     let mut full = WriterSink::new(&mut [] as &mut [u8]);
     assert_eq!(rt; full.write(b"abcd"), Err(WriteFailed));
     Ok(())
-}
-
-/// The words of a command line.
-fn words_of(alloc: Global, line: &str) -> Result<Vec<Vec<u8>>, Fail> {
-    let mut words = Vec::new(alloc);
-    for word in line.split(' ') {
-        words.push(word.as_bytes().to_vec(alloc)?)?;
-    }
-    Ok(words)
 }
 
 #[test]

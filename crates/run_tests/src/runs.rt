@@ -3,7 +3,7 @@
 use kadm_top::run_local;
 use kdb_base::{Blob, Fails, Status, Time};
 use kdb_disk::MemoryDisk;
-use kdb_ports::{MemoryClock, MemorySink, MemorySource, ZeroEntropy};
+use kdb_ports::{ChaChaEntropy, MemoryClock, MemorySink, MemorySource};
 use std::alloc::Global;
 use std::process::Abort;
 use std::test::Fail;
@@ -15,46 +15,59 @@ pub(crate) struct Outcome {
     pub replies: Vec<u8>,
 }
 
-/// The calls of the source and the sink that are to fail, by their numbers.
+/// The calls of the source, the sink and the source of random bytes that are to fail, by their numbers.
 #[derive(Clone, Copy)]
 pub(crate) struct Faults<'a> {
     pub source: &'a [u64],
     pub sink: &'a [u64],
+    pub draws: &'a [u64],
 }
 
 pub(crate) const NO_FAULTS: Faults<'static> = Faults {
     source: &[],
     sink: &[],
+    draws: &[],
 };
+
+/// The second at which the clock of these runs stands, 2023-11-14T22:13:20Z.
+const SECS: u32 = 1_700_000_000;
 
 pub(crate) fn fails(alloc: Global, calls: &[u64]) -> Result<Fails, Fail> {
     Ok(Fails::from_vec(calls.to_vec(alloc)?))
 }
 
-/// A run at the clock 1700000000.000000. The words are separated by spaces.
-pub(crate) fn run(
+/// The words of a command line, separated by spaces.
+pub(crate) fn words_of(alloc: Global, line: &str) -> Result<Vec<Vec<u8>>, Fail> {
+    let mut words = Vec::new(alloc);
+    for word in line.split(' ') {
+        words.push(word.as_bytes().to_vec(alloc)?)?;
+    }
+    Ok(words)
+}
+
+/// A run at a moment, with the random bytes of ChaCha20 under 32 zeros.
+pub(crate) fn run_at(
     alloc: Global,
     disk: &mut MemoryDisk,
     words: &str,
     input: &[u8],
     faults: &Faults,
+    now: Time,
 ) -> Result<Outcome, Fail> {
-    let mut list = Vec::new(alloc);
-    for word in words.split(' ') {
-        list.push(word.as_bytes().to_vec(alloc)?)?;
-    }
+    let words = words_of(alloc, words)?;
     let input = Blob::from_bytes(alloc, input)?;
     let mut source = MemorySource::new(input, fails(alloc, faults.source)?);
     let mut sink = MemorySink::new(alloc, fails(alloc, faults.sink)?)?;
-    let mut clock = MemoryClock::new(Time::new(1_700_000_000, 0));
+    let mut clock = MemoryClock::new(now);
+    let mut entropy = ChaChaEntropy::new(&[0; 32], fails(alloc, faults.draws)?);
     let status = run_local(
         alloc,
-        &list,
+        &words,
         &mut source,
         &mut sink,
         disk,
         &mut clock,
-        &mut ZeroEntropy,
+        &mut entropy,
     );
     Ok(Outcome {
         status,
@@ -62,12 +75,100 @@ pub(crate) fn run(
     })
 }
 
+/// A run at the clock 1700000000.000000.
+pub(crate) fn run(
+    alloc: Global,
+    disk: &mut MemoryDisk,
+    words: &str,
+    input: &[u8],
+    faults: &Faults,
+) -> Result<Outcome, Fail> {
+    run_at(alloc, disk, words, input, faults, Time::new(SECS, 0))
+}
+
 pub(crate) fn check(rt: &impl Abort, outcome: &Outcome, status: Status, replies: &[u8]) {
     assert_eq!(rt; outcome.status, status);
     assert_eq!(rt; outcome.replies.as_slice(), replies);
 }
 
-/// A disk with the database of EXAMPLE.ORG, of which these calls are to fail.
+/// Runs without input, and compares the reply.
+pub(crate) fn check_words(
+    rt: &impl Abort,
+    alloc: Global,
+    disk: &mut MemoryDisk,
+    words: &str,
+    reply: &[u8],
+) -> Result<(), Fail> {
+    let outcome = run(alloc, disk, words, b"", &NO_FAULTS)?;
+    let status = if reply.starts_with(b"err") {
+        Status::Refused
+    } else {
+        Status::Done
+    };
+    check(rt, &outcome, status, reply);
+    Ok(())
+}
+
+/// A line of `admin`, and what is answered to it, without its last line feed; nothing for a line without a
+/// reply.
+pub(crate) type Turn = (&'static str, &'static str);
+
+fn push_line(out: &mut Vec<u8>, line: &str) -> Result<(), Fail> {
+    out.extend_from_slice(line.as_bytes())?;
+    out.push(b'\n')?;
+    Ok(())
+}
+
+/// Runs `admin` with these lines, and compares all replies.
+pub(crate) fn check_turns(
+    rt: &impl Abort,
+    alloc: Global,
+    disk: &mut MemoryDisk,
+    words: &str,
+    turns: &[Turn],
+) -> Result<(), Fail> {
+    let mut input = Vec::new(alloc);
+    let mut replies = Vec::new(alloc);
+    let mut status = Status::Done;
+    for (line, reply) in turns.iter() {
+        push_line(&mut input, line)?;
+        if !reply.is_empty() {
+            push_line(&mut replies, reply)?;
+        }
+        if reply.starts_with("err") {
+            status = Status::Refused;
+        }
+    }
+    let outcome = run(alloc, disk, words, &input, &NO_FAULTS)?;
+    check(rt, &outcome, status, &replies);
+    Ok(())
+}
+
+/// So many times the same byte.
+pub(crate) fn repeated(alloc: Global, byte: u8, count: usize) -> Result<Vec<u8>, Fail> {
+    Ok(vec![in alloc; byte; count]?)
+}
+
+/// Runs `admin` with these lines over a new database, and compares all replies.
+pub(crate) fn check_session(rt: &impl Abort, alloc: Global, turns: &[Turn]) -> Result<(), Fail> {
+    let mut disk = created(alloc, &[])?;
+    check_turns(rt, alloc, &mut disk, "admin", turns)
+}
+
+/// Runs `admin` with this input over a new database, and compares the last of the replies.
+pub(crate) fn check_last(
+    rt: &impl Abort,
+    alloc: Global,
+    input: &[u8],
+    last: &[u8],
+) -> Result<(), Fail> {
+    let mut disk = created(alloc, &[])?;
+    let outcome = run(alloc, &mut disk, "admin", input, &NO_FAULTS)?;
+    assert!(rt; outcome.replies.ends_with(last));
+    Ok(())
+}
+
+/// A disk with the database of EXAMPLE.ORG, with a random master key. These calls of the disk are to fail.
 pub(crate) fn created(alloc: Global, disk_fails: &[u64]) -> Result<MemoryDisk, Fail> {
     let mut disk = MemoryDisk::new(alloc, fails(alloc, disk_fails)?)?;
     run(alloc, &mut disk, "create EXAMPLE.ORG", b"", &NO_FAULTS)?;

@@ -1,60 +1,40 @@
-use Rattle.std.proofs.Common.{◌∙◌, ap, subst, List, Option, false}
-use Rattle.kdb_disk.specs.Moments.{LeavesOnly}
-use Rattle.image_store.specs.Places.{place_of}
-use Rattle.kadm_top.specs.Run.{among_places, input_commands}
-use Rattle.kadm_top.specs.declared.intake.Asked.{Asked}
-use Rattle.kadm_top.specs.Steps.{ending}
-use Rattle.kadm_top.specs.Stops.{IsAtRest, IsStopped, Rests, Stops}
-use Rattle.kadm_top.proofs.OneCommand.{among_still, holds_stands}
-use Rattle.kadm_top.proofs.Turning.{rests_here, stops_here}
-use Rattle.kadm_top.proofs.Running.{run_ended, fresh_coming, fresh_taken, short_input, were_taken}
+use Rattle.std.proofs.Common.{false, subst}
+use Rattle.std.proofs.lemmas.Result.{on_ok_weaker}
+use Rattle.kadm_session.specs.Courses.{Course, course}
+use Rattle.kadm_session.specs.Draws.{told_draws}
+use Rattle.kadm_session.specs.Intake.{coming}
+use Rattle.kadm_top.proofs.Courses.{course_run, fresh_course, fresh_taken, read_whole, were_taken}
 use Rattle.kadm_top.proofs.run.session.Goals as goal
+use Rattle.kadm_top.specs.Run.{HasCourse, told}
+use Rattle.kdb_histories.specs.Seen.{seen}
+use Rattle.primary_core.specs.Opened.{place_of}
 
-pub returns-in-Err-clause-stopped : goal.returns-in-Err-clause-stopped
-returns-in-Err-clause-stopped g c = λ told. stops_here _ _ _ _ _ (holds_stands (c.requires.holds told))
+pub returns-clause-course : goal.returns-clause-course
+returns-clause-course g c = λ tells s has.
+    let draws = told_draws (g.C.Clock.moments c.args.clock.now) (g.E.Entropy.stream c.args.entropy.now) in
+    let at = seen (place_of c.args.opened) s in
+    let its = course (g.K.Sink.taken c.args.sink.now) false (coming at.place.realm c.args.reader.now (g.S.Source.left c.args.source.now)) draws at in
+    subst (λ (x : Course). HasCourse x (g.D.Disk.view c.args.disk.now) (g.D.Disk.view c.serve-answered.new.disk)
+    (told (g.K.Sink.taken c.serve-answered.new.sink) (g.S.Source.left c.serve-answered.new.source) (told_draws (g.C.Clock.moments c.serve-answered.new.clock) (g.E.Entropy.stream c.serve-answered.new.entropy))) c.serve-answered.result)
+    (fresh_course (g.K.Sink.taken c.args.sink.now) (g.S.Source.left c.args.source.now) draws c.args.reader.now (seen (place_of c.args.opened) s) c.requires.front)
+    (course_run {c = its} c.serve-answered.new.primary c.serve-answered.result
+    (λ end e. c.serve-answered.ensures.ended s end has e)
+    (on_ok_weaker c.serve-answered.result (c.what_is_kept_is_recovered.ensures _) (c.serve-answered.ensures.on tells))
+    (c.serve-answered.ensures.stopped tells s has) (c.serve-answered.ensures.memory tells s has) (c.serve-answered.ensures.drawn tells s has)
+    (c.serve-answered.ensures.read tells s has) (c.serve-answered.ensures.at_limit tells s has) (c.serve-answered.ensures.moments tells s has))
 
-pub returns-in-Err-clause-moments : goal.returns-in-Err-clause-moments
-returns-in-Err-clause-moments g c = λ told. among_still _ (input_commands (place_of c.args.opened).realm (g.S.Source.left c.args.source.now)) _ (c.requires.holds told)
-
-pub returns-in-Ok-serve-clause-ended : goal.returns-in-Ok-serve-clause-ended
-returns-in-Ok-serve-clause-ended g c = λ told end e.
-    run_ended _ c.in-Ok-serve.refused _ _ _ end
-    (c.in-Ok-serve.ensures.ended end (ap (λ (commands : Option (List Asked)). ending (g.K.Sink.taken c.args.sink.now) false commands (g.C.Clock.moments c.args.clock.now) (place_of c.args.opened)) (fresh_coming (place_of c.args.opened).realm _ (g.S.Source.left c.args.source.now) c.in-Ok.ensures) ∙ e))
-    (c.in-Ok-serve.ensures.holds told)
-
-pub returns-in-Ok-serve-clause-spent : goal.returns-in-Ok-serve-clause-spent
-returns-in-Ok-serve-clause-spent g c =
-    (c.in-Ok-serve.ensures.takes (g.S.Source.left c.args.source.now) (fresh_taken _ (g.S.Source.left c.args.source.now) c.in-Ok.ensures)).spent c.in-Ok-serve.ensures.over
-
-pub returns-in-Ok-serve-clause-short : goal.returns-in-Ok-serve-clause-short
-returns-in-Ok-serve-clause-short g c =
-    short_input (g.S.Source.left c.args.source.now) _ _
-    (c.in-Ok-serve.ensures.takes (g.S.Source.left c.args.source.now) (fresh_taken _ (g.S.Source.left c.args.source.now) c.in-Ok.ensures)) c.in-Ok-serve.ensures.over
-
-pub returns-in-Ok-serve-clause-moments : goal.returns-in-Ok-serve-clause-moments
-returns-in-Ok-serve-clause-moments g c = λ told.
-    subst (λ (commands : Option (List Asked)). LeavesOnly (g.D.Disk.view c.args.disk.now) (g.D.Disk.view c.serve.new.disk) (among_places commands (g.C.Clock.moments c.args.clock.now) (place_of c.args.opened)))
-    (fresh_coming (place_of c.args.opened).realm _ (g.S.Source.left c.args.source.now) c.in-Ok.ensures) (c.serve.ensures.moments told)
-
-pub returns-clause-moments : goal.returns-clause-moments
-returns-clause-moments g c = λ told.
-    subst (λ (commands : Option (List Asked)). LeavesOnly (g.D.Disk.view c.args.disk.now) (g.D.Disk.view c.serve.new.disk) (among_places commands (g.C.Clock.moments c.args.clock.now) (place_of c.args.opened)))
-    (fresh_coming (place_of c.args.opened).realm _ (g.S.Source.left c.args.source.now) c.in-Ok.ensures) (c.serve.ensures.moments told)
-
-pub returns-clause-stopped : goal.returns-clause-stopped
-returns-clause-stopped g c = λ told.
-    subst (λ (commands : Option (List Asked)). IsStopped (Stops (g.K.Sink.taken c.args.sink.now) commands (g.C.Clock.moments c.args.clock.now) (place_of c.args.opened)) (g.K.Sink.taken c.serve.new.sink) (g.D.Disk.view c.serve.new.disk))
-    (fresh_coming (place_of c.args.opened).realm _ (g.S.Source.left c.args.source.now) c.in-Ok.ensures) (c.in-Err-serve.ensures.stopped told)
+pub returns-clause-read : goal.returns-clause-read
+returns-clause-read g c =
+    read_whole c.serve-answered.result (g.S.Source.left c.args.source.now) _ _ (c.serve-answered.ensures.takes (g.S.Source.left c.args.source.now) (fresh_taken _ _ c.requires.front)) c.serve-answered.ensures.over
 
 pub returns-clause-too_long : goal.returns-clause-too_long
 returns-clause-too_long g c = λ is.
-    were_taken 4294967296 (g.S.Source.left c.args.source.now) _ _
-    (c.serve.ensures.takes (g.S.Source.left c.args.source.now) (fresh_taken _ (g.S.Source.left c.args.source.now) c.in-Ok.ensures)) (c.serve.ensures.too_long (c.in-Err-serve.is ∙ is))
+    were_taken 4294967296 (g.S.Source.left c.args.source.now) _ _ (c.serve-answered.ensures.takes (g.S.Source.left c.args.source.now) (fresh_taken _ _ c.requires.front)) (c.serve-answered.ensures.too_long is)
 
-pub returns-in-Err-clause-memory : goal.returns-in-Err-clause-memory
-returns-in-Err-clause-memory g c = λ told is. rests_here _ _ _ _ _ (holds_stands (c.requires.holds told))
-
-pub returns-clause-memory : goal.returns-clause-memory
-returns-clause-memory g c = λ told is.
-    subst (λ (commands : Option (List Asked)). IsAtRest (Rests (g.K.Sink.taken c.args.sink.now) commands (g.C.Clock.moments c.args.clock.now) (place_of c.args.opened)) (g.K.Sink.taken c.serve.new.sink) (g.D.Disk.view c.serve.new.disk))
-    (fresh_coming (place_of c.args.opened).realm _ (g.S.Source.left c.args.source.now) c.in-Ok.ensures) (c.serve.ensures.memory told (c.in-Err-serve.is ∙ is))
+pub returns-clause-causes : goal.returns-clause-causes
+returns-clause-causes g c = record {
+  reads = c.serve-answered.ensures.reads;
+  writes = c.serve-answered.ensures.writes;
+  calls = record { later = c.serve-answered.ensures.call.later; cause = c.serve-answered.ensures.call.cause };
+  draws = c.serve-answered.ensures.draws;
+}

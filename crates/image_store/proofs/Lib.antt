@@ -1,5 +1,0 @@
-pub mod Finding
-pub mod Ranges
-pub mod Making
-pub mod Lengths
-pub mod Rows

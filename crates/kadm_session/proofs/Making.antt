@@ -1,0 +1,190 @@
+-- What was decided and made, as the ask of a line.
+use Rattle.std.proofs.Common.{◌≡◌, ◌∙◌, ℕ, List, [], ◌∷◌, Bool, true, false, if◌then◌else◌, refl, ap, sym, subst, inl}
+use Rattle.std.proofs.lemmas.Option.{same_Some}
+use Rattle.std.specs.Prelude.{Option, Some, None, Result, Ok, Err, IfOk, IfSome, OnOk, option_map}
+use Rattle.iprop_truths.specs.Parts.{end_of}
+use Rattle.kadm_commands.specs.declared.commands.Command.{Command}
+use Rattle.kadm_commands.specs.declared.replies.Reply.{Reply}
+use Rattle.kdb_base.specs.Moment.{Moment}
+use Rattle.kdb_disk.specs.Files.{Files}
+use Rattle.kdb_disk.specs.Frames.{IsCrashSafe}
+use Rattle.kdb_disk.specs.Moments.{LeavesOnly}
+use Rattle.kdb_disk.specs.declared.disk.Disk.{Ghosts}
+use Rattle.kdb_disk.proofs.Runs.{started}
+use Rattle.kdb_histories.specs.Asks.{Ask, Replied, clock_of}
+use Rattle.kdb_histories.specs.Moves.{IsLeft}
+use Rattle.kdb_histories.specs.Seen.{Seen, after_ask, answer_at, changed, entry_point, is_due, made_at, seen}
+use Rattle.kdb_histories.specs.Stages.{places}
+use Rattle.kdb_places.specs.Places.{Place}
+use Rattle.kdb_plain.specs.declared.states.State.{State}
+use Rattle.kdb_ports.specs.Told.{later_bytes, later_moments}
+use Rattle.performed_plans.specs.Ready.{change_places}
+use Rattle.primary_core.specs.Opened.{HasState, IsDecided, MayMake, Opened, made_for, place_of}
+use Rattle.princ_entries.specs.declared.entries.Op.{Op}
+use Rattle.store_files.specs.Found.{recovers}
+use Rattle.store_files.specs.Recovery.{LeavesPart, RecoversTo}
+use Rattle.kadm_session.specs.Deciding.{AreMade, Answers, Decides, IsLineSafe, StandsAt}
+use Rattle.kadm_session.specs.Draws.{Draws, bytes_of, told_draws}
+use Rattle.kadm_session.specs.Steps.{ask_at, places_by, reply_in_answer, reply_to, seen_after}
+use Rattle.kadm_session.specs.declared.commands.Judged.{Judged}
+use Rattle.kadm_session.specs.declared.intake.Asked.{Asked}
+use Rattle.kadm_session.specs.declared.replies.Printed.{Printed}
+use Rattle.kadm_session.specs.declared.intake.Asked.TheVariants.{Does}
+
+-- ---- a crash leaves the place where nothing is done
+
+pub leaves_first : (p : Place) (places : List Place) (c : Files) → recovers c ≡ Ok p → LeavesPart p places c
+unfolding LeavesPart
+leaves_first p [] c is = is
+leaves_first p (q ∷ places) c is = inl is
+
+pub crash_still : {D : Type 0} (g : Ghosts D) (old new : D) (p : Place) (places : List Place) → new ≡ old → (g.tells → RecoversTo p (g.view old)) → IsCrashSafe g old new (LeavesPart p places)
+crash_still {D} g old new p places same recovered = record {
+  told = λ tells.
+      subst (λ (x : D). LeavesOnly (g.view old) (g.view x) (LeavesPart p places)) (sym same)
+      (started (g.view old) (LeavesPart p places) (λ c image. leaves_first p places c (recovered tells c image)));
+}
+
+made_told : Asked → Option Draws → Seen → List Place
+made_told asked None at = []
+made_told asked (Some draws) at = places_by asked draws at
+
+made_so : (asked : Asked) (told : Option Draws) (at : Seen) → AreMade asked told at (made_told asked told at)
+unfolding made_told
+made_so asked None at = tt
+made_so asked (Some draws) at = refl
+
+pub safe_still : {D : Type 0} (g : Ghosts D) (old new : D) (asked : Asked) (told : Option Draws) (at : Seen) → new ≡ old → (g.tells → RecoversTo at.place (g.view old)) → IsLineSafe g old new asked told at
+safe_still g old new asked told at same recovered = record {
+  made = made_told asked told at;
+  are = made_so asked told at;
+  safe = crash_still g old new at.place (made_told asked told at) same recovered;
+}
+
+-- ---- nothing is to be made, or a change
+
+-- the change that was judged may be made
+pub may_make : {E : Type 0} (r : Result Judged E) (made op : Op) (o : Opened) (now : Moment) → IfOk r (λ j. j.change ≡ Some made) → MayMake o now made
+    → IfOk r (λ j. j.change ≡ Some op → MayMake o now op)
+may_make (Ok judged) made op o now is may = λ other. subst (λ (x : Op). MayMake o now x) (same_Some made op (sym is ∙ other)) may
+may_make (Err fault) made op o now is may = tt
+
+-- what is open stays where it is
+pub stands_still : ((o : Opened) (ask : Ask) (reply : Reply) (s : State) → IsDecided o ask reply None → HasState o s → after_ask ask (seen (place_of o) s) ≡ seen (place_of o) s)
+    → (o : Opened) (ask : Ask) (reply : Reply) (change : Option Op) (s : State) → change ≡ None → IsDecided o ask reply change → HasState o s
+    → StandsAt o (after_ask ask (seen (place_of o) s))
+stands_still keeps o ask reply change s none is has =
+    subst (λ (at : Seen). StandsAt o at) (sym (keeps o ask reply s (subst (λ (x : Option Op). IsDecided o ask reply x) none is) has))
+    (record { place_is = refl; shows = has })
+
+-- the places of a change
+pub places_are : ((ask : Ask) (op : Op) (p : Place) → places (changed ask op p) ≡ change_places (clock_of ask) op p)
+    → (o : Opened) (ask : Ask) (reply : Reply) (change : Option Op) (op : Op) (s : State) (now : Moment) → clock_of ask ≡ now → change ≡ Some op → IsDecided o ask reply change → HasState o s
+    → places (made_at ask (seen (place_of o) s)) ≡ change_places now op (place_of o)
+places_are law o ask reply change op s now clock some is has =
+    ap places (sym (is.performs s has).is)
+    ∙ ap (λ (x : Option Op). places (made_for ask x (place_of o))) some
+    ∙ law ask op (place_of o)
+    ∙ ap (λ (m : Moment). change_places m op (place_of o)) clock
+
+-- a crash leaves the place of before, or one of the change
+pub crash_changing : {D : Type 0} (g : Ghosts D) (old new : D) (p : Place) (made others : List Place) → others ≡ made → IsCrashSafe g old new (LeavesPart p made) → IsCrashSafe g old new (LeavesPart p others)
+crash_changing g old new p made others same safe = subst (λ (places : List Place). IsCrashSafe g old new (LeavesPart p places)) (sym same) safe
+
+-- what is open has come to the change's place
+pub stands_changed :
+    ((o : Opened) (ask : Ask) (reply : Reply) (op : Option Op) (s : State) → IsDecided o ask reply op → HasState o s → (after_ask ask (seen (place_of o) s)).place ≡ end_of (place_of o) (places (made_for ask op (place_of o))))
+    → ((ask : Ask) (op : Op) (p : Place) → places (changed ask op p) ≡ change_places (clock_of ask) op p)
+    → (o new : Opened) (ask : Ask) (reply : Reply) (change : Option Op) (op : Op) (s : State) (now : Moment) → clock_of ask ≡ now → change ≡ Some op → IsDecided o ask reply change → HasState o s
+    → place_of new ≡ end_of (place_of o) (change_places now op (place_of o))
+    → HasState new (after_ask ask (seen (place_of o) s)).state
+    → StandsAt new (after_ask ask (seen (place_of o) s))
+stands_changed ends law o new ask reply change op s now clock some is has place shows = record {
+  place_is =
+      place
+      ∙ ap (λ (m : Moment). end_of (place_of o) (change_places m op (place_of o))) (sym clock)
+      ∙ ap (end_of (place_of o)) (sym (law ask op (place_of o)))
+      ∙ ap (λ (x : Option Op). end_of (place_of o) (places (made_for ask x (place_of o)))) (sym some)
+      ∙ sym (ends o ask reply change s is has);
+  shows = shows;
+}
+
+-- it shows the state behind the change
+pub shows_changed :
+    ((o : Opened) (ask : Ask) (reply : Reply) (op : Op) (s : State) → IsDecided o ask reply (Some op) → HasState o s
+    → IsLeft (place_of o).realm (entry_point (clock_of ask) op (place_of o)) op (place_of o).rows (after_ask ask (seen (place_of o) s)).state)
+    → ((o : Opened) (ask : Ask) (reply : Reply) (op : Option Op) (s : State) → IsDecided o ask reply op → HasState o s → (after_ask ask (seen (place_of o) s)).state.masters ≡ o.masters)
+    → (o new : Opened) (ask : Ask) (reply : Reply) (change : Option Op) (op : Op) (s : State) (now : Moment) → clock_of ask ≡ now → change ≡ Some op → IsDecided o ask reply change → HasState o s
+    → ((t : State) → IsLeft (place_of o).realm (entry_point now op (place_of o)) op (place_of o).rows t → t.masters ≡ o.masters → HasState new t)
+    → HasState new (after_ask ask (seen (place_of o) s)).state
+shows_changed leaves masters o new ask reply change op s now clock some is has shows =
+    let t = (after_ask ask (seen (place_of o) s)).state in
+    shows t
+    (subst (λ (m : Moment). IsLeft (place_of o).realm (entry_point m op (place_of o)) op (place_of o).rows t) clock
+    (leaves o ask reply op s (subst (λ (x : Option Op). IsDecided o ask reply x) some is) has))
+    (masters o ask reply change s is has)
+
+realm_by : (due : Bool) (p first second other : Place) → second.realm ≡ p.realm → other.realm ≡ p.realm → (end_of p (if due then first ∷ second ∷ [] else other ∷ [])).realm ≡ p.realm
+realm_by true p first second other late early = late
+realm_by false p first second other late early = early
+
+-- a change keeps the realm
+pub change_realm : (clock : Moment) (op : Op) (p : Place) → (end_of p (change_places clock op p)).realm ≡ p.realm
+change_realm clock op p = realm_by (is_due op p) p _ _ _ refl refl
+
+-- ---- as it is told
+
+-- a command that was done at this moment with these bytes
+pub decides_done : (cmd : Command) (moments moments' : Option (ℕ → Moment)) (stream stream' : Option (ℕ → ℕ)) (now : Moment) (random : List ℕ) (at : Seen) (answer : Reply) (o : Opened)
+    → IfSome moments (λ f. now ≡ f 0) → moments' ≡ option_map later_moments moments
+    → IfSome stream (λ f. random ≡ bytes_of 2048 f) → stream' ≡ option_map (later_bytes 2048) stream
+    → answer_at (ask_at cmd now random at) at ≡ Replied answer → StandsAt o (after_ask (ask_at cmd now random at) at)
+    → Decides (Does cmd) (told_draws moments stream) at (Some answer) o (told_draws moments' stream')
+unfolding reply_to seen_after
+decides_done cmd moments moments' stream stream' now random at answer o first others bytes rest answered stands = record {
+  later = after_ask (ask_at cmd now random at) at;
+  stands = stands;
+  answers = by moments stream first others bytes rest;
+}
+  where
+    by : (m : Option (ℕ → Moment)) (b : Option (ℕ → ℕ)) → IfSome m (λ f. now ≡ f 0) → moments' ≡ option_map later_moments m
+        → IfSome b (λ f. random ≡ bytes_of 2048 f) → stream' ≡ option_map (later_bytes 2048) b
+        → Answers (Does cmd) (told_draws m b) at (Some answer) (after_ask (ask_at cmd now random at) at) (told_draws moments' stream')
+    by None b f o' g r = ap (λ (m : Option (ℕ → Moment)). told_draws m stream') o'
+    by (Some moments) None f o' g r = λ i. told_draws (o' i) (r i)
+    by (Some moments) (Some bytes) f o' g r = (
+      ap (λ (a : Option Reply). a) (sym (ap reply_in_answer answered)) ∙ (λ i. reply_in_answer (answer_at (ask_at cmd (f i) (g i) at) at)),
+      λ i. after_ask (ask_at cmd (f i) (g i) at) at,
+      λ i. told_draws (o' i) (r i),
+    )
+
+-- where it was done
+pub decides_drawn : {E : Type 0} (result : Result Printed E) (cmd : Command) (moments moments' : Option (ℕ → Moment)) (stream stream' : Option (ℕ → ℕ)) (now : Moment) (random : List ℕ) (at : Seen) (o : Opened)
+    → IfSome moments (λ f. now ≡ f 0) → moments' ≡ option_map later_moments moments
+    → IfSome stream (λ f. random ≡ bytes_of 2048 f) → stream' ≡ option_map (later_bytes 2048) stream
+    → IfOk result (λ printed. answer_at (ask_at cmd now random at) at ≡ Replied printed.reply) → OnOk result (StandsAt o (after_ask (ask_at cmd now random at) at))
+    → IfOk result (λ printed. Decides (Does cmd) (told_draws moments stream) at (Some printed.reply) o (told_draws moments' stream'))
+decides_drawn (Ok printed) cmd moments moments' stream stream' now random at o first others bytes rest answered stands =
+    decides_done cmd moments moments' stream stream' now random at printed.reply o first others bytes rest answered stands
+decides_drawn (Err halt) cmd moments moments' stream stream' now random at o first others bytes rest answered stands = tt
+
+pub bytes_seen : (stream : Option (ℕ → ℕ)) (drawn random : List ℕ) (n : ℕ) → random ≡ drawn → IfSome stream (λ f. drawn ≡ bytes_of n f) → IfSome stream (λ f. random ≡ bytes_of n f)
+bytes_seen None drawn random n same is = tt
+bytes_seen (Some f) drawn random n same is = same ∙ is
+
+pub safe_done : {D : Type 0} (g : Ghosts D) (old new : D) (cmd : Command) (moments : Option (ℕ → Moment)) (stream : Option (ℕ → ℕ)) (now : Moment) (random : List ℕ) (at : Seen)
+    → IfSome moments (λ f. now ≡ f 0) → IfSome stream (λ f. random ≡ bytes_of 2048 f)
+    → IsCrashSafe g old new (LeavesPart at.place (places (made_at (ask_at cmd now random at) at)))
+    → IsLineSafe g old new (Does cmd) (told_draws moments stream) at
+unfolding places_by
+safe_done g old new cmd moments stream now random at first bytes safe = record {
+  made = places (made_at (ask_at cmd now random at) at);
+  are = by moments stream first bytes;
+  safe = safe;
+}
+  where
+    by : (m : Option (ℕ → Moment)) (b : Option (ℕ → ℕ)) → IfSome m (λ f. now ≡ f 0) → IfSome b (λ f. random ≡ bytes_of 2048 f)
+        → AreMade (Does cmd) (told_draws m b) at (places (made_at (ask_at cmd now random at) at))
+    by None b f g' = tt
+    by (Some moments) None f g' = tt
+    by (Some moments) (Some bytes) f g' = λ i. places (made_at (ask_at cmd (f i) (g' i) at) at)

@@ -1,0 +1,167 @@
+-- The course of a session from some point on: how it ends, where it may stop early, and what a crash may leave of the disk.
+use Rattle.std.specs.Prelude.{ℕ, ◌≡◌, ◌≤◌, ◌+◌, ◌⊎◌, Bool, ◌||◌, List, [], ◌∷◌, ◌++◌, Option, Some, None, Ok, length, take, ⊤}
+use Rattle.kadm_session.specs.Draws.{Draws}
+use Rattle.kadm_session.specs.Steps.{Said, draws_after, places_by, places_made, said, seen_after, text_to}
+use Rattle.kadm_session.specs.declared.intake.Asked.{Asked}
+use Rattle.kdb_disk.specs.Files.{Files}
+use Rattle.kdb_disk.specs.View.{View}
+use Rattle.kdb_histories.specs.Seen.{Seen, seen}
+use Rattle.kdb_places.specs.Places.{Place}
+use Rattle.kdb_ports.specs.Parts.{SaidPart}
+use Rattle.kdb_ports.specs.Told.{after_told}
+use Rattle.kdb_plain.specs.declared.states.State.{State}
+use Rattle.primary_core.specs.Opened.{HasState, Opened, place_of}
+use Rattle.std.specs.List.{Contains}
+use Rattle.store_files.specs.Found.{recovers}
+use Rattle.store_files.specs.Recovery.{LeavesPart, RecoversTo}
+
+-- What the sink has taken, whether a refusal was written, what still comes of the input, what the clock and the source of random bytes
+-- will give, each where it is told, and the place with the state that its rows show.
+pub record Course : Type 0 where
+  pub taken : Option (List ℕ)
+  pub refused : Bool
+  pub commands : Option (List Asked)
+  pub draws : Option Draws
+  pub at : Seen
+
+abbrev pub course : Option (List ℕ) → Bool → Option (List Asked) → Option Draws → Seen → Course
+course taken refused commands draws at = record { taken = taken; refused = refused; commands = commands; draws = draws; at = at }
+
+-- ---- how it ends where nothing fails
+
+pub record Ending : Type 0 where
+  pub out : Option (List ℕ)
+  pub refused : Bool
+  pub at : Seen
+  pub draws : Draws
+
+abbrev pub end_with : Option (List ℕ) → Bool → Said → Ending
+end_with taken refused later = record { out = after_told taken later.bytes; refused = refused || later.refused; at = later.at; draws = later.draws }
+
+abbrev pub ending_by : Option (List ℕ) → Bool → Option (List Asked) → Option Draws → Seen → Option Ending
+ending_by taken refused None draws at = None
+ending_by taken refused (Some commands) None at = None
+ending_by taken refused (Some commands) (Some draws) at = Some (end_with taken refused (said commands draws at))
+
+unfoldable pub ending : Course → Option Ending
+ending c = ending_by c.taken c.refused c.commands c.draws c.at
+
+-- it ended so, with this in the sink, and what is open shows the state in the end
+pub record EndsAs (out : Option (List ℕ)) (refused : Bool) (o : Opened) (draws : Option Draws) (end : Ending) : Type 0 where
+  pub out_is : out ≡ end.out
+  pub refused_is : refused ≡ end.refused
+  pub place_is : place_of o ≡ end.at.place
+  pub shows : HasState o end.at.state
+  pub draws_are : draws ≡ Some end.draws
+
+-- ---- where it may stop early
+
+-- what is in the sink, and of which places a crash leaves one: the first, or one of those that follow it
+abbrev pub Stage : Type 1
+Stage = Option (List ℕ) → Place → List Place → Type 0
+
+-- Nothing of the reply was written, and a crash leaves the place before the line or one that the line makes. Or a part of the reply was,
+-- and it leaves the place after it alone.
+abbrev pub StopsAt : Option (List ℕ) → List ℕ → Place → List Place → Place → Stage
+StopsAt taken text before made later out first others =
+    ((out ≡ taken) × (first ≡ before) × (others ≡ made)) ⊎ (SaidPart text taken out × (first ≡ later) × (others ≡ []))
+
+-- at one of these commands, or after all of them
+unfoldable pub MayStop : Option (List ℕ) → List Asked → Draws → Seen → Stage
+MayStop taken [] draws at out first others = (out ≡ taken) × (first ≡ at.place) × (others ≡ [])
+MayStop taken (asked ∷ commands) draws at out first others =
+    StopsAt taken (text_to asked draws at) at.place (places_by asked draws at) (seen_after asked draws at).place out first others
+    ⊎ MayStop (after_told taken (text_to asked draws at)) commands (draws_after asked draws) (seen_after asked draws at) out first others
+
+abbrev pub stops_by : Option (List ℕ) → Option (List Asked) → Option Draws → Seen → Stage
+stops_by taken None draws at out first others = ⊤
+stops_by taken (Some commands) None at out first others = ⊤
+stops_by taken (Some commands) (Some draws) at out first others = MayStop taken commands draws at out first others
+
+-- the same, where the commands, the clock and the random bytes are told
+unfoldable pub Stops : Course → Stage
+Stops c out first others = stops_by c.taken c.commands c.draws c.at out first others
+
+-- whatever a crash leaves recovers to the first place or to one of those that follow it
+pub record StandsPart (first : Place) (others : List Place) (now : View) : Type 0 where
+  pub each : (c : Files) → now.images c → LeavesPart first others c
+
+-- a session has stopped so, with this in its sink, and what a crash leaves of its disk is one of these places
+pub record IsStopped (stage : Stage) (out : Option (List ℕ)) (now : View) : Type 0 where
+  pub first : Place
+  pub others : List Place
+  pub may : stage out first others
+  pub stands : StandsPart first others now
+
+-- ---- where it stops for want of memory
+
+-- so many of the commands were done, and the replies to them are written in full
+pub record AnsweredWhole (taken : Option (List ℕ)) (commands : List Asked) (draws : Draws) (at : Seen) (out : Option (List ℕ)) (later : Place) : Type 0 where
+  pub count : ℕ
+  pub within : count ≤ length commands
+  pub out_is : out ≡ after_told taken (said (take count commands) draws at).bytes
+  pub place_is : later ≡ (said (take count commands) draws at).at.place
+
+abbrev pub rests_by : Option (List ℕ) → Option (List Asked) → Option Draws → Seen → Option (List ℕ) → Place → Type 0
+rests_by taken None draws at out later = ⊤
+rests_by taken (Some commands) None at out later = ⊤
+rests_by taken (Some commands) (Some draws) at out later = AnsweredWhole taken commands draws at out later
+
+-- the same, where the commands, the clock and the random bytes are told
+unfoldable pub Rests : Course → Option (List ℕ) → Place → Type 0
+Rests c out later = rests_by c.taken c.commands c.draws c.at out later
+
+-- a session has stopped so, with this in its sink, and what a crash leaves of its disk is that place alone
+pub record IsAtRest (c : Course) (out : Option (List ℕ)) (now : View) : Type 0 where
+  pub place : Place
+  pub may : Rests c out place
+  pub stands : RecoversTo place now
+
+-- ---- what a crash may leave at any moment of it
+
+-- the files recover to one of these places
+pub record RecoversToOne (places : List Place) (c : Files) : Type 0 where
+  pub place : Place
+  pub among : Contains places place
+  pub is : recovers c ≡ Ok place
+
+abbrev pub leaves_by : Option (List Asked) → Option Draws → Seen → Files → Type 0
+leaves_by None draws at c = ⊤
+leaves_by (Some commands) None at c = ⊤
+leaves_by (Some commands) (Some draws) at c = RecoversToOne (at.place ∷ places_made commands draws at) c
+
+unfoldable pub Leaves : Course → Files → Type 0
+Leaves c files = leaves_by c.commands c.draws c.at files
+
+-- ---- one course from another
+
+-- Whatever comes of the later course may come of the earlier one.
+pub record Follows (earlier later : Course) : Type 0 where
+  pub ends : ending earlier ≡ ending later
+  pub stops : (out : Option (List ℕ)) (first : Place) (others : List Place) → Stops later out first others → Stops earlier out first others
+  pub rests : (out : Option (List ℕ)) (place : Place) → Rests later out place → Rests earlier out place
+  pub leaves : (c : Files) → Leaves later c → Leaves earlier c
+
+-- What is open shows a state from which the course goes on.
+pub record GoesOnFrom (earlier : Course) (o : Opened) (taken : Option (List ℕ)) (refused : Bool) (commands : Option (List Asked)) (draws : Option Draws) : Type 0 where
+  pub state : State
+  pub has : HasState o state
+  pub follows : Follows earlier (course taken refused commands draws (seen (place_of o) state))
+
+-- ---- the plain statement
+
+-- What was written is a front of the replies to the first so many commands, and a crash leaves the place after these commands, or one that
+-- the next of them makes, of whose reply nothing was written.
+pub record HasStoppedAfter (taken : List ℕ) (commands : List Asked) (draws : Draws) (at : Seen) (out : Option (List ℕ)) (first : Place) (others : List Place) : Type 0 where
+  -- the commands of which a byte may have been written, and those that may be done
+  pub answered : ℕ
+  pub done : ℕ
+  pub order : answered ≤ done
+  pub next : done ≤ answered + 1
+  pub within : done ≤ length commands
+  pub written : List ℕ
+  pub unwritten : List ℕ
+  pub out_is : out ≡ Some (taken ++ written)
+  pub replies : (said (take answered commands) draws at).bytes ≡ written ++ unwritten
+  pub first_is : first ≡ (said (take answered commands) draws at).at.place
+  pub others_are : places_made (take done commands) draws at ≡ places_made (take answered commands) draws at ++ others

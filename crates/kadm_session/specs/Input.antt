@@ -1,0 +1,51 @@
+-- What the lines of an input ask for, in a database of a realm.
+use Rattle.std.specs.Prelude.{ℕ, ◌==◌, ◌≡◌, Bool, true, List, [], ◌∷◌, Option, Some, None, Result, Ok, Err, map, option_map, if◌then◌else◌}
+use Rattle.kadm_commands.specs.Commands.{IsCommand}
+use Rattle.kadm_commands.specs.declared.commands.Command.{Command}
+use Rattle.kadm_lines.specs.Lines.{Seen}
+use Rattle.kadm_plan.specs.Ready.{is_planned}
+use Rattle.kadm_session.specs.declared.intake.Asked.{Asked}
+use Rattle.kadm_session.specs.declared.intake.Asked.TheVariants.{Nothing, Refused, Does}
+use Rattle.kadm_wire.specs.LineReadings.{reading}
+use Rattle.kdb_base.specs.declared.outcomes.Refusal.{Refusal}
+use Rattle.kdb_base.specs.declared.outcomes.Refusal.TheVariants.{BadLine, LineTooLong}
+
+-- the bytes without one carriage return at their end
+unfoldable pub without_return : List ℕ → List ℕ
+without_return [] = []
+without_return (byte ∷ []) = if byte == 13 then [] else byte ∷ []
+without_return (byte ∷ next ∷ bytes) = byte ∷ without_return (next ∷ bytes)
+
+-- a carriage return belongs to the line feed behind it, and without one it is a byte of the line
+abbrev pub line_bytes : List ℕ → Bool → List ℕ
+line_bytes text ended = if ended then without_return text else text
+
+-- a command that rows alone do not decide is no line of this program yet
+abbrev pub asked_for : Command → Asked
+asked_for command = if is_planned command then Does command else Refused BadLine
+
+abbrev pub asked_by : Result (Option Command) Refusal → Asked
+asked_by (Ok (Some command)) = asked_for command
+asked_by (Ok None) = Nothing
+asked_by (Err refusal) = Refused refusal
+
+-- a line without a text is too long
+abbrev pub asked_by_text : List ℕ → Bool → Option (List ℕ) → Asked
+asked_by_text realm ended None = Refused LineTooLong
+asked_by_text realm ended (Some text) = asked_by (reading realm (line_bytes text ended))
+
+unfoldable pub asked_in : List ℕ → Seen → Asked
+asked_in realm line = asked_by_text realm line.ended line.text
+
+abbrev pub commands_in : List ℕ → Option (List Seen) → Option (List Asked)
+commands_in realm lines = option_map (map (asked_in realm)) lines
+
+-- a command is one that a line of this realm can give, and that rows alone decide
+pub record IsLineCommand (realm : List ℕ) (command : Command) : Type 0 where
+  pub command_is : IsCommand realm command
+  pub planned : is_planned command ≡ true
+
+abbrev pub IsAsked : List ℕ → Asked → Type 0
+IsAsked realm Nothing = Unit {0}
+IsAsked realm (Refused refusal) = Unit {0}
+IsAsked realm (Does command) = IsLineCommand realm command

@@ -1,0 +1,9 @@
+pub mod Draws
+pub mod Input
+pub mod Intake
+pub mod Replies
+pub mod Steps
+pub mod Deciding
+pub mod Courses
+pub mod Turns
+pub mod Halts

@@ -1,0 +1,91 @@
+-- What is answered to the lines of an input, and the places that the database goes through. All is a function of the lines, of what the
+-- clock and the source of random bytes give, and of a place with the state that its rows show.
+use Rattle.std.specs.Prelude.{ℕ, Bool, true, false, ◌||◌, List, [], ◌∷◌, ◌++◌, codes, Option, Some, None}
+use Rattle.kadm_commands.specs.declared.commands.Command.{Command}
+use Rattle.kadm_commands.specs.declared.replies.Reply.{Reply}
+use Rattle.kadm_commands.specs.declared.replies.Reply.TheVariants as reply
+use Rattle.kadm_session.specs.Draws.{Draws, behind_command, block_in, moment_in}
+use Rattle.kadm_session.specs.Replies.{text_of}
+use Rattle.kadm_session.specs.declared.intake.Asked.{Asked}
+use Rattle.kadm_session.specs.declared.intake.Asked.TheVariants.{Nothing, Refused, Does}
+use Rattle.kdb_base.specs.Moment.{Moment}
+use Rattle.kdb_histories.specs.Asks.{Answer, Ask, Replied}
+use Rattle.kdb_histories.specs.Seen.{Seen, after_ask, answer_at, made_at}
+use Rattle.kdb_histories.specs.Stages.{places}
+use Rattle.kdb_places.specs.Places.{Place}
+use Rattle.primary_core.specs.Opened.{command_ask}
+use Rattle.princ_name.specs.Names.{NameParts}
+use Rattle.princ_name.specs.RealmNames.{name_in}
+
+-- the administrator at the machine itself: admin/local of the realm
+abbrev pub local_client : List ℕ → NameParts
+local_client realm = name_in (codes "admin" ∷ codes "local" ∷ []) realm
+
+-- ---- one line
+
+-- the command as it is asked, without an access list, at a moment of the clock and with a block of random bytes
+abbrev pub ask_at : Command → Moment → List ℕ → Seen → Ask
+ask_at command now random at = command_ask (local_client at.place.realm) None command now random
+
+abbrev pub ask_of : Command → Draws → Seen → Ask
+ask_of command draws at = ask_at command (moment_in draws) (block_in draws) at
+
+abbrev pub reply_in_answer : Answer → Option Reply
+reply_in_answer (Replied reply) = Some reply
+reply_in_answer other = None
+
+-- a skipped line has no reply
+unfoldable pub reply_to : Asked → Draws → Seen → Option Reply
+reply_to Nothing draws at = None
+reply_to (Refused refusal) draws at = Some (reply.Refused refusal)
+reply_to (Does command) draws at = reply_in_answer (answer_at (ask_of command draws at) at)
+
+-- the place and the state after it
+unfoldable pub seen_after : Asked → Draws → Seen → Seen
+seen_after Nothing draws at = at
+seen_after (Refused refusal) draws at = at
+seen_after (Does command) draws at = after_ask (ask_of command draws at) at
+
+-- the places that it makes: none, that of its change, or before it that of a log begun anew
+unfoldable pub places_by : Asked → Draws → Seen → List Place
+places_by Nothing draws at = []
+places_by (Refused refusal) draws at = []
+places_by (Does command) draws at = places (made_at (ask_of command draws at) at)
+
+-- a line that gives no command reads no clock and draws nothing
+abbrev pub draws_after : Asked → Draws → Draws
+draws_after Nothing draws = draws
+draws_after (Refused refusal) draws = draws
+draws_after (Does command) draws = behind_command draws
+
+abbrev pub refuses : Reply → Bool
+refuses (reply.Refused refusal) = true
+refuses other = false
+
+abbrev pub is_refusal : Option Reply → Bool
+is_refusal None = false
+is_refusal (Some reply) = refuses reply
+
+abbrev pub text_to : Asked → Draws → Seen → List ℕ
+text_to asked draws at = text_of (reply_to asked draws at)
+
+-- ---- one line after another
+
+-- all that is answered, whether a refusal is among it, the place and the state in the end, and what the clock and the source have left
+pub record Said : Type 0 where
+  pub bytes : List ℕ
+  pub refused : Bool
+  pub at : Seen
+  pub draws : Draws
+
+abbrev pub after_reply : Option Reply → Said → Said
+after_reply reply later = record { bytes = text_of reply ++ later.bytes; refused = is_refusal reply || later.refused; at = later.at; draws = later.draws }
+
+unfoldable pub said : List Asked → Draws → Seen → Said
+said [] draws at = record { bytes = []; refused = false; at = at; draws = draws }
+said (asked ∷ commands) draws at = after_reply (reply_to asked draws at) (said commands (draws_after asked draws) (seen_after asked draws at))
+
+-- the places that they make, in their order
+unfoldable pub places_made : List Asked → Draws → Seen → List Place
+places_made [] draws at = []
+places_made (asked ∷ commands) draws at = places_by asked draws at ++ places_made commands (draws_after asked draws) (seen_after asked draws at)

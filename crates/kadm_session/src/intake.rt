@@ -1,0 +1,140 @@
+//! Lines as what they ask for.
+
+ghost use Rattle.std.specs.Prelude.{◌≡◌, ◌≢◌, ◌<◌, List, ℕ, Option, Some, Ok, Err, IfErr, IfOk, IsTrue};
+ghost use Rattle.kadm_commands.specs.Commands.{IsCommand};
+ghost use Rattle.kadm_lines.specs.Reader.{work_left};
+ghost use Rattle.kadm_plan.specs.Ready.{is_planned};
+ghost use Rattle.kadm_session.specs.Halts.{Counts, IsReadHalt};
+ghost use Rattle.kadm_session.specs.Input.{asked_for, asked_in, line_bytes, without_return, IsAsked};
+ghost use Rattle.kadm_session.specs.Intake.{coming, Comes, IsValid, HasTaken};
+
+use crate::halts::SessionHalt;
+use kadm_commands::Command;
+use kadm_lines::{IntakeFault, LineReader, NextLine};
+use kadm_wire::parse_line;
+use kdb_base::{MemoryOut, Refusal, Stop};
+use kdb_ports::Source;
+use std::alloc::Global;
+
+/// What a line of the input asks for. It does not print itself: what it would print may be a password.
+#[derive(Drop)]
+pub enum Asked {
+    /// The line is skipped.
+    Nothing,
+    /// The line is not of the grammar, or too long, or of a command of master keys or of files.
+    Refused(Refusal),
+    /// The line gives a command that rows alone decide.
+    Does(Command),
+}
+
+/// What comes next of the input.
+#[derive(Drop)]
+pub enum Next {
+    Line(Asked),
+    /// The input has ended.
+    End,
+}
+
+/// The bytes without one carriage return at their end.
+fn without_return(text: &[u8]) -> &[u8]
+    ensures { result.now ≡ without_return text.now }
+{
+    match text.strip_suffix(b"\r") {
+        Some(front) => front,
+        None => text,
+    }
+}
+
+/// The bytes of a line: a carriage return belongs to the line feed behind it.
+fn line_bytes(text: &[u8], ended: bool) -> &[u8]
+    ensures { result.now ≡ line_bytes text.now ended }
+{
+    if ended { without_return(text) } else { text }
+}
+
+/// Whether rows alone decide a command.
+fn is_planned(command: &Command) -> bool
+    ensures { result ≡ is_planned command.now }
+{
+    match command {
+        Command::AddMaster(_)
+        | Command::UseMaster(_)
+        | Command::ListMasters
+        | Command::PurgeMasters
+        | Command::RekeyPrincs(_)
+        | Command::Stash
+        | Command::Dump => false,
+        Command::AddPrinc(_)
+        | Command::ModPrinc(_)
+        | Command::ChangeKeys(_)
+        | Command::RenPrinc(_)
+        | Command::DelPrinc(_)
+        | Command::GetPrinc(_)
+        | Command::ListPrincs(_)
+        | Command::PurgeKeys(_)
+        | Command::SetString(_)
+        | Command::DelString(_)
+        | Command::GetStrings(_)
+        | Command::Extract(_)
+        | Command::AddPolicy(_)
+        | Command::ModPolicy(_)
+        | Command::DelPolicy(_)
+        | Command::GetPolicy(_)
+        | Command::ListPolicies
+        | Command::GetPrivs => true,
+    }
+}
+
+/// A command that rows alone decide is done; another is no line of the program.
+fn asked_for(command: Command) -> Asked
+    ensures value { result ≡ asked_for command }
+    ensures valid { (realm : List ℕ) → IsCommand realm command → IsAsked realm result }
+{
+    if is_planned(&command) {
+        Asked::Does(command)
+    } else {
+        Asked::Refused(Refusal::BadLine)
+    }
+}
+
+/// What a line of this text asks for, in a database of this realm.
+#[tactic(auto, unfolding(crate::specs::Input::asked_in))]
+fn read_line(alloc: Global, text: &[u8], ended: bool, realm: &[u8]) -> Result<Asked, MemoryOut>
+    ensures value { IfOk result (λ asked. asked ≡ asked_in realm.now (record { text = Some text.now; ended = ended })) }
+    ensures valid { IfOk result (λ asked. IsAsked realm.now asked) }
+{
+    match parse_line(alloc, line_bytes(text, ended), realm) {
+        Ok(Some(command)) => Ok(asked_for(command)),
+        Ok(None) => Ok(Asked::Nothing),
+        Err(Stop::Refused(refusal)) => Ok(Asked::Refused(refusal)),
+        Err(Stop::Halt(_)) => Err(MemoryOut),
+    }
+}
+
+/// Goes on to the next line, and reads what it asks for in a database of this realm.
+pub fn next_command<S: Source>(
+    alloc: Global,
+    reader: &mut LineReader,
+    source: &mut S,
+    realm: &[u8],
+) -> Result<Next, SessionHalt>
+    ensures next { IfOk result (λ next. Comes next (coming realm.now reader.old (S.left source.old)) (coming realm.now reader.new (S.left source.new))) }
+    ensures valid { IfOk result (IsValid realm.now) }
+    ensures end { result ≡ Ok Next.End → IsTrue reader.new.over }
+    ensures takes { (first : Option (List ℕ)) → HasTaken first reader.old (S.left source.old) → HasTaken first reader.new (S.left source.new) }
+    ensures too_long { result ≡ Err SessionHalt.InputTooLong → reader.new.taken ≡ 4294967296 }
+    ensures falls { IfOk result (λ next. next ≢ Next.End → work_left reader.new < work_left reader.old) }
+    ensures halt { IfErr result IsReadHalt }
+    ensures faults { Counts (S.faults source.old) (S.faults source.new) (result ≡ Err SessionHalt.ReadFault) }
+{
+    match reader.advance(source) {
+        Ok(NextLine::Line { ended }) => match read_line(alloc, reader.text(), ended, realm) {
+            Ok(asked) => Ok(Next::Line(asked)),
+            Err(_) => Err(SessionHalt::MemoryOut),
+        },
+        Ok(NextLine::TooLong { .. }) => Ok(Next::Line(Asked::Refused(Refusal::LineTooLong))),
+        Ok(NextLine::End) => Ok(Next::End),
+        Err(IntakeFault::ReadFault) => Err(SessionHalt::ReadFault),
+        Err(IntakeFault::InputTooLong) => Err(SessionHalt::InputTooLong),
+    }
+}

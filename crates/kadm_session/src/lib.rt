@@ -1,0 +1,16 @@
+//! The lines of an input answered over an open primary, one after another.
+#![tactic(auto)]
+
+mod clients;
+mod commands;
+pub mod draws;
+pub mod halts;
+pub mod intake;
+pub mod laws;
+pub mod replies;
+pub mod session;
+
+pub use draws::draw;
+pub use halts::SessionHalt;
+pub use replies::{Printed, print, say, write_any};
+pub use session::serve;

@@ -1,0 +1,252 @@
+//! A session: the lines of an input, one after another.
+
+ghost use Rattle.std.specs.Prelude.{◌≡◌, ◌≢◌, ◌<◌, ◌∷◌, ◌||◌, IsTrue, Bool, false, List, ℕ, Option, Some, None, Ok, Err, IfErr, IfOk, OnOk, OnErr};
+ghost use Rattle.kadm_lines.specs.Reader.{work_left};
+ghost use Rattle.kadm_session.specs.Courses.{Ending, EndsAs, GoesOnFrom, IsAtRest, IsStopped, Leaves, Stops, course, ending};
+ghost use Rattle.kadm_session.specs.Deciding.{Decides, IsLineSafe};
+ghost use Rattle.kadm_session.specs.Draws.{told_draws};
+ghost use Rattle.kadm_session.specs.Halts.{Counts, IsAnswerHalt, IsPerformHalt};
+ghost use Rattle.kadm_session.specs.Input.{IsAsked};
+ghost use Rattle.kadm_session.specs.Intake.{coming, NoCommand, HasTaken};
+ghost use Rattle.kadm_session.specs.Replies.{reply_in, text_in, text_of};
+ghost use Rattle.kadm_session.specs.Steps.{is_refusal, refuses};
+ghost use Rattle.kadm_session.specs.Turns.{GoesOn};
+ghost use Rattle.kadm_session.specs.declared.intake.Asked.{Asked as Asks};
+ghost use Rattle.kdb_disk.specs.Frames.{IsCall};
+ghost use Rattle.kdb_disk.specs.Moments.{LeavesOnly};
+ghost use Rattle.kdb_histories.specs.Seen.{seen};
+ghost use Rattle.kdb_plain.specs.declared.states.State.{State};
+ghost use Rattle.primary_core.specs.Opened.{HasState, place_of};
+ghost use Rattle.store_files.specs.Kept.{IsOnDisk};
+
+use crate::commands::perform;
+use crate::halts::SessionHalt;
+use crate::intake::{Asked, Next, next_command};
+use crate::replies::{Printed, print, write_any};
+use kadm_commands::Reply;
+use kadm_lines::LineReader;
+use kdb_disk::Disk;
+use kdb_ports::{Clock, Entropy, Sink, Source};
+use primary_core::Primary;
+use std::alloc::Global;
+use store_files::laws::what_is_kept_is_recovered;
+
+// Whether the reply is a refusal.
+fn refuses(reply: &Reply) -> bool
+    ensures { result ≡ refuses reply.now }
+{
+    matches!(reply, Reply::Refused(_))
+}
+
+// Whether there is a reply, and it is a refusal.
+fn is_refusal(printed: &Option<Printed>) -> bool
+    ensures { result ≡ is_refusal (reply_in printed.now) }
+{
+    match printed {
+        Some(printed) => refuses(&printed.reply),
+        None => false,
+    }
+}
+
+// Does what a line asks for, and gives the printed reply; none, where the line is skipped. The clock is read, and
+// random bytes are drawn, where the line gives a command. Where memory is wanted and not there, or no random bytes are
+// given, nothing was done.
+fn decide<D: Disk, C: Clock, E: Entropy>(
+    alloc: Global,
+    primary: &mut Primary,
+    disk: &mut D,
+    clock: &mut C,
+    entropy: &mut E,
+    asked: &Asked,
+) -> Result<Option<Printed>, SessionHalt>
+    requires asked { IsAsked primary.old.kept.realm asked.now }
+    requires on { D.tells → IsOnDisk primary.old.kept (D.view disk.old) }
+    requires whole { primary.old.kept.broken ≡ false }
+    ensures decided { (s : State) → HasState primary.old s → IfOk result (λ printed. Decides asked.now (told_draws (C.moments clock.old) (E.stream entropy.old)) (seen (place_of primary.old) s) (reply_in printed) primary.new (told_draws (C.moments clock.new) (E.stream entropy.new))) }
+    ensures safe { (s : State) → HasState primary.old s → IsLineSafe D.Disk disk.old disk.new asked.now (told_draws (C.moments clock.old) (E.stream entropy.old)) (seen (place_of primary.old) s) }
+    ensures text { IfOk result (λ printed. text_in printed ≡ text_of (reply_in printed)) }
+    ensures on { D.tells → OnOk result (IsOnDisk primary.new.kept (D.view disk.new)) }
+    ensures whole { OnOk result (primary.new.kept.broken ≡ false) }
+    ensures realm { OnOk result (primary.new.kept.realm ≡ primary.old.kept.realm) }
+    ensures memory { result ≡ Err SessionHalt.MemoryOut → (disk.new ≡ disk.old) × (place_of primary.new ≡ place_of primary.old) }
+    ensures drawn { result ≡ Err SessionHalt.DrawFault → (disk.new ≡ disk.old) × (primary.new ≡ primary.old) }
+    ensures halt { IfErr result IsPerformHalt }
+    ensures call { IsCall D.Disk disk.old disk.new (result ≡ Err SessionHalt.DiskFault) }
+    ensures faults { Counts (E.faults entropy.old) (E.faults entropy.new) (result ≡ Err SessionHalt.DrawFault) }
+{
+    what_is_kept_is_recovered(disk);
+    match asked {
+        Asked::Nothing => Ok(None),
+        Asked::Refused(refusal) => match print(alloc, Reply::Refused(*refusal)) {
+            Ok(printed) => Ok(Some(printed)),
+            Err(_) => Err(SessionHalt::MemoryOut),
+        },
+        Asked::Does(command) => match perform(alloc, primary, disk, clock, entropy, command) {
+            Ok(printed) => Ok(Some(printed)),
+            Err(halt) => Err(halt),
+        },
+    }
+}
+
+// Does what a line asks for, and then writes the reply, if there is one. It answers whether that is a refusal. The
+// writing takes no memory: where memory is wanted and not there, nothing was done, and nothing was written.
+fn answer<K: Sink, D: Disk, C: Clock, E: Entropy>(
+    alloc: Global,
+    primary: &mut Primary,
+    disk: &mut D,
+    sink: &mut K,
+    clock: &mut C,
+    entropy: &mut E,
+    asked: &Asked,
+) -> Result<bool, SessionHalt>
+    requires asked { IsAsked primary.old.kept.realm asked.now }
+    requires on { D.tells → IsOnDisk primary.old.kept (D.view disk.old) }
+    requires whole { primary.old.kept.broken ≡ false }
+    ensures next { (s : State) (refused : Bool) (more : List Asks) → HasState primary.old s → IfOk result (λ now_refused.
+        GoesOnFrom (course (K.taken sink.old) refused (Some (asked.now ∷ more)) (told_draws (C.moments clock.old) (E.stream entropy.old)) (seen (place_of primary.old) s))
+        primary.new (K.taken sink.new) (refused || now_refused) (Some more) (told_draws (C.moments clock.new) (E.stream entropy.new))) }
+    ensures stopped { D.tells → (s : State) (refused : Bool) (more : List Asks) → HasState primary.old s → OnErr result
+        (IsStopped (Stops (course (K.taken sink.old) refused (Some (asked.now ∷ more)) (told_draws (C.moments clock.old) (E.stream entropy.old)) (seen (place_of primary.old) s))) (K.taken sink.new) (D.view disk.new)) }
+    ensures moments { D.tells → (s : State) (refused : Bool) (more : List Asks) → HasState primary.old s → LeavesOnly (D.view disk.old) (D.view disk.new)
+        (Leaves (course (K.taken sink.old) refused (Some (asked.now ∷ more)) (told_draws (C.moments clock.old) (E.stream entropy.old)) (seen (place_of primary.old) s))) }
+    ensures on { D.tells → OnOk result (IsOnDisk primary.new.kept (D.view disk.new)) }
+    ensures whole { OnOk result (primary.new.kept.broken ≡ false) }
+    ensures realm { OnOk result (primary.new.kept.realm ≡ primary.old.kept.realm) }
+    ensures memory { result ≡ Err SessionHalt.MemoryOut → (sink.new ≡ sink.old) × (disk.new ≡ disk.old) × (place_of primary.new ≡ place_of primary.old) }
+    ensures drawn { result ≡ Err SessionHalt.DrawFault → (sink.new ≡ sink.old) × (disk.new ≡ disk.old) × (primary.new ≡ primary.old) }
+    ensures halt { IfErr result IsAnswerHalt }
+    ensures call { IsCall D.Disk disk.old disk.new (result ≡ Err SessionHalt.DiskFault) }
+    ensures writes { Counts (K.faults sink.old) (K.faults sink.new) (result ≡ Err SessionHalt.WriteFault) }
+    ensures draws { Counts (E.faults entropy.old) (E.faults entropy.new) (result ≡ Err SessionHalt.DrawFault) }
+{
+    let printed = match decide(alloc, primary, disk, clock, entropy, asked) {
+        Ok(printed) => printed,
+        Err(halt) => return Err(halt),
+    };
+    what_is_kept_is_recovered(disk);
+    match write_any(sink, &printed) {
+        Ok(()) => Ok(is_refusal(&printed)),
+        Err(_) => Err(SessionHalt::WriteFault),
+    }
+}
+
+// Takes the next line of the input and answers it. Nothing, where the input has ended; else whether the reply was a
+// refusal.
+fn turn<S: Source, K: Sink, D: Disk, C: Clock, E: Entropy>(
+    alloc: Global,
+    reader: &mut LineReader,
+    primary: &mut Primary,
+    disk: &mut D,
+    source: &mut S,
+    sink: &mut K,
+    clock: &mut C,
+    entropy: &mut E,
+) -> Result<Option<bool>, SessionHalt>
+    requires on { D.tells → IsOnDisk primary.old.kept (D.view disk.old) }
+    requires whole { primary.old.kept.broken ≡ false }
+    ensures next { (s : State) (refused : Bool) → HasState primary.old s → IfOk result (λ turn. GoesOn turn
+        (λ now_refused. GoesOnFrom (course (K.taken sink.old) refused (coming primary.old.kept.realm reader.old (S.left source.old)) (told_draws (C.moments clock.old) (E.stream entropy.old)) (seen (place_of primary.old) s))
+        primary.new (K.taken sink.new) (refused || now_refused) (coming primary.new.kept.realm reader.new (S.left source.new)) (told_draws (C.moments clock.new) (E.stream entropy.new)))
+        (NoCommand (coming primary.old.kept.realm reader.old (S.left source.old)))) }
+    ensures stopped { D.tells → (s : State) (refused : Bool) → HasState primary.old s → OnErr result
+        (IsStopped (Stops (course (K.taken sink.old) refused (coming primary.old.kept.realm reader.old (S.left source.old)) (told_draws (C.moments clock.old) (E.stream entropy.old)) (seen (place_of primary.old) s))) (K.taken sink.new) (D.view disk.new)) }
+    ensures moments { D.tells → (s : State) (refused : Bool) → HasState primary.old s → LeavesOnly (D.view disk.old) (D.view disk.new)
+        (Leaves (course (K.taken sink.old) refused (coming primary.old.kept.realm reader.old (S.left source.old)) (told_draws (C.moments clock.old) (E.stream entropy.old)) (seen (place_of primary.old) s))) }
+    ensures on { D.tells → OnOk result (IsOnDisk primary.new.kept (D.view disk.new)) }
+    ensures whole { OnOk result (primary.new.kept.broken ≡ false) }
+    ensures memory { result ≡ Err SessionHalt.MemoryOut → (sink.new ≡ sink.old) × (disk.new ≡ disk.old) × (place_of primary.new ≡ place_of primary.old) }
+    ensures drawn { result ≡ Err SessionHalt.DrawFault → (sink.new ≡ sink.old) × (disk.new ≡ disk.old) × (primary.new ≡ primary.old) }
+    ensures read { result ≡ Err SessionHalt.ReadFault → (sink.new ≡ sink.old) × (disk.new ≡ disk.old) × (primary.new ≡ primary.old) }
+    ensures at_limit { result ≡ Err SessionHalt.InputTooLong → (sink.new ≡ sink.old) × (disk.new ≡ disk.old) × (primary.new ≡ primary.old) }
+    ensures end { result ≡ Ok None → (K.taken sink.new ≡ K.taken sink.old) × (primary.new ≡ primary.old) × IsTrue reader.new.over }
+    ensures end_draws { result ≡ Ok None → told_draws (C.moments clock.new) (E.stream entropy.new) ≡ told_draws (C.moments clock.old) (E.stream entropy.old) }
+    ensures falls { IfOk result (λ turn. turn ≢ None → work_left reader.new < work_left reader.old) }
+    ensures takes { (first : Option (List ℕ)) → HasTaken first reader.old (S.left source.old) → HasTaken first reader.new (S.left source.new) }
+    ensures too_long { result ≡ Err SessionHalt.InputTooLong → reader.new.taken ≡ 4294967296 }
+    ensures call { IsCall D.Disk disk.old disk.new (result ≡ Err SessionHalt.DiskFault) }
+    ensures reads { Counts (S.faults source.old) (S.faults source.new) (result ≡ Err SessionHalt.ReadFault) }
+    ensures writes { Counts (K.faults sink.old) (K.faults sink.new) (result ≡ Err SessionHalt.WriteFault) }
+    ensures draws { Counts (E.faults entropy.old) (E.faults entropy.new) (result ≡ Err SessionHalt.DrawFault) }
+{
+    what_is_kept_is_recovered(disk);
+    let realm = primary.realm().as_slice();
+    let asked = match next_command(alloc, reader, source, realm) {
+        Ok(Next::Line(asked)) => asked,
+        Ok(Next::End) => return Ok(None),
+        Err(halt) => return Err(halt),
+    };
+    match answer(alloc, primary, disk, sink, clock, entropy, &asked) {
+        Ok(refused) => Ok(Some(refused)),
+        Err(halt) => Err(halt),
+    }
+}
+
+/// Answers the lines of the input one after another, up to its end, each as a command of the administrator at the
+/// machine itself. It answers whether a refusal was among the replies.
+///
+/// # Errors
+///
+/// Each but `MemoryOut` comes only where its object's count of faults rose, `InputTooLong` where 4294967296 bytes were
+/// taken. After `MemoryOut`, `DrawFault`, `ReadFault` and `InputTooLong` so many commands were done, and the replies to
+/// them are written in full.
+pub fn serve<S: Source, K: Sink, D: Disk, C: Clock, E: Entropy>(
+    alloc: Global,
+    reader: &mut LineReader,
+    primary: &mut Primary,
+    disk: &mut D,
+    source: &mut S,
+    sink: &mut K,
+    clock: &mut C,
+    entropy: &mut E,
+) -> Result<bool, SessionHalt>
+    requires on { D.tells → IsOnDisk primary.old.kept (D.view disk.old) }
+    requires whole { primary.old.kept.broken ≡ false }
+    // All is said for the state that the rows show with the master keys that were found. Where the input, the clock and
+    // the random bytes are told, the replies, the place, the state and what is left of both are what is said.
+    ensures ended { (s : State) (end : Ending) → HasState primary.old s
+        → ending (course (K.taken sink.old) false (coming primary.old.kept.realm reader.old (S.left source.old)) (told_draws (C.moments clock.old) (E.stream entropy.old)) (seen (place_of primary.old) s)) ≡ Some end
+        → IfOk result (λ refused. EndsAs (K.taken sink.new) refused primary.new (told_draws (C.moments clock.new) (E.stream entropy.new)) end) }
+    ensures on { D.tells → OnOk result (IsOnDisk primary.new.kept (D.view disk.new)) }
+    ensures whole { OnOk result (primary.new.kept.broken ≡ false) }
+
+    // Where it stops early, each command of which a byte was answered is in every image.
+    ensures stopped { D.tells → (s : State) → HasState primary.old s → OnErr result
+        (IsStopped (Stops (course (K.taken sink.old) false (coming primary.old.kept.realm reader.old (S.left source.old)) (told_draws (C.moments clock.old) (E.stream entropy.old)) (seen (place_of primary.old) s))) (K.taken sink.new) (D.view disk.new)) }
+
+    // Where it stops for want of memory, of random bytes or of input, or at the limit of the input, so many commands were
+    // done, and the replies to them are written in full: no change stands without its reply.
+    ensures memory { D.tells → (s : State) → HasState primary.old s → result ≡ Err SessionHalt.MemoryOut
+        → IsAtRest (course (K.taken sink.old) false (coming primary.old.kept.realm reader.old (S.left source.old)) (told_draws (C.moments clock.old) (E.stream entropy.old)) (seen (place_of primary.old) s)) (K.taken sink.new) (D.view disk.new) }
+    ensures drawn { D.tells → (s : State) → HasState primary.old s → result ≡ Err SessionHalt.DrawFault
+        → IsAtRest (course (K.taken sink.old) false (coming primary.old.kept.realm reader.old (S.left source.old)) (told_draws (C.moments clock.old) (E.stream entropy.old)) (seen (place_of primary.old) s)) (K.taken sink.new) (D.view disk.new) }
+    ensures read { D.tells → (s : State) → HasState primary.old s → result ≡ Err SessionHalt.ReadFault
+        → IsAtRest (course (K.taken sink.old) false (coming primary.old.kept.realm reader.old (S.left source.old)) (told_draws (C.moments clock.old) (E.stream entropy.old)) (seen (place_of primary.old) s)) (K.taken sink.new) (D.view disk.new) }
+    ensures at_limit { D.tells → (s : State) → HasState primary.old s → result ≡ Err SessionHalt.InputTooLong
+        → IsAtRest (course (K.taken sink.old) false (coming primary.old.kept.realm reader.old (S.left source.old)) (told_draws (C.moments clock.old) (E.stream entropy.old)) (seen (place_of primary.old) s)) (K.taken sink.new) (D.view disk.new) }
+
+    // A crash at any moment leaves a place of the session.
+    ensures moments { D.tells → (s : State) → HasState primary.old s → LeavesOnly (D.view disk.old) (D.view disk.new)
+        (Leaves (course (K.taken sink.old) false (coming primary.old.kept.realm reader.old (S.left source.old)) (told_draws (C.moments clock.old) (E.stream entropy.old)) (seen (place_of primary.old) s))) }
+
+    // What was taken from the source.
+    ensures over { OnOk result (IsTrue reader.new.over) }
+    ensures takes { (first : Option (List ℕ)) → HasTaken first reader.old (S.left source.old) → HasTaken first reader.new (S.left source.new) }
+    ensures too_long { result ≡ Err SessionHalt.InputTooLong → reader.new.taken ≡ 4294967296 }
+
+    // The causes.
+    ensures call { IsCall D.Disk disk.old disk.new (result ≡ Err SessionHalt.DiskFault) }
+    ensures reads { Counts (S.faults source.old) (S.faults source.new) (result ≡ Err SessionHalt.ReadFault) }
+    ensures writes { Counts (K.faults sink.old) (K.faults sink.new) (result ≡ Err SessionHalt.WriteFault) }
+    ensures draws { Counts (E.faults entropy.old) (E.faults entropy.new) (result ≡ Err SessionHalt.DrawFault) }
+{
+    what_is_kept_is_recovered(disk);
+    let mut refused = false;
+    loop {
+        what_is_kept_is_recovered(disk);
+        match turn(alloc, reader, primary, disk, source, sink, clock, entropy) {
+            Ok(Some(now_refused)) => refused = refused || now_refused,
+            Ok(None) => return Ok(refused),
+            Err(halt) => return Err(halt),
+        }
+    }
+}

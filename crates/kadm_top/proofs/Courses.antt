@@ -1,0 +1,97 @@
+-- From a session to the course of an input.
+use Rattle.std.proofs.Common.{◌≡◌, ◌∙◌, ℕ, ◌+◌, ◌<◌, List, length, refl, ap, sym, subst, Bool, false, IsTrue, arith, add-zero}
+use Rattle.std.specs.Prelude.{Option, Some, None, IfSome, Result, Ok, Err, IfOk, OnErr, OnOk, option_map}
+use Rattle.std.proofs.lemmas.Option.{same_Some}
+use Rattle.std.proofs.lemmas.Result.{on_ok_weaker}
+use Rattle.kadm_lines.specs.Lines.{lines_from}
+use Rattle.kadm_lines.specs.Reader.{ReaderState, to_come}
+use Rattle.kadm_session.specs.Courses.{Course, Ending, EndsAs, IsAtRest, IsStopped, Leaves, Stops, course, ending}
+use Rattle.kadm_session.specs.Draws.{Draws}
+use Rattle.kadm_session.specs.Intake.{HasTaken, coming}
+use Rattle.kadm_session.specs.declared.halts.SessionHalt.{SessionHalt}
+use Rattle.kadm_session.specs.declared.halts.SessionHalt.TheVariants as session
+use Rattle.kadm_session.specs.declared.intake.Asked.{Asked}
+use Rattle.kadm_top.specs.Reads.{IsReadWhole, WereTaken, fresh}
+use Rattle.kadm_top.specs.Run.{HasCourse, RunEndsAs, Told, SparesOutput, course_from, end_opened, input_commands, told}
+use Rattle.kdb_disk.specs.Moments.{LeavesOnly}
+use Rattle.kdb_disk.specs.View.{View}
+use Rattle.kdb_histories.specs.Seen.{Seen}
+use Rattle.kdb_places.specs.Places.{Place}
+use Rattle.primary_core.specs.Opened.{Opened, place_of}
+use Rattle.store_files.specs.Recovery.{RecoversTo}
+
+-- ---- what comes of an input
+
+-- all of the input's commands are to come
+fresh_coming : (realm : List ℕ) (reader : ReaderState) (left : Option (List ℕ)) → reader ≡ fresh → coming realm reader left ≡ input_commands realm left
+unfolding to_come lines_from
+fresh_coming realm reader left is = ap (λ (r : ReaderState). coming realm r left) is
+
+pub fresh_course : (taken left : Option (List ℕ)) (draws : Option Draws) (reader : ReaderState) (at : Seen) → reader ≡ fresh → course taken false (coming at.place.realm reader left) draws at ≡ course_from (told taken left draws) at
+fresh_course taken left draws reader at is = ap (λ (commands : Option (List Asked)). course taken false commands draws at) (fresh_coming at.place.realm reader left is)
+
+nothing_taken : (left : Option (List ℕ)) → option_map length left ≡ option_map (λ bytes. length bytes + 0) left
+nothing_taken None = refl
+nothing_taken (Some bytes) = ap Some (sym (add-zero (length bytes)))
+
+-- nothing was taken yet
+pub fresh_taken : (reader : ReaderState) (left : Option (List ℕ)) → reader ≡ fresh → HasTaken left reader left
+fresh_taken reader left is = subst (λ (r : ReaderState). HasTaken left r left) (sym is)
+    (record { count = nothing_taken left; spent = λ no. absurd cc; below = λ no. absurd cc })
+
+-- an input that was read to its end was short
+short_input : (first left : Option (List ℕ)) (reader : ReaderState) → HasTaken first reader left → IsTrue reader.over → IfSome first (λ bytes. length bytes < 4294967296)
+short_input None left reader takes over = tt
+short_input (Some xs) None reader takes over = let never = takes.count in absurd cc
+short_input (Some xs) (Some ys) reader takes over =
+    let count : length xs ≡ length ys + reader.taken = same_Some _ _ takes.count in
+    let none : length ys ≡ 0 = ap length (takes.spent over) in
+    let below = takes.below over in
+    omega arith
+
+pub read_whole : (r : Result Bool SessionHalt) (first left : Option (List ℕ)) (reader : ReaderState) → HasTaken first reader left → OnOk r (IsTrue reader.over) → OnOk r (IsReadWhole first left)
+read_whole r first left reader takes over = on_ok_weaker r (λ is. record { spent = takes.spent is; short = short_input first left reader takes is }) over
+
+-- so many bytes were taken
+pub were_taken : (n : ℕ) (first left : Option (List ℕ)) (reader : ReaderState) → HasTaken first reader left → reader.taken ≡ n → WereTaken n first left
+were_taken n first left reader takes is = takes.count ∙ ap (λ (k : ℕ). option_map (λ (bytes : List ℕ). length bytes + k) left) is
+
+-- ---- what comes of a session
+
+ends_open : {old now : View} (after : Told) (o : Opened) (refused : Bool) (end : Ending) → EndsAs after.taken refused o after.draws end → RecoversTo (place_of o) now → RunEndsAs after.taken refused after.draws old now (end_opened end)
+ends_open {old} {now} after o refused end ends stands = record {
+  out_is = ends.out_is;
+  refused_is = ends.refused_is;
+  stands = subst (λ (p : Place). RecoversTo p now) ends.place_is stands;
+  draws_are = ends.draws_are;
+}
+
+at_rest : {P : Type 0} (halt : SessionHalt) → (◌≡◌ {A = Result Bool SessionHalt} (Err halt) (Err session.MemoryOut) → P) → (◌≡◌ {A = Result Bool SessionHalt} (Err halt) (Err session.DrawFault) → P)
+    → (◌≡◌ {A = Result Bool SessionHalt} (Err halt) (Err session.ReadFault) → P) → (◌≡◌ {A = Result Bool SessionHalt} (Err halt) (Err session.InputTooLong) → P) → SparesOutput halt → P
+at_rest session.MemoryOut memory drawn read limit spares = memory refl
+at_rest session.DrawFault memory drawn read limit spares = drawn refl
+at_rest session.ReadFault memory drawn read limit spares = read refl
+at_rest session.InputTooLong memory drawn read limit spares = limit refl
+at_rest session.WriteFault memory drawn read limit spares = absurd spares
+at_rest session.DiskFault memory drawn read limit spares = absurd spares
+
+pub course_run : {c : Course} {old now : View} {after : Told} (o : Opened) (r : Result Bool SessionHalt)
+    → ((end : Ending) → ending c ≡ Some end → IfOk r (λ refused. EndsAs after.taken refused o after.draws end))
+    → OnOk r (RecoversTo (place_of o) now)
+    → OnErr r (IsStopped (Stops c) after.taken now)
+    → (r ≡ Err session.MemoryOut → IsAtRest c after.taken now) → (r ≡ Err session.DrawFault → IsAtRest c after.taken now)
+    → (r ≡ Err session.ReadFault → IsAtRest c after.taken now) → (r ≡ Err session.InputTooLong → IsAtRest c after.taken now)
+    → LeavesOnly old now (Leaves c)
+    → HasCourse c old now after r
+course_run {after = after} o (Ok refused) ended stands stopped memory drawn read limit moments = record {
+  ended = λ end e. ends_open after o refused end (ended end e) stands;
+  stopped = tt;
+  rests = tt;
+  moments = moments;
+}
+course_run o (Err halt) ended stands stopped memory drawn read limit moments = record {
+  ended = λ end e. tt;
+  stopped = stopped;
+  rests = λ spares. at_rest halt memory drawn read limit spares;
+  moments = moments;
+}

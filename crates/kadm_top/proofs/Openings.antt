@@ -1,0 +1,246 @@
+-- What comes of an opening, by what the files stand for.
+use Rattle.std.proofs.Common.{◌≡◌, ◌≢◌, ◌∙◌, ℕ, List, [], ◌∷◌, refl, ap, sym, subst, inl, inr, Bool, true, false}
+use Rattle.std.specs.Prelude.{Option, Some, Result, Ok, Err, IfOk, OnOk, if◌then◌else◌}
+use Rattle.first_rows.specs.Parts.{SpecParts}
+use Rattle.iprop_truths.specs.Parts.{end_of}
+use Rattle.kadm_session.specs.Draws.{Draws, moment_in}
+use Rattle.kadm_session.specs.declared.halts.SessionHalt.{SessionHalt}
+use Rattle.kadm_top.specs.Openings.{AMoment, Drawn, Ends, HasAdminOpening, HasOpening, IsOpen, IsOpening, Makes, NoDraw, Opening, Opens, Refuses, ReadsInput, admin_opens, behind, create_of, destroy_of}
+use Rattle.kadm_top.specs.Reads.{IsReadWhole}
+use Rattle.kadm_top.specs.Run.{HasCourse, HasRun, IsSame, OpensPart, Told, SparesOutput, course_from, refusal_line, told}
+use Rattle.kadm_top.proofs.Running.{cut_refusal_run, opened_run, refused_run, said_nothing, unopened_run}
+use Rattle.kadm_top.specs.declared.words.Words.{Words}
+use Rattle.kadm_top.specs.declared.words.Words.TheVariants.{Admin, Create, Destroy}
+use Rattle.kdb_base.specs.Moment.{Moment}
+use Rattle.kdb_base.specs.declared.outcomes.Refusal.{Refusal}
+use Rattle.kdb_base.specs.declared.outcomes.Stop.{Stop}
+use Rattle.kdb_base.specs.declared.outcomes.Stop.TheVariants as stop
+use Rattle.kdb_base.specs.declared.versions.Master.{Master}
+use Rattle.kdb_control.specs.Force.{in_force}
+use Rattle.kdb_disk.specs.Files.{Files}
+use Rattle.kdb_disk.specs.Moments.{LeavesOnly}
+use Rattle.kdb_disk.specs.View.{View}
+use Rattle.kdb_histories.specs.Calls.{HasTimeLeft, resized}
+use Rattle.kdb_histories.specs.Seen.{Seen, seen}
+use Rattle.kdb_histories.specs.Stages.{ShowsAt, Stage, places}
+use Rattle.kdb_places.specs.Places.{Place}
+use Rattle.kdb_plain.specs.declared.states.State.{State}
+use Rattle.kdb_ports.specs.Parts.{SaidPart}
+use Rattle.kdb_ports.specs.Told.{after_told}
+use Rattle.primary_core.specs.Opened.{HasState, IsOpened, Opened, place_of}
+use Rattle.primary_core.specs.Opening.{IsRefusedAs, MayOpen, OpeningRefused, OpensHaving, OpensTo, OpensWith, place_found}
+use Rattle.store_files.specs.Found.{Found, found_in}
+use Rattle.store_files.specs.Recovery.{IsLike}
+
+same_Ok : (a b : Found) → ◌≡◌ {A = Result Found Refusal} (Ok a) (Ok b) → a ≡ b
+same_Ok a b is = cc
+
+-- ---- what an opening says, as the clauses of its call do
+
+-- the answer of an opening, by what the files stand for: the clauses of `recover` for one clock
+pub record Answers (found : Result Found Refusal) (size : Option ℕ) (clock : Moment) (answer : Result Opened Stop) (old mid : View) : Type 0 where
+  pub opens : IfOk answer (OpensTo found size clock)
+  pub only_refused : (why : Refusal) → OpeningRefused found size clock why → IsRefusedAs answer why
+  pub complete : (f : Found) (masters : List Master) → found ≡ Ok f → OpensWith f masters → (resized size clock (place_found f) ≢ [] → HasTimeLeft (place_found f)) → OpensHaving answer masters
+  pub moments : LeavesOnly old mid (MayOpen old found size clock)
+  pub refusals : (why : Refusal) → OpeningRefused found size clock why → LeavesOnly old mid (IsLike old)
+
+-- while it opens
+opening_part : {old mid : View} {found : Result Found Refusal} {size : Option ℕ} {draws : Option Draws} {begin : Place} {made : List Place} {at : Seen} (clock : Moment)
+    → (opens : IsOpen size found draws begin made at) → clock ≡ moment_in opens.told → LeavesOnly old mid (MayOpen old found size clock) → LeavesOnly old mid (OpensPart old begin made)
+opening_part {old} {mid} {found} {size} {begin = begin} {made = made} clock opens is run =
+    let at_clock : LeavesOnly old mid (MayOpen old (Ok opens.files) size (moment_in opens.told)) =
+    subst (λ (m : Moment). LeavesOnly old mid (MayOpen old (Ok opens.files) size m)) is (subst (λ (r : Result Found Refusal). LeavesOnly old mid (MayOpen old r size clock)) opens.found_is run) in
+    subst (λ (p : Place). LeavesOnly old mid (OpensPart old p made)) (sym opens.begin_is)
+    (subst (λ (ps : List Place). LeavesOnly old mid (OpensPart old (place_found opens.files) ps)) (sym opens.made_are) at_clock)
+
+-- what is open is where the opening leads
+opened_place : {size : Option ℕ} {found : Result Found Refusal} {draws : Option Draws} {begin : Place} {made : List Place} {at : Seen} (clock : Moment) (o : Opened)
+    → (opens : IsOpen size found draws begin made at) → clock ≡ moment_in opens.told → OpensTo found size clock o → place_of o ≡ at.place
+opened_place {size} {found} {begin = begin} {made = made} {at = at} clock o opens is to =
+    let files : to.found_is ≡ opens.files = same_Ok to.found_is opens.files (sym to.is ∙ opens.found_is) in
+    to.place_is
+    ∙ ap (λ (f : Found). end_of (place_found f) (places (resized size clock (place_found f)))) files
+    ∙ ap (λ (m : Moment). end_of (place_found opens.files) (places (resized size m (place_found opens.files)))) is
+    ∙ ap (λ (p : Place). end_of p (places (resized size (moment_in opens.told) (place_found opens.files)))) (sym opens.begin_is)
+    ∙ ap (end_of begin) (sym opens.made_are)
+    ∙ sym opens.place_is
+
+-- the masters with which it opens, for whatever answer
+open_having : {size : Option ℕ} {found : Result Found Refusal} {draws : Option Draws} {begin : Place} {made : List Place} {at : Seen} {old mid : View} (clock : Moment) (answer : Result Opened Stop)
+    → (opens : IsOpen size found draws begin made at) → clock ≡ moment_in opens.told → Answers found size clock answer old mid → OpensHaving answer opens.masters
+open_having {size} clock answer opens is answers =
+    answers.complete opens.files opens.masters opens.found_is opens.opens
+    (λ anew. opens.left (subst (λ (m : Moment). resized size m (place_found opens.files) ≢ []) is anew))
+
+-- and its state
+opened_state : {size : Option ℕ} {found : Result Found Refusal} {draws : Option Draws} {begin : Place} {made : List Place} {at : Seen} (o : Opened)
+    → (opens : IsOpen size found draws begin made at) → place_of o ≡ at.place → o.masters ≡ opens.masters → HasState o at.state
+opened_state {at = at} o opens place masters = record {
+  shows = subst (λ (p : Place). ShowsAt p at.state) (sym place) opens.shows;
+  masters_are = opens.masters_are ∙ sym masters;
+}
+
+-- ---- the four ways that an opening goes
+
+-- it opened
+pub admin_opened : {size : Option ℕ} {found : Result Found Refusal} {old mid now : View} {before after middle : Told} {result : Result Bool SessionHalt} (clock : Moment) (o : Opening) (primary : Opened)
+    → ((d : Draws) → before.draws ≡ Some d → clock ≡ moment_in d)
+    → admin_opens size found before.draws o → Answers found size clock (Ok primary) old mid
+    → middle ≡ told before.taken before.left (behind AMoment before.draws)
+    → ((s : State) → HasState primary s → HasCourse (course_from middle (seen (place_of primary) s)) mid now after result)
+    → OnOk result (IsReadWhole before.left after.left)
+    → HasRun o old now before after result
+admin_opened clock (Refuses why drawn) primary gave opens answers is course whole = absurd (answers.only_refused why (opens.1 clock))
+admin_opened {size} {found} {old} {mid} {now} {before} {after} {middle} {result} clock (Opens begin made at) primary gave opens answers is course whole =
+    let at_clock : clock ≡ moment_in opens.told = gave opens.told opens.draws_are in
+    let place : place_of primary ≡ at.place = opened_place clock primary opens at_clock answers.opens in
+    let state : HasState primary at.state = opened_state primary opens place (open_having clock (Ok primary) opens at_clock answers) in
+    opened_run begin made at (opening_part clock opens at_clock answers.moments)
+    (subst (λ (t : Told). HasCourse (course_from t at) mid now after result) is
+    (subst (λ (p : Place). HasCourse (course_from middle (seen p at.state)) mid now after result) place (course at.state state)))
+    whole
+admin_opened clock (Makes spec) primary gave opens answers is course whole = absurd opens
+admin_opened clock Ends primary gave opens answers is course whole = absurd opens
+
+-- it was refused, and that was written
+pub admin_refused : {size : Option ℕ} {found : Result Found Refusal} {old now : View} {before after : Told} (clock : Moment) (o : Opening) (refusal : Refusal)
+    → ((d : Draws) → before.draws ≡ Some d → clock ≡ moment_in d)
+    → admin_opens size found before.draws o → Answers found size clock (Err (stop.Refused refusal)) old now
+    → after.taken ≡ after_told before.taken (refusal_line refusal) → after.draws ≡ behind AMoment before.draws
+    → HasRun o old now before after (Ok true)
+admin_refused {old = old} {now = now} {before = before} {after = after} clock (Refuses why drawn) refusal gave opens answers said_it draws =
+    let cause : OpeningRefused _ _ clock why = opens.1 clock in
+    let same : refusal ≡ why = answers.only_refused why cause in
+    refused_run why drawn
+    (said_it ∙ ap (λ (r : Refusal). after_told before.taken (refusal_line r)) same)
+    (draws ∙ ap (λ (d : Drawn). behind d before.draws) (sym opens.0))
+    (subst (λ (d : Drawn). IsSame d old now) (sym opens.0) (answers.refusals why cause))
+admin_refused clock (Opens begin made at) refusal gave opens answers said_it draws =
+    absurd (open_having clock (Err (stop.Refused refusal)) opens (gave opens.told opens.draws_are) answers)
+admin_refused clock (Makes spec) refusal gave opens answers said_it draws = absurd opens
+admin_refused clock Ends refusal gave opens answers said_it draws = absurd opens
+
+-- of which not all was written
+pub admin_cut : {size : Option ℕ} {found : Result Found Refusal} {old now : View} {before after : Told} (clock : Moment) (o : Opening) (refusal : Refusal) (halt : SessionHalt)
+    → ((d : Draws) → before.draws ≡ Some d → clock ≡ moment_in d)
+    → admin_opens size found before.draws o → Answers found size clock (Err (stop.Refused refusal)) old now
+    → SaidPart (refusal_line refusal) before.taken after.taken
+    → (SparesOutput halt → after.taken ≡ before.taken)
+    → HasRun o old now before after (Err halt)
+admin_cut {old = old} {now = now} {before = before} {after = after} clock (Refuses why drawn) refusal halt gave opens answers part nothing =
+    let cause : OpeningRefused _ _ clock why = opens.1 clock in
+    let same : refusal ≡ why = answers.only_refused why cause in
+    cut_refusal_run why drawn halt
+    (subst (λ (r : Refusal). SaidPart (refusal_line r) before.taken after.taken) same part)
+    (subst (λ (d : Drawn). IsSame d old now) (sym opens.0) (answers.refusals why cause))
+    nothing
+admin_cut clock (Opens begin made at) refusal halt gave opens answers part nothing =
+    absurd (open_having clock (Err (stop.Refused refusal)) opens (gave opens.told opens.draws_are) answers)
+admin_cut clock (Makes spec) refusal halt gave opens answers part nothing = absurd opens
+admin_cut clock Ends refusal halt gave opens answers part nothing = absurd opens
+
+-- it was stopped
+pub admin_halted : {size : Option ℕ} {found : Result Found Refusal} {old now : View} {before after : Told} (clock : Moment) (o : Opening) (answer : Result Opened Stop) (halt : SessionHalt)
+    → ((d : Draws) → before.draws ≡ Some d → clock ≡ moment_in d)
+    → admin_opens size found before.draws o → Answers found size clock answer old now
+    → after.taken ≡ before.taken
+    → HasRun o old now before after (Err halt)
+admin_halted {old = old} {now = now} {before = before} {after = after} clock (Refuses why drawn) answer halt gave opens answers nothing =
+    let cause : OpeningRefused _ _ clock why = opens.1 clock in
+    cut_refusal_run why drawn halt (said_nothing (refusal_line why) before.taken after.taken nothing)
+    (subst (λ (d : Drawn). IsSame d old now) (sym opens.0) (answers.refusals why cause))
+    (λ _. nothing)
+admin_halted clock (Opens begin made at) answer halt gave opens answers nothing =
+    unopened_run begin made at halt (opening_part clock opens (gave opens.told opens.draws_are) answers.moments) nothing
+admin_halted clock (Makes spec) answer halt gave opens answers nothing = absurd opens
+admin_halted clock Ends answer halt gave opens answers nothing = absurd opens
+
+-- ---- what was read of the input
+
+-- what opens is read, and what is read opens
+pub opened_reads : {size : Option ℕ} {found : Result Found Refusal} {old mid : View} (draws : Option Draws) (clock : Moment) (o : Opening) (primary : Opened)
+    → admin_opens size found draws o → Answers found size clock (Ok primary) old mid → ReadsInput o
+opened_reads draws clock (Refuses why drawn) primary opens answers = absurd (answers.only_refused why (opens.1 clock))
+opened_reads draws clock (Opens begin made at) primary opens answers = tt
+opened_reads draws clock (Makes spec) primary opens answers = absurd opens
+opened_reads draws clock Ends primary opens answers = absurd opens
+
+-- ---- by the words
+
+pub for_admin : (files : Files) (draws : Option Draws) (o : Opening) (words : Result Words Refusal) (size : Option ℕ) → words ≡ Ok (Admin size) → IsOpening words files draws o → admin_opens size (found_in files) draws o
+unfolding IsOpening
+for_admin files draws o words size is opening = subst (λ (w : Result Words Refusal). IsOpening w files draws o) is opening
+
+pub for_create : (files : Files) (draws : Option Draws) (o : Opening) (words : Result Words Refusal) (spec : SpecParts) → words ≡ Ok (Create spec) → IsOpening words files draws o → o ≡ create_of spec (in_force (files 0))
+unfolding IsOpening
+for_create files draws o words spec is opening = subst (λ (w : Result Words Refusal). IsOpening w files draws o) is opening
+
+pub for_destroy : (files : Files) (draws : Option Draws) (o : Opening) (words : Result Words Refusal) → words ≡ Ok Destroy → IsOpening words files draws o → o ≡ destroy_of (in_force (files 0))
+unfolding IsOpening
+for_destroy files draws o words is opening = subst (λ (w : Result Words Refusal). IsOpening w files draws o) is opening
+
+pub for_refusal : (files : Files) (draws : Option Draws) (o : Opening) (words : Result Words Refusal) (refusal : Refusal) → words ≡ Err refusal → IsOpening words files draws o → o ≡ Refuses refusal NoDraw
+unfolding IsOpening
+for_refusal files draws o words refusal is opening = subst (λ (w : Result Words Refusal). IsOpening w files draws o) is opening
+
+-- ---- there is an opening
+
+-- whether a log is begun anew does not depend on the clock
+anew_either : (b : Bool) (x y : Stage) → (if b then [] else x ∷ []) ≢ [] → (if b then [] else y ∷ []) ≢ []
+anew_either true x y anew = absurd (anew refl)
+anew_either false x y anew = λ e. absurd cc
+
+refused_always : (found : Result Found Refusal) (size : Option ℕ) (clock other : Moment) (why : Refusal) → OpeningRefused found size clock why → OpeningRefused found size other why
+refused_always (Err refusal) size clock other why is = is
+refused_always (Ok f) size clock other why (inl cause) = inl cause
+refused_always (Ok f) size clock other why (inr late) = inr (record {
+  masters = late.masters;
+  opens = late.opens;
+  ends = record { anew = anew_either _ _ _ late.ends.anew; ended = late.ends.ended; why_is = late.ends.why_is };
+})
+
+-- one that was refused
+pub refused_opening : (size : Option ℕ) (found : Result Found Refusal) (draws : Option Draws) (clock : Moment) (why : Refusal) → OpeningRefused found size clock why → HasAdminOpening size found draws
+refused_opening size found draws clock why refused = record { opening = Refuses why AMoment; is = (refl, λ other. refused_always found size clock other why refused) }
+
+-- one that went well
+pub good_opening : (size : Option ℕ) (found : Result Found Refusal) (draws : Draws) (clock : Moment) (o : Opened) → clock ≡ moment_in draws → OpensTo found size clock o → IsOpened o → HasAdminOpening size found (Some draws)
+good_opening size found draws clock o is to opened = record {
+  opening = Opens (place_found to.found_is) (places (resized size (moment_in draws) (place_found to.found_is))) (seen (place_of o) opened.state);
+  is = record {
+    told = draws;
+    draws_are = refl;
+    files = to.found_is;
+    found_is = to.is;
+    masters = o.masters;
+    opens = to.opens;
+    begin_is = refl;
+    made_are = refl;
+    left = subst (λ (m : Moment). resized size m (place_found to.found_is) ≢ [] → HasTimeLeft (place_found to.found_is)) is to.left;
+    place_is = to.place_is ∙ ap (λ (m : Moment). end_of (place_found to.found_is) (places (resized size m (place_found to.found_is)))) is;
+    shows = opened.has.shows;
+    masters_are = opened.has.masters_are;
+  };
+}
+
+pub any_ok : {T E : Type 0} (r : Result T E) (P : Type 0) → P → OnOk r P
+any_ok (Ok x) P p = p
+any_ok (Err e) P p = tt
+
+-- by the words
+pub admin_has : (files : Files) (draws : Option Draws) (words : Result Words Refusal) (size : Option ℕ) → words ≡ Ok (Admin size) → HasAdminOpening size (found_in files) draws → HasOpening words files draws
+unfolding IsOpening
+admin_has files draws words size is has = subst (λ (w : Result Words Refusal). HasOpening w files draws) (sym is) (record { opening = has.opening; is = has.is })
+
+pub create_has : (files : Files) (draws : Option Draws) (words : Result Words Refusal) (spec : SpecParts) → words ≡ Ok (Create spec) → HasOpening words files draws
+unfolding IsOpening
+create_has files draws words spec is = subst (λ (w : Result Words Refusal). HasOpening w files draws) (sym is) (record { opening = create_of spec (in_force (files 0)); is = refl })
+
+pub destroy_has : (files : Files) (draws : Option Draws) (words : Result Words Refusal) → words ≡ Ok Destroy → HasOpening words files draws
+unfolding IsOpening
+destroy_has files draws words is = subst (λ (w : Result Words Refusal). HasOpening w files draws) (sym is) (record { opening = destroy_of (in_force (files 0)); is = refl })
+
+pub refusal_has : (files : Files) (draws : Option Draws) (words : Result Words Refusal) (refusal : Refusal) → words ≡ Err refusal → HasOpening words files draws
+unfolding IsOpening
+refusal_has files draws words refusal is = subst (λ (w : Result Words Refusal). HasOpening w files draws) (sym is) (record { opening = Refuses refusal NoDraw; is = refl })

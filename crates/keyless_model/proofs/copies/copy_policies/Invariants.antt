@@ -1,5 +1,0 @@
-use Rattle.std.proofs.Common.{◌≡◌, take}
-use Rattle.keyless_model.proofs.copies.copy_policies.Given as goal
-
-abbrev pub invariant-loop-policy : goal.invariant-loop-policy
-invariant-loop-policy l = l.out.items ≡ take l.policy-index l.policies
