@@ -79,6 +79,11 @@ same_parts k control log cells rows a b c d =
     ∙ ap (λ (x : CellFile). renewed k.control k.log x k.realm rows k) c
     ∙ ap (λ (x : RowLists). renewed k.control k.log k.cells k.realm x k) d
 
+pub same_renewal : (k : Kept) (control : Choice) (log : Journal) (cells : CellFile) (realm : List ℕ) (rows : RowLists) → control ≡ k.control → log ≡ k.log → cells ≡ k.cells
+    → realm ≡ k.realm → rows ≡ k.rows → renewed control log cells realm rows k ≡ k
+same_renewal k control log cells realm rows a b c d e =
+    ap (λ (x : List ℕ). renewed control log cells x rows k) d ∙ same_parts k control log cells rows a b c e
+
 pub still_on : {D : Type 0} (view : D → View) (k old next : Kept) (before after : D) → next ≡ k → k ≡ old → after ≡ before → IsOnDisk old (view before) → IsOnDisk next (view after)
 still_on view k old next before after same is nothing on =
     subst (λ d. IsOnDisk next (view d)) (sym nothing) (subst (λ (x : Kept). IsOnDisk x (view before)) (sym (same ∙ is)) on)

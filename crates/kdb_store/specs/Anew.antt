@@ -1,5 +1,6 @@
 -- A change behind a log that is begun anew.
 use Rattle.std.specs.Prelude.{◌≡◌, ◌+◌, ◌∷◌, [], ℕ, Some}
+use Rattle.kdb_base.specs.Moment.{Moment}
 use Rattle.kdb_base.specs.declared.moments.Point.{Point}
 use Rattle.kdb_disk.specs.View.{View}
 use Rattle.kdb_control.specs.Choice.{Choice}
@@ -18,9 +19,9 @@ use Rattle.kdb_store.specs.Parts.{LeadsAlike}
 use Rattle.kdb_store.specs.Writes.{IsPlan}
 use Rattle.store_opening.specs.declared.unit_writes.UnitWrite.{UnitWrite}
 
--- the point of the change behind the base: the next serial, at the same time
-abbrev pub point_behind : Point → Point
-point_behind base = record { sno = base.sno + 1; time = base.time }
+-- the point of the change behind the base at this time: the next serial
+abbrev pub point_behind : Point → Moment → Point
+point_behind base time = record { sno = base.sno + 1; time = time }
 
 -- A change is planned over what is kept, and its unit is given in the file of cells.
 pub record IsPlanned (k : Kept) (given : CellFile) (w : UnitWrite) (op : Op) : Type 0 where
@@ -32,8 +33,8 @@ pub record IsPlanned (k : Kept) (given : CellFile) (w : UnitWrite) (op : Op) : T
   pub name : IsNewName op k.rows
   pub room : IsRoom (effect (Some op) k.rows)
 
--- What is kept stands under this choice, and the entry is that of a change of it behind this base.
-pub record IsBehind (now : Choice) (base : Point) (k : Kept) (given : CellFile) (e : Entry) (w : UnitWrite) (op : Op) (v : View) : Type 0 where
+-- What is kept stands under this choice, and the entry is that of a change of it behind this base, at this time.
+pub record IsBehind (now : Choice) (base : Point) (time : Moment) (k : Kept) (given : CellFile) (e : Entry) (w : UnitWrite) (op : Op) (v : View) : Type 0 where
   pub under : IsUnder now k v
   pub planned : IsPlanned k given w op
-  pub entry_is : e ≡ change op (point_behind base)
+  pub entry_is : e ≡ change op (point_behind base time)

@@ -68,6 +68,7 @@ impl Database {
         requires format { (place_kept self.old).format ≡ 2 }
         ensures point { IfOk result (λ point. point ≡ next_point time (place_kept self.old)) }
         ensures place { OnOk result (place_kept self.new ≡ committed op time (place_kept self.old)) }
+        ensures control { self.new.control ≡ self.old.control }
         ensures on { D.tells → OnOk result (IsOnDisk self.new (D.view disk.new)) }
         ensures crash { IsCrashSafe D.Disk disk.old disk.new (LeavesPart (place_kept self.old) (committed op time (place_kept self.old) ∷ [])) }
         ensures err { OnErr result (place_kept self.new ≡ place_kept self.old) }

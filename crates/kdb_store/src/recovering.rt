@@ -1,10 +1,10 @@
 //! A database opened.
 ghost use Rattle.std.specs.Prelude.{◌≡◌, false, IfOk, IfErr, Err};
-ghost use Rattle.kdb_base.specs.declared.outcomes.Halt.TheVariants.{DiskFault as IsDiskFault};
+ghost use Rattle.kdb_base.specs.declared.outcomes.Halt.TheVariants.{MemoryOut as IsMemoryOut, DiskFault as IsDiskFault};
 ghost use Rattle.kdb_base.specs.declared.outcomes.Refusal.{Refusal as Refuses};
 ghost use Rattle.kdb_base.specs.declared.outcomes.Stop.TheVariants.{Refused, Halt as Halts};
 ghost use Rattle.kdb_disk.specs.Frames.{IsCall};
-ghost use Rattle.kdb_disk.specs.Moments.{Keeps, LeavesOnly};
+ghost use Rattle.kdb_disk.specs.Moments.{IsSettled, Keeps, LeavesOnly};
 ghost use Rattle.kdb_disk.specs.View.{View};
 ghost use Rattle.store_files.specs.Found.{recovers, found_in};
 ghost use Rattle.store_files.specs.Kept.{IsOnDisk, place_kept};
@@ -37,6 +37,9 @@ impl Database {
         ensures on { D.tells → IfOk result (λ d. IsOnDisk d (D.view disk.new)) }
         ensures moments { D.tells → LeavesOnly (D.view disk.old) (D.view disk.new) (IsLike (D.view disk.old)) }
         ensures refused_keeps { D.tells → (why : Refuses) → result ≡ Err (Refused why) → Keeps (D.view disk.old) (D.view disk.new) }
+        ensures memory_keeps { D.tells → result ≡ Err (Halts IsMemoryOut) → Keeps (D.view disk.old) (D.view disk.new) }
+        // after a refusal no crash leaves anything but what is read
+        ensures refused_settled { D.tells → (why : Refuses) → result ≡ Err (Refused why) → IsSettled (D.view disk.new) }
         ensures call { IsCall D.Disk disk.old disk.new (result ≡ Err (Halts IsDiskFault)) }
     {
         match recover_parts(alloc, disk) {

@@ -133,38 +133,42 @@ fn renew_parts<D: Disk>(
     }
 }
 
-// Puts these rows in the place of all rows, in memory and on the disk.
+// Puts this realm and these rows in the place of the realm and of all rows, in memory and on the disk.
 fn replace_parts<D: Disk>(
     alloc: Global,
     disk: &mut D,
     control: &mut Control,
     log: &mut Log,
     cells: &mut Cells,
+    realm: &mut Realm,
     rows: &mut Rows,
-    realm: &Realm,
+    new_realm: Realm,
     new: Rows,
     base: Point,
 ) -> Result<(), Halt>
     requires force { D.tells → HasInForce (Is control.old) (D.view disk.old) }
+    ensures realm { OnOk result (realm.new ≡ new_realm) }
     ensures rows { OnOk result (rows.new ≡ new) }
     ensures renewed { OnOk result (AreRenewed base control.old.size control.old.block new control.old control.new log.new cells.new) }
+    ensures same_realm { OnErr result (realm.new ≡ realm.old) }
     ensures same_rows { OnErr result (rows.new ≡ rows.old) }
     ensures same_control { OnErr result (control.new ≡ control.old) }
     ensures same_log { OnErr result (log.new ≡ log.old) }
     ensures same_cells { OnErr result (cells.new ≡ cells.old) }
     ensures crash { D.tells → (k : Kept) → IsUnder control.old k (D.view disk.old)
-        → LeavesOnly (D.view disk.old) (D.view disk.new) (LeavesPart (place_kept k) (place_renewed base control.old.size control.old.block realm.now new (place_kept k) ∷ [])) }
+        → LeavesOnly (D.view disk.old) (D.view disk.new) (LeavesPart (place_kept k) (place_renewed base control.old.size control.old.block new_realm new (place_kept k) ∷ [])) }
     ensures on { D.tells → (k : Kept) → IsUnder control.old k (D.view disk.old)
-        → OnOk result (IsOnDisk (renewed control.new log.new cells.new realm.now rows.new k) (D.view disk.new)) }
+        → OnOk result (IsOnDisk (renewed control.new log.new cells.new realm.new rows.new k) (D.view disk.new)) }
     ensures memory { result ≡ Err IsMemoryOut → disk.new ≡ disk.old }
     ensures call { IsCall D.Disk disk.old disk.new (result ≡ Err IsDiskFault) }
 {
     let size = control.size;
     let block = control.block;
     match renew_parts(
-        alloc, disk, control, log, cells, realm, &new, base, size, block,
+        alloc, disk, control, log, cells, &new_realm, &new, base, size, block,
     ) {
         Ok(()) => {
+            *realm = new_realm;
             *rows = new;
             Ok(())
         }
@@ -225,24 +229,25 @@ impl Database {
         }
     }
 
-    /// Puts these rows in the place of all rows, and begins the log anew at this base. The realm, the
-    /// stash, the number of entries that the log holds and the length of their slots stay, and the files
-    /// are then of format 2. Memory is taken before the first device call.
+    /// Puts this realm and these rows in the place of the realm and of all rows, and begins the log anew at
+    /// this base. The stash, the number of entries that the log holds and the length of their slots stay, and
+    /// the files are then of format 2. Memory is taken before the first device call.
     ///
-    /// At each moment a crash leaves the place before, or the one with these rows. After `DiskFault` the
+    /// At each moment a crash leaves the place before, or the one with this realm and these rows. After `DiskFault` the
     /// disk is to be opened again.
     pub fn replace<D: Disk>(
         &mut self,
         alloc: Global,
         disk: &mut D,
+        realm: Realm,
         rows: Rows,
         base: Point,
     ) -> Result<(), Halt>
         requires on { D.tells → IsOnDisk self.old (D.view disk.old) }
         requires whole { self.old.broken ≡ false }
-        ensures place { OnOk result (place_kept self.new ≡ replaced self.old.realm rows base (place_kept self.old)) }
+        ensures place { OnOk result (place_kept self.new ≡ replaced realm rows base (place_kept self.old)) }
         ensures on { D.tells → OnOk result (IsOnDisk self.new (D.view disk.new)) }
-        ensures crash { IsCrashSafe D.Disk disk.old disk.new (LeavesPart (place_kept self.old) (replaced self.old.realm rows base (place_kept self.old) ∷ [])) }
+        ensures crash { IsCrashSafe D.Disk disk.old disk.new (LeavesPart (place_kept self.old) (replaced realm rows base (place_kept self.old) ∷ [])) }
         ensures err { OnErr result (place_kept self.new ≡ place_kept self.old) }
         ensures memory { result ≡ Err IsMemoryOut → disk.new ≡ disk.old }
         // Where memory ran out, the database stands on the disk as before.
@@ -258,8 +263,9 @@ impl Database {
             &mut self.control,
             &mut self.log,
             &mut self.cells,
+            &mut self.realm,
             &mut self.rows,
-            &self.realm,
+            realm,
             rows,
             base,
         ) {

@@ -1,5 +1,7 @@
 //! The log of a database begun anew, with a change behind it.
 ghost use Rattle.std.specs.Prelude.{◌≡◌, ◌≤◌, ◌<◌, ◌-◌, ◌*◌, ◌∷◌, [], List, ℕ, Some, Err, IfOk, OnOk, OnErr, IsErr, length, map};
+ghost use Rattle.kdb_base.specs.Moment.{Moment};
+ghost use Rattle.kdb_base.specs.Moments.{micros};
 ghost use Rattle.kdb_base.specs.declared.outcomes.Halt.TheVariants.{MemoryOut as IsMemoryOut, DiskFault as IsDiskFault};
 ghost use Rattle.kdb_disk.specs.View.{View};
 ghost use Rattle.kdb_disk.specs.Frames.{IsCall};
@@ -25,7 +27,7 @@ ghost use Rattle.kdb_store.specs.Writes.{number_of, Writes, IsGivenTo, MayWrite,
 
 use crate::changing::{Planned, begin_change, holds_rows};
 use crate::disk_changes::write_prepared;
-use kdb_base::{Halt, MemoryOut, Point};
+use kdb_base::{Halt, MemoryOut, Point, Time};
 use kdb_cells::Cells;
 use kdb_control::Control;
 use kdb_disk::{Disk, DiskFailed};
@@ -100,9 +102,9 @@ fn write_anew<D: Disk>(
     requires given { IsGivenTo write cells.old }
     requires may { MayWrite write cells.old }
     requires within { D.tells → number_of write * unit_size cells.old.format ≤ length ((D.view disk.old).seen cells.old.file) }
-    ensures crash { D.tells → (k : Kept) (op : IsChangeOp) → IsBehind now.now next.now.base k cells.old entry.now write op (D.view disk.old)
-        → LeavesOnly (D.view disk.old) (D.view disk.new) (LeavesPart (place_kept k) (log_anew next.now.base next.now.size next.now.block (place_kept k) ∷ committed op next.now.base.time (log_anew next.now.base next.now.size next.now.block (place_kept k)) ∷ [])) }
-    ensures on { D.tells → (k : Kept) (op : IsChangeOp) → IsBehind now.now next.now.base k cells.old entry.now write op (D.view disk.old)
+    ensures crash { D.tells → (k : Kept) (op : IsChangeOp) (time : Moment) → IsBehind now.now next.now.base time k cells.old entry.now write op (D.view disk.old)
+        → LeavesOnly (D.view disk.old) (D.view disk.new) (LeavesPart (place_kept k) (log_anew next.now.base next.now.size next.now.block (place_kept k) ∷ committed op time (log_anew next.now.base next.now.size next.now.block (place_kept k)) ∷ [])) }
+    ensures on { D.tells → (k : Kept) (op : IsChangeOp) (time : Moment) → IsBehind now.now next.now.base time k cells.old entry.now write op (D.view disk.old)
         → OnOk result (IsOnDisk (with_parts log.new cells.new (effect (Some op) k.rows) (with_log next.now log.new k)) (D.view disk.new)) }
     ensures held { OnOk result (log.new ≡ log_committed log.old) }
     ensures leads { (held : List Cell) → HoldsCells cells.old held → number_of write ≤ length held
@@ -142,9 +144,9 @@ fn put_anew<D: Disk>(
     requires given { IsGivenTo write cells.old }
     requires may { MayWrite write cells.old }
     requires within { D.tells → number_of write * unit_size cells.old.format ≤ length ((D.view disk.old).seen cells.old.file) }
-    ensures crash { D.tells → (k : Kept) (op : IsChangeOp) → IsBehind now.now next.now.base k cells.old entry.now write op (D.view disk.old)
-        → LeavesOnly (D.view disk.old) (D.view disk.new) (LeavesPart (place_kept k) (log_anew next.now.base next.now.size next.now.block (place_kept k) ∷ committed op next.now.base.time (log_anew next.now.base next.now.size next.now.block (place_kept k)) ∷ [])) }
-    ensures on { D.tells → (k : Kept) (op : IsChangeOp) → IsBehind now.now next.now.base k cells.old entry.now write op (D.view disk.old)
+    ensures crash { D.tells → (k : Kept) (op : IsChangeOp) (time : Moment) → IsBehind now.now next.now.base time k cells.old entry.now write op (D.view disk.old)
+        → LeavesOnly (D.view disk.old) (D.view disk.new) (LeavesPart (place_kept k) (log_anew next.now.base next.now.size next.now.block (place_kept k) ∷ committed op time (log_anew next.now.base next.now.size next.now.block (place_kept k)) ∷ [])) }
+    ensures on { D.tells → (k : Kept) (op : IsChangeOp) (time : Moment) → IsBehind now.now next.now.base time k cells.old entry.now write op (D.view disk.old)
         → IfOk result (λ log. IsOnDisk (with_parts log cells.new (effect (Some op) k.rows) (with_log next.now log k)) (D.view disk.new)) }
     ensures held { IfOk result (λ log. log ≡ log_committed (with_prepared (Some (record { entry = entry.now; cell = number_of write })) (begun next.now.log next.now.base next.now.size next.now.block))) }
     ensures leads { (held : List Cell) → HoldsCells cells.old held → number_of write ≤ length held
@@ -187,9 +189,9 @@ fn reset_parts<D: Disk>(
     requires given { IsGivenTo write cells.old }
     requires may { MayWrite write cells.old }
     requires within { D.tells → number_of write * unit_size cells.old.format ≤ length ((D.view disk.old).seen cells.old.file) }
-    ensures crash { D.tells → (k : Kept) (op : IsChangeOp) → IsBehind control.old base k cells.old entry.now write op (D.view disk.old)
-        → LeavesOnly (D.view disk.old) (D.view disk.new) (LeavesPart (place_kept k) (log_anew base size block (place_kept k) ∷ committed op base.time (log_anew base size block (place_kept k)) ∷ [])) }
-    ensures on { D.tells → (k : Kept) (op : IsChangeOp) → IsBehind control.old base k cells.old entry.now write op (D.view disk.old)
+    ensures crash { D.tells → (k : Kept) (op : IsChangeOp) (time : Moment) → IsBehind control.old base time k cells.old entry.now write op (D.view disk.old)
+        → LeavesOnly (D.view disk.old) (D.view disk.new) (LeavesPart (place_kept k) (log_anew base size block (place_kept k) ∷ committed op time (log_anew base size block (place_kept k)) ∷ [])) }
+    ensures on { D.tells → (k : Kept) (op : IsChangeOp) (time : Moment) → IsBehind control.old base time k cells.old entry.now write op (D.view disk.old)
         → OnOk result (IsOnDisk (with_parts log.new cells.new (effect (Some op) k.rows) (with_log control.new log.new k)) (D.view disk.new)) }
     ensures control { OnOk result (control.new ≡ reset_choice control.new.log base size block control.old) }
     ensures held { OnOk result (log.new ≡ log_committed (with_prepared (Some (record { entry = entry.now; cell = number_of write })) (begun control.new.log base size block))) }
@@ -264,9 +266,9 @@ fn reset_begun<D: Disk>(
     requires begun { IsBegun under_way rows.old }
     ensures rows { OnOk result (rows.new ≡ finished under_way rows.old) }
     ensures back { OnErr result (rows.new ≡ undone under_way rows.old) }
-    ensures crash { D.tells → (k : Kept) (op : IsChangeOp) → IsBehind control.old base k cells.old entry write op (D.view disk.old)
-        → LeavesOnly (D.view disk.old) (D.view disk.new) (LeavesPart (place_kept k) (log_anew base size block (place_kept k) ∷ committed op base.time (log_anew base size block (place_kept k)) ∷ [])) }
-    ensures on { D.tells → (k : Kept) (op : IsChangeOp) → IsBehind control.old base k cells.old entry write op (D.view disk.old)
+    ensures crash { D.tells → (k : Kept) (op : IsChangeOp) (time : Moment) → IsBehind control.old base time k cells.old entry write op (D.view disk.old)
+        → LeavesOnly (D.view disk.old) (D.view disk.new) (LeavesPart (place_kept k) (log_anew base size block (place_kept k) ∷ committed op time (log_anew base size block (place_kept k)) ∷ [])) }
+    ensures on { D.tells → (k : Kept) (op : IsChangeOp) (time : Moment) → IsBehind control.old base time k cells.old entry write op (D.view disk.old)
         → OnOk result (IsOnDisk (with_parts log.new cells.new (effect (Some op) k.rows) (with_log control.new log.new k)) (D.view disk.new)) }
     ensures control { OnOk result (control.new ≡ reset_choice control.new.log base size block control.old) }
     ensures held { OnOk result (log.new ≡ log_committed (with_prepared (Some (record { entry = entry; cell = number_of write })) (begun control.new.log base size block))) }
@@ -294,7 +296,18 @@ fn reset_begun<D: Disk>(
     }
 }
 
-/// Begins the log anew at this base and makes the change behind it, in memory and on the disk. Memory is taken
+// The point of the change behind this base, at this time.
+pub(crate) fn behind(base: &Point, time: Time) -> Point
+    requires { base.now.sno < 4294967295 }
+    ensures { result ≡ point_behind base.now time }
+{
+    Point {
+        sno: base.sno + 1,
+        time,
+    }
+}
+
+/// Begins the log anew at this base and makes the change behind it, at this time, in memory and on the disk. Memory is taken
 /// before the first device call. After an error nothing of it is in memory.
 pub(crate) fn reset_change<D: Disk>(
     alloc: Global,
@@ -306,7 +319,7 @@ pub(crate) fn reset_change<D: Disk>(
     base: Point,
     block: u32,
     op: Op,
-    point: Point,
+    time: Time,
 ) -> Result<(), Halt>
     requires on { D.tells → (k : Kept) × IsUnder control.old (with_parts log.old cells.old rows.old k) (D.view disk.old) }
     requires indexed { AreIndexed cells.old rows.old }
@@ -315,7 +328,8 @@ pub(crate) fn reset_change<D: Disk>(
     requires op { IsOp (Some op) }
     requires room { IsRoom (effect (Some op) rows.old) }
     requires name { IsNewName op rows.old }
-    requires point { point ≡ point_behind base }
+    requires serial { base.sno < 4294967295 }
+    requires time { micros base.time ≤ micros time }
     requires short { entry_len (Some op) ≤ block - 1 }
     requires format { cells.old.format ≡ 2 }
     requires image { cells.old.file ≡ control.old.image }
@@ -324,13 +338,13 @@ pub(crate) fn reset_change<D: Disk>(
     ensures indexed { AreIndexed cells.new rows.new }
     ensures control { OnOk result (control.new ≡ reset_choice control.new.log base control.old.size block control.old) }
     ensures alike { OnOk result (SameNumbers (begun control.new.log base control.old.size block) log.new) }
-    ensures held { OnOk result (map entry_of log.new.held ≡ last_entries control.old.size (base_marker base ∷ change op (point_behind base) ∷ [])) }
+    ensures held { OnOk result (map entry_of log.new.held ≡ last_entries control.old.size (base_marker base ∷ change op (point_behind base time) ∷ [])) }
     ensures same_control { OnErr result (control.new ≡ control.old) }
     ensures same_log { OnErr result (log.new ≡ log.old) }
     ensures number { cells.new.file ≡ cells.old.file }
     ensures same_format { cells.new.format ≡ cells.old.format }
     ensures crash { D.tells → (k : Kept) → IsUnder control.old (with_parts log.old cells.old rows.old k) (D.view disk.old)
-        → LeavesOnly (D.view disk.old) (D.view disk.new) (LeavesPart (place_kept (with_parts log.old cells.old rows.old k)) (log_anew base control.old.size block (place_kept (with_parts log.old cells.old rows.old k)) ∷ committed op base.time (log_anew base control.old.size block (place_kept (with_parts log.old cells.old rows.old k))) ∷ [])) }
+        → LeavesOnly (D.view disk.old) (D.view disk.new) (LeavesPart (place_kept (with_parts log.old cells.old rows.old k)) (log_anew base control.old.size block (place_kept (with_parts log.old cells.old rows.old k)) ∷ committed op time (log_anew base control.old.size block (place_kept (with_parts log.old cells.old rows.old k))) ∷ [])) }
     ensures on { D.tells → (k : Kept) → IsUnder control.old (with_parts log.old cells.old rows.old k) (D.view disk.old)
         → OnOk result (IsOnDisk (with_parts log.new cells.new rows.new (with_log control.new log.new k)) (D.view disk.new)) }
     ensures still { D.tells → (k : Kept) → IsUnder control.old (with_parts log.old cells.old rows.old k) (D.view disk.old)
@@ -341,6 +355,7 @@ pub(crate) fn reset_change<D: Disk>(
     holds_rows(rows);
     entries_have_their_lengths();
     let size = size_of(control);
+    let point = behind(&base, time);
     match begin_change(alloc, cells, rows, op, point) {
         Ok(
             Planned {

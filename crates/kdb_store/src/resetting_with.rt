@@ -6,34 +6,23 @@ ghost use Rattle.kdb_disk.specs.View.{View};
 ghost use Rattle.kdb_disk.specs.Frames.{IsCall, IsCrashSafe};
 ghost use Rattle.princ_entries.specs.Entries.{IsOp, entry_len};
 ghost use Rattle.kdb_places.specs.Applying.{may_apply};
-ghost use Rattle.kdb_places.specs.Places.{point_of, committed, log_anew};
+ghost use Rattle.kdb_places.specs.Places.{committed, log_anew};
 ghost use Rattle.store_files.specs.Kept.{IsOnDisk, place_kept};
 ghost use Rattle.store_files.specs.Recovery.{LeavesPart};
 ghost use Rattle.kdb_store.specs.Anew.{point_behind};
 
 use crate::database::Database;
-use crate::reset_changes::reset_change;
-use kdb_base::{Halt, Point};
+use crate::reset_changes::{behind, reset_change};
+use kdb_base::{Halt, Point, Time};
 use kdb_disk::Disk;
 use kdb_places::laws::what_may_be_applied;
 use princ_rows::Op;
 use std::alloc::Global;
 
-// The point of the change behind this base.
-fn behind(base: &Point) -> Point
-    requires { base.now.sno < 4294967295 }
-    ensures { result ≡ point_behind base.now }
-{
-    Point {
-        sno: base.sno + 1,
-        time: base.time,
-    }
-}
-
 impl Database {
     /// Begins the log anew at this base, with as many entries at most as before and in blocks of `block` bytes
-    /// (2048 to 16384), and makes the change behind it, at the base's time. It gives the point of the change.
-    /// All memory is taken before the first device call.
+    /// (2048 to 16384), and makes the change behind it, at this time, which is not before the base's. It gives
+    /// the point of the change. All memory is taken before the first device call.
     ///
     /// At each moment a crash leaves the place before, the one with the log begun anew, or the one with the
     /// change behind it. After `DiskFault` the disk is to be opened again.
@@ -44,6 +33,7 @@ impl Database {
         base: Point,
         block: u32,
         op: Op,
+        time: Time,
     ) -> Result<Point, Halt>
         requires on { D.tells → IsOnDisk self.old (D.view disk.old) }
         requires whole { self.old.broken ≡ false }
@@ -53,12 +43,12 @@ impl Database {
         requires fits { entry_len (Some op) ≤ block - 1 }
         requires applies { may_apply op self.old.rows ≡ true }
         requires serial { base.sno < 4294967295 }
-        requires time { micros (point_of (place_kept self.old)).time < micros base.time }
-        ensures point { IfOk result (λ p. p ≡ record { sno = base.sno + 1; time = base.time }) }
-        ensures place { OnOk result (place_kept self.new ≡ committed op base.time (log_anew base (place_kept self.old).size block (place_kept self.old))) }
+        requires time { micros base.time ≤ micros time }
+        ensures point { IfOk result (λ p. p ≡ point_behind base time) }
+        ensures place { OnOk result (place_kept self.new ≡ committed op time (log_anew base (place_kept self.old).size block (place_kept self.old))) }
         ensures on { D.tells → OnOk result (IsOnDisk self.new (D.view disk.new)) }
         ensures err { OnErr result ((place_kept self.new ≡ place_kept self.old) ⊎ (place_kept self.new ≡ log_anew base (place_kept self.old).size block (place_kept self.old))) }
-        ensures crash { IsCrashSafe D.Disk disk.old disk.new (LeavesPart (place_kept self.old) (log_anew base (place_kept self.old).size block (place_kept self.old) ∷ committed op base.time (log_anew base (place_kept self.old).size block (place_kept self.old)) ∷ [])) }
+        ensures crash { IsCrashSafe D.Disk disk.old disk.new (LeavesPart (place_kept self.old) (log_anew base (place_kept self.old).size block (place_kept self.old) ∷ committed op time (log_anew base (place_kept self.old).size block (place_kept self.old)) ∷ [])) }
         ensures memory { result ≡ Err IsMemoryOut → disk.new ≡ disk.old }
         ensures memory_place { result ≡ Err IsMemoryOut → place_kept self.new ≡ place_kept self.old }
         // Where memory ran out, the database stands on the disk as before.
@@ -69,8 +59,7 @@ impl Database {
         ensures call { IsCall D.Disk disk.old disk.new (result ≡ Err IsDiskFault) }
     {
         what_may_be_applied();
-        let point = behind(&base);
-        let next = behind(&base);
+        let point = behind(&base, time);
         match reset_change(
             alloc,
             disk,
@@ -81,7 +70,7 @@ impl Database {
             base,
             block,
             op,
-            next,
+            time,
         ) {
             Ok(()) => Ok(point),
             Err(Halt::DiskFault) => {

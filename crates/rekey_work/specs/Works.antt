@@ -4,9 +4,12 @@ use Rattle.std.specs.List.{All, AllZip}
 use Rattle.kdb_base.specs.Key.{Key}
 use Rattle.kdb_base.specs.Limits.{most_keys}
 use Rattle.kdb_base.specs.declared.versions.Master.{Master}
-use Rattle.kdb_model.specs.Rekeying.{Take, Ready, TakenAlready, Taking, Work, may_settle, other_record, other_version}
+use Rattle.kdb_model.specs.Rekeying as model
+use Rattle.kdb_model.specs.Rekeying.{At, Take, Ready, SettledGone, TakenAlready, Taking, Work, may_settle, other_record, other_version, rekey, settled_by}
 use Rattle.kdb_plain.specs.States.{master_of}
+use Rattle.kdb_plain.specs.declared.states.State.{State}
 use Rattle.master_keys.specs.Rewrapping.{Holds, HoldsOne}
+use Rattle.princ_name.specs.Names.{NameParts}
 use Rattle.princ_record.specs.Princs.{IsPrinc}
 use Rattle.princ_keys.specs.declared.keys.KeyItem.{KeyItem}
 use Rattle.princ_record.specs.declared.princs.Princ.{Princ}
@@ -55,3 +58,10 @@ settled_with None masters active work = settled.Gone
 settled_with (Some stored) masters active work = if may_settle masters (Some active) stored work.taken
     then settled.Updated work.made
     else settled.Changed (other_record stored work.taken) (other_version (Some active) work.taken)
+
+-- what the model has for it: what is to be stored is a rekeying, which may be refused
+abbrev pub as_modelled : State → NameParts → At → Settled → model.Settled
+as_modelled s name at (settled.Updated made) = settled_by made (rekey s name at)
+as_modelled s name at settled.Already = model.Changed None None
+as_modelled s name at settled.Gone = SettledGone
+as_modelled s name at (settled.Changed p version) = model.Changed p version

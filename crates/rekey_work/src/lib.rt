@@ -2,6 +2,7 @@
 //! settled under it.
 #![tactic(auto)]
 
+pub mod laws;
 pub mod rewrapping;
 pub mod settling;
 pub mod taking;

@@ -112,6 +112,13 @@ impl Rewrapped {
         &self.taken
     }
 
+    /// Tells a proof what holds of every such value, and does nothing.
+    pub fn holds_work(&self)
+        ensures { IsWork self.now }
+    {
+        let _ = &self.taken;
+    }
+
     /// The record that was made.
     pub fn into_made(self) -> Princ
         ensures made { result ≡ self.made }

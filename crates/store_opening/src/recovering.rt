@@ -1,6 +1,6 @@
 //! A database opened: its files are read, and the last entry is done again.
 ghost use Rattle.std.specs.Prelude.{◌≡◌, IfOk, IfErr, IsErr, Err};
-ghost use Rattle.kdb_base.specs.declared.outcomes.Halt.TheVariants.{DiskFault as IsDiskFault};
+ghost use Rattle.kdb_base.specs.declared.outcomes.Halt.TheVariants.{MemoryOut as IsMemoryOut, DiskFault as IsDiskFault};
 ghost use Rattle.kdb_base.specs.declared.outcomes.Refusal.{Refusal as Refuses};
 ghost use Rattle.kdb_base.specs.declared.outcomes.Stop.TheVariants.{Refused, Halt as Halts};
 ghost use Rattle.kdb_disk.specs.Frames.{IsCall};
@@ -49,6 +49,8 @@ fn recover_settled<D: Disk>(alloc: Global, disk: &mut D) -> Result<Parts, Stop>
     ensures on { D.tells → IfOk result (λ p. IsOnDisk (kept_of p) (D.view disk.new)) }
     ensures moments { D.tells → LeavesOnly (D.view disk.old) (D.view disk.new) (IsLike (D.view disk.old)) }
     ensures refused_keeps { D.tells → (r : Refuses) → result ≡ Err (Refused r) → Keeps (D.view disk.old) (D.view disk.new) }
+    ensures memory_keeps { D.tells → result ≡ Err (Halts IsMemoryOut) → Keeps (D.view disk.old) (D.view disk.new) }
+    ensures refused_settled { D.tells → (r : Refuses) → result ≡ Err (Refused r) → IsSettled (D.view disk.new) }
     ensures call { IsCall D.Disk disk.old disk.new (result ≡ Err (Halts IsDiskFault)) }
 {
     let again = match look(alloc, disk) {
@@ -76,6 +78,8 @@ pub fn recover_parts<D: Disk>(alloc: Global, disk: &mut D) -> Result<Parts, Stop
     ensures on { D.tells → IfOk result (λ p. IsOnDisk (kept_of p) (D.view disk.new)) }
     ensures moments { D.tells → LeavesOnly (D.view disk.old) (D.view disk.new) (IsLike (D.view disk.old)) }
     ensures refused_keeps { D.tells → (r : Refuses) → result ≡ Err (Refused r) → Keeps (D.view disk.old) (D.view disk.new) }
+    ensures memory_keeps { D.tells → result ≡ Err (Halts IsMemoryOut) → Keeps (D.view disk.old) (D.view disk.new) }
+    ensures refused_settled { D.tells → (r : Refuses) → result ≡ Err (Refused r) → IsSettled (D.view disk.new) }
     ensures call { IsCall D.Disk disk.old disk.new (result ≡ Err (Halts IsDiskFault)) }
 {
     match settle_all(disk) {

@@ -14,7 +14,7 @@ use Rattle.kdb_store.proofs.Anew.{comes_behind, nothing_anew, same_size, rows_on
 use Rattle.kdb_store.proofs.reset_changes.reset_change.Goals as goal
 
 pub reset_begun-requires-clause-comes : goal.reset_begun-requires-clause-comes
-reset_begun-requires-clause-comes g c = comes_behind c.in-Ok.field-0.entry (number_of c.in-Ok.field-0.write) c.args.base c.args.point c.args.op c.in-Ok.ensures.entry c.requires.point
+reset_begun-requires-clause-comes g c = comes_behind c.in-Ok.field-0.entry (number_of c.in-Ok.field-0.write) c.args.base c.behind-point.result c.args.time c.args.op c.in-Ok.ensures.entry c.behind-point.ensures c.requires.time
 
 pub reset_begun-requires-clause-kept : goal.reset_begun-requires-clause-kept
 reset_begun-requires-clause-kept g c tells = (with_parts c.args.log.now c.args.cells.now c.args.rows.now (c.requires.on tells).0, (c.requires.on tells).1)
@@ -36,7 +36,7 @@ returns-in-Ok-clause-indexed g c =
 pub returns-in-Ok-clause-crash : goal.returns-in-Ok-clause-crash
 returns-in-Ok-clause-crash g c tells k under =
     let kept = with_parts c.args.log.now c.args.cells.now c.args.rows.now k in
-    let behind : IsBehind c.args.control.now c.args.base kept c.begin_change.new.cells c.in-Ok.field-0.entry c.in-Ok.field-0.write c.args.op (g.D.Disk.view c.args.disk.now) = record {
+    let behind : IsBehind c.args.control.now c.args.base c.args.time kept c.begin_change.new.cells c.in-Ok.field-0.entry c.in-Ok.field-0.write c.args.op (g.D.Disk.view c.args.disk.now) = record {
       under = under;
       planned = record {
         newer = c.requires.format;
@@ -47,14 +47,14 @@ returns-in-Ok-clause-crash g c tells k under =
         name = c.requires.name;
         room = c.requires.room;
       };
-      entry_is = c.in-Ok.ensures.entry ∙ ap (change c.args.op) c.requires.point;
+      entry_is = c.in-Ok.ensures.entry ∙ ap (change c.args.op) c.behind-point.ensures;
     } in
-    same_size (place_kept kept) c.args.op c.args.base c.size_of-size.result c.args.control.now.size c.args.block c.size_of-size.ensures.value (c.reset_begun.ensures.crash tells kept c.args.op behind)
+    same_size (place_kept kept) c.args.op c.args.time c.args.base c.size_of-size.result c.args.control.now.size c.args.block c.size_of-size.ensures.value (c.reset_begun.ensures.crash tells kept c.args.op c.args.time behind)
 
 pub returns-in-Ok-clause-on : goal.returns-in-Ok-clause-on
 returns-in-Ok-clause-on g c tells k under =
     let kept = with_parts c.args.log.now c.args.cells.now c.args.rows.now k in
-    let behind : IsBehind c.args.control.now c.args.base kept c.begin_change.new.cells c.in-Ok.field-0.entry c.in-Ok.field-0.write c.args.op (g.D.Disk.view c.args.disk.now) = record {
+    let behind : IsBehind c.args.control.now c.args.base c.args.time kept c.begin_change.new.cells c.in-Ok.field-0.entry c.in-Ok.field-0.write c.args.op (g.D.Disk.view c.args.disk.now) = record {
       under = under;
       planned = record {
         newer = c.requires.format;
@@ -65,10 +65,10 @@ returns-in-Ok-clause-on g c tells k under =
         name = c.requires.name;
         room = c.requires.room;
       };
-      entry_is = c.in-Ok.ensures.entry ∙ ap (change c.args.op) c.requires.point;
+      entry_is = c.in-Ok.ensures.entry ∙ ap (change c.args.op) c.behind-point.ensures;
     } in
     rows_on c.reset_begun.result c.reset_begun.new.log c.reset_begun.new.cells (effect (Some c.args.op) c.args.rows.now) c.reset_begun.new.rows (with_log c.reset_begun.new.control c.reset_begun.new.log k) (g.D.Disk.view c.reset_begun.new.disk)
-    (on_ok_weaker c.reset_begun.result (λ done. done ∙ c.in-Ok.ensures.finished) c.reset_begun.ensures.rows) (c.reset_begun.ensures.on tells kept c.args.op behind)
+    (on_ok_weaker c.reset_begun.result (λ done. done ∙ c.in-Ok.ensures.finished) c.reset_begun.ensures.rows) (c.reset_begun.ensures.on tells kept c.args.op c.args.time behind)
 
 pub returns-in-Ok-clause-control : goal.returns-in-Ok-clause-control
 returns-in-Ok-clause-control g c =
@@ -80,7 +80,7 @@ returns-in-Ok-clause-alike g c =
 
 pub returns-in-Ok-clause-held : goal.returns-in-Ok-clause-held
 returns-in-Ok-clause-held g c =
-    on_ok_weaker c.reset_begun.result (λ is. anew_held c.reset_begun.new.control.log c.args.base c.size_of-size.result c.args.control.now.size c.args.block c.reset_begun.new.log c.in-Ok.field-0.entry (number_of c.in-Ok.field-0.write) c.args.point c.args.op c.in-Ok.ensures.entry c.requires.point c.size_of-size.ensures.value is) c.reset_begun.ensures.held
+    on_ok_weaker c.reset_begun.result (λ is. anew_held c.reset_begun.new.control.log c.args.base c.size_of-size.result c.args.control.now.size c.args.block c.reset_begun.new.log c.in-Ok.field-0.entry (number_of c.in-Ok.field-0.write) c.behind-point.result c.args.time c.args.op c.in-Ok.ensures.entry c.behind-point.ensures c.size_of-size.ensures.value is) c.reset_begun.ensures.held
 
 pub returns-in-Ok-clause-still : goal.returns-in-Ok-clause-still
 returns-in-Ok-clause-still g c tells k under none =
@@ -97,4 +97,4 @@ pub returns-in-Err-clause-crash : goal.returns-in-Err-clause-crash
 returns-in-Err-clause-crash g c tells k under =
     let kept = with_parts c.args.log.now c.args.cells.now c.args.rows.now k in
     let anew = log_anew c.args.base c.args.control.now.size c.args.block (place_kept kept) in
-    nothing_anew kept anew (committed c.args.op c.args.base.time anew) (g.D.Disk.view c.args.disk.now) under.on
+    nothing_anew kept anew (committed c.args.op c.args.time anew) (g.D.Disk.view c.args.disk.now) under.on

@@ -50,16 +50,16 @@ write_prepared-requires-clause-within g c tells =
     subst (λ (b : List ℕ). number_of c.args.write * unit_size c.args.cells.now.format ≤ length b) (sym (c.in_ok-reset_files.ensures.others tells c.args.cells.now.file some other)) (c.requires.within tells)
 
 pub returns-in_err-reset_files-clause-crash : goal.returns-in_err-reset_files-clause-crash
-returns-in_err-reset_files-clause-crash g c tells k op behind =
+returns-in_err-reset_files-clause-crash g c tells k op time behind =
     let next = c.args.next.now in
     let anew = log_anew next.base next.size next.block (place_kept k) in
-    begun_run (place_kept k) anew (committed op next.base.time anew) (c.reset_files.ensures.crash tells k behind.under)
+    begun_run (place_kept k) anew (committed op time anew) (c.reset_files.ensures.crash tells k behind.under)
 
 pub returns-clause-crash : goal.returns-clause-crash
-returns-clause-crash g c tells k op behind =
+returns-clause-crash g c tells k op time behind =
     let mid = g.D.Disk.view c.reset_files.new.disk in
     let next = c.args.next.now in
-    let is : IsFollowed c.args.now.now next k c.args.cells.now c.args.entry.now c.args.write op c.args.log.now (g.D.Disk.view c.args.disk.now) mid = record {
+    let is : IsFollowed c.args.now.now next time k c.args.cells.now c.args.entry.now c.args.write op c.args.log.now (g.D.Disk.view c.args.disk.now) mid = record {
       next_is = c.requires.next;
       behind = behind;
       on = subst (λ (j : Journal). IsOnDisk (with_log next j k) mid) c.requires.marker (c.in_ok-reset_files.ensures.on tells k behind.under);
@@ -68,10 +68,10 @@ returns-clause-crash g c tells k op behind =
     follow_leaves is (c.reset_files.ensures.crash tells k behind.under) (c.write_prepared.ensures.crash tells)
 
 pub returns-clause-on : goal.returns-clause-on
-returns-clause-on g c tells k op behind =
+returns-clause-on g c tells k op time behind =
     let mid = g.D.Disk.view c.reset_files.new.disk in
     let next = c.args.next.now in
-    let is : IsFollowed c.args.now.now next k c.args.cells.now c.args.entry.now c.args.write op c.args.log.now (g.D.Disk.view c.args.disk.now) mid = record {
+    let is : IsFollowed c.args.now.now next time k c.args.cells.now c.args.entry.now c.args.write op c.args.log.now (g.D.Disk.view c.args.disk.now) mid = record {
       next_is = c.requires.next;
       behind = behind;
       on = subst (λ (j : Journal). IsOnDisk (with_log next j k) mid) c.requires.marker (c.in_ok-reset_files.ensures.on tells k behind.under);

@@ -23,3 +23,6 @@ returns-in-Ok-clause-refused_keeps g c tells r is = keeps_then (c.settle_all.ens
 
 pub returns-in-Err-clause-moments : goal.returns-in-Err-clause-moments
 returns-in-Err-clause-moments g c tells = like_kept (c.settle_all.ensures.keeps tells)
+
+pub returns-in-Ok-clause-memory_keeps : goal.returns-in-Ok-clause-memory_keeps
+returns-in-Ok-clause-memory_keeps g c tells is = keeps_then (c.settle_all.ensures.keeps tells) (c.recover_settled.ensures.memory_keeps tells is)

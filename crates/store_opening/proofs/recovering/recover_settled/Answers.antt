@@ -27,3 +27,6 @@ returns-in-Ok-write_again-clause-moments g c tells = like_first (c.look.ensures.
 
 pub returns-in-Err-write_again-clause-moments : goal.returns-in-Err-write_again-clause-moments
 returns-in-Err-write_again-clause-moments g c tells = like_first (c.look.ensures.keeps tells) (c.write_again.ensures.moments tells)
+
+pub returns-in-Err-clause-refused_settled : goal.returns-in-Err-clause-refused_settled
+returns-in-Err-clause-refused_settled g c tells r is = settled_keeps (c.requires.settled tells) (c.look.ensures.keeps tells)

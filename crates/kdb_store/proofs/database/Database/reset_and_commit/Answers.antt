@@ -11,7 +11,7 @@ reset_change-requires-clause-on g c tells =
 
 pub returns-in-Ok-clause-place : goal.returns-in-Ok-clause-place
 returns-in-Ok-clause-place g c =
-    anew_place (record { control = c.self.inside.control; log = c.self.inside.log; cells = c.self.inside.cells; rows = c.self.inside.rows; realm = c.self.inside.realm; stash = c.self.inside.stash; broken = c.self.inside.broken }) c.args.self.now c.reset_change.new.control c.reset_change.new.log c.reset_change.new.cells c.reset_change.new.rows c.args.op c.args.base c.args.block c.self.view_is
+    anew_place (record { control = c.self.inside.control; log = c.self.inside.log; cells = c.self.inside.cells; rows = c.self.inside.rows; realm = c.self.inside.realm; stash = c.self.inside.stash; broken = c.self.inside.broken }) c.args.self.now c.reset_change.new.control c.reset_change.new.log c.reset_change.new.cells c.reset_change.new.rows c.args.op c.args.time c.args.base c.args.block c.self.view_is
     c.in-Ok.ensures.control c.in-Ok.ensures.rows c.in-Ok.ensures.held
 
 pub returns-in-Ok-clause-on : goal.returns-in-Ok-clause-on
@@ -20,19 +20,19 @@ returns-in-Ok-clause-on g c tells =
 
 pub returns-in-Ok-clause-crash : goal.returns-in-Ok-clause-crash
 returns-in-Ok-clause-crash g c = record {
-  told = λ tells. anew_told (record { control = c.self.inside.control; log = c.self.inside.log; cells = c.self.inside.cells; rows = c.self.inside.rows; realm = c.self.inside.realm; stash = c.self.inside.stash; broken = c.self.inside.broken }) c.args.self.now c.args.op c.args.base c.args.block c.self.view_is
+  told = λ tells. anew_told (record { control = c.self.inside.control; log = c.self.inside.log; cells = c.self.inside.cells; rows = c.self.inside.rows; realm = c.self.inside.realm; stash = c.self.inside.stash; broken = c.self.inside.broken }) c.args.self.now c.args.op c.args.time c.args.base c.args.block c.self.view_is
       (c.reset_change.ensures.crash tells (record { control = c.self.inside.control; log = c.self.inside.log; cells = c.self.inside.cells; rows = c.self.inside.rows; realm = c.self.inside.realm; stash = c.self.inside.stash; broken = c.self.inside.broken }) (is_under (record { control = c.self.inside.control; log = c.self.inside.log; cells = c.self.inside.cells; rows = c.self.inside.rows; realm = c.self.inside.realm; stash = c.self.inside.stash; broken = c.self.inside.broken }) c.args.self.now (g.D.Disk.view c.args.disk.now) c.self.view_is c.self.invariant (c.requires.on tells)));
 }
 
 pub returns-in-Err-DiskFault-clause-crash : goal.returns-in-Err-DiskFault-clause-crash
 returns-in-Err-DiskFault-clause-crash g c = record {
-  told = λ tells. anew_told (record { control = c.self.inside.control; log = c.self.inside.log; cells = c.self.inside.cells; rows = c.self.inside.rows; realm = c.self.inside.realm; stash = c.self.inside.stash; broken = c.self.inside.broken }) c.args.self.now c.args.op c.args.base c.args.block c.self.view_is
+  told = λ tells. anew_told (record { control = c.self.inside.control; log = c.self.inside.log; cells = c.self.inside.cells; rows = c.self.inside.rows; realm = c.self.inside.realm; stash = c.self.inside.stash; broken = c.self.inside.broken }) c.args.self.now c.args.op c.args.time c.args.base c.args.block c.self.view_is
       (c.reset_change.ensures.crash tells (record { control = c.self.inside.control; log = c.self.inside.log; cells = c.self.inside.cells; rows = c.self.inside.rows; realm = c.self.inside.realm; stash = c.self.inside.stash; broken = c.self.inside.broken }) (is_under (record { control = c.self.inside.control; log = c.self.inside.log; cells = c.self.inside.cells; rows = c.self.inside.rows; realm = c.self.inside.realm; stash = c.self.inside.stash; broken = c.self.inside.broken }) c.args.self.now (g.D.Disk.view c.args.disk.now) c.self.view_is c.self.invariant (c.requires.on tells)));
 }
 
 pub returns-in-Err-MemoryOut-clause-crash : goal.returns-in-Err-MemoryOut-clause-crash
 returns-in-Err-MemoryOut-clause-crash g c = record {
-  told = λ tells. anew_told (record { control = c.self.inside.control; log = c.self.inside.log; cells = c.self.inside.cells; rows = c.self.inside.rows; realm = c.self.inside.realm; stash = c.self.inside.stash; broken = c.self.inside.broken }) c.args.self.now c.args.op c.args.base c.args.block c.self.view_is
+  told = λ tells. anew_told (record { control = c.self.inside.control; log = c.self.inside.log; cells = c.self.inside.cells; rows = c.self.inside.rows; realm = c.self.inside.realm; stash = c.self.inside.stash; broken = c.self.inside.broken }) c.args.self.now c.args.op c.args.time c.args.base c.args.block c.self.view_is
       (c.reset_change.ensures.crash tells (record { control = c.self.inside.control; log = c.self.inside.log; cells = c.self.inside.cells; rows = c.self.inside.rows; realm = c.self.inside.realm; stash = c.self.inside.stash; broken = c.self.inside.broken }) (is_under (record { control = c.self.inside.control; log = c.self.inside.log; cells = c.self.inside.cells; rows = c.self.inside.rows; realm = c.self.inside.realm; stash = c.self.inside.stash; broken = c.self.inside.broken }) c.args.self.now (g.D.Disk.view c.args.disk.now) c.self.view_is c.self.invariant (c.requires.on tells)));
 }
 
