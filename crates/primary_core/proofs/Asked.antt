@@ -1,27 +1,26 @@
 -- A command of the primary, as what a plan is given; and the places that a change may leave.
-use Rattle.std.proofs.Common.{◌≡◌, ◌<◌, ◌≤◌, ◌⊎◌, ℕ, Bool, true, false, List, [], ◌∷◌, Option, Ok, inl, refl, sym, ap, subst, ◌∙◌, arith}
+use Rattle.std.proofs.Common.{◌≡◌, ◌<◌, ◌≤◌, ℕ, Bool, true, false, List, [], ◌∷◌, Option, Ok, inl, refl, sym, ap, subst, ◌∙◌, arith}
 use Rattle.std.specs.Prelude.{nat_lt, if◌then◌else◌}
 use Rattle.std.proofs.lemmas.Bool.{ltb-true}
 use Rattle.acl_text.specs.declared.rules.AclLine.{AclLine}
-use Rattle.command_plans.specs.Given.{IsCallOf, IsChange, IsSeenBy}
+use Rattle.command_plans.specs.Given.{IsCallOf, IsSeenBy}
 use Rattle.kadm_commands.specs.declared.commands.Command.{Command}
 use Rattle.kdb_base.specs.Moment.{Moment}
 use Rattle.kdb_base.specs.Moments.{later_moment, micros}
 use Rattle.kdb_base.specs.declared.moments.Point.{Point}
 use Rattle.kdb_disk.specs.Files.{Files}
 use Rattle.kdb_model.proofs.Moments.{by_secs}
-use Rattle.kdb_model.specs.Calls.{Call, call_of}
+use Rattle.kdb_model.specs.Calls.{call_of}
 use Rattle.kdb_places.specs.Places.{Place, point_of}
 use Rattle.kdb_plain.specs.States.{IsValid}
 use Rattle.kdb_plain.specs.declared.states.State.{State}
 use Rattle.primary_core.specs.Opened.{HasState, Opened, place_of}
-use Rattle.princ_entries.specs.declared.entries.Op.{Op}
 use Rattle.princ_name.specs.Names.{NameParts}
 use Rattle.princ_rows.specs.Rows.{RowLists}
 use Rattle.store_files.specs.Found.{recovers}
 use Rattle.store_files.specs.Recovery.{LeavesPart}
 
-secs_behind : (a b : Moment) → b.usecs < 1000000 → a.secs ≤ (later_moment a b).secs
+pub secs_behind : (a b : Moment) → b.usecs < 1000000 → a.secs ≤ (later_moment a b).secs
 secs_behind a b below = by (nat_lt (micros a) (micros b)) refl
   where
     by : (x : Bool) → nat_lt (micros a) (micros b) ≡ x → a.secs ≤ (if x then b else a).secs
@@ -74,8 +73,9 @@ module _ (o now : Opened) (rows : RowLists) (realm : List ℕ) (point : Point) (
   called_told client access command random =
       subst (λ (x : Moment). IsCallOf s client access command x random (call_of client access command clock random false)) time_is (called_by o s client access command clock random had)
 
-  pub change_told : (call : Call) (op : Op) → IsChange rows s call op → IsChange now.kept.rows s call op
-  change_told call op is = subst (λ (x : RowLists). IsChange x s call op) (parts.rows_are ∙ ap (λ (x : Opened). x.kept.rows) parts.is) is
+  -- what is said of the rows
+  pub rows_told : (P : RowLists → Type 0) → P rows → P now.kept.rows
+  rows_told P is = subst P (parts.rows_are ∙ ap (λ (x : Opened). x.kept.rows) parts.is) is
 
 -- ---- places
 

@@ -1,17 +1,16 @@
 -- What was decided and carried out, as a call of the primary.
-use Rattle.std.proofs.Common.{◌≡◌, ◌≢◌, Bool, true, false, List, [], ◌∷◌, Option, Some, None, Result, Ok, Err, inl, inr, refl, sym, ap, subst, ◌∙◌}
+use Rattle.std.proofs.Common.{◌≡◌, ◌≢◌, Bool, true, false, List, Option, Some, None, Result, Ok, Err, inl, refl, sym, ap, subst, ◌∙◌}
 use Rattle.std.specs.Prelude.{IfOk, OnErr, OnOk}
 use Rattle.iprop_truths.specs.Parts.{IsPart, end_of}
 use Rattle.kadm_commands.specs.declared.replies.Reply.{Reply}
 use Rattle.kadm_commands.specs.declared.replies.Reply.TheVariants.{Refused}
 use Rattle.kdb_base.specs.Moment.{Moment}
-use Rattle.kdb_base.specs.declared.moments.Point.{Point}
 use Rattle.kdb_base.specs.declared.outcomes.Halt.{Halt}
 use Rattle.kdb_base.specs.declared.outcomes.Halt.TheVariants.{MemoryOut, DiskFault}
 use Rattle.kdb_base.specs.declared.outcomes.Refusal.TheVariants.{Closed}
 use Rattle.kdb_disk.specs.Files.{Files}
-use Rattle.kdb_histories.specs.Asks.{Ask, Replied, clock_of}
-use Rattle.kdb_histories.specs.Calls.{Perform}
+use Rattle.kdb_histories.specs.Asks.{Answer as Answered, Ask, Replied, clock_of}
+use Rattle.kdb_histories.specs.Calls.{Perform, Performs}
 use Rattle.kdb_histories.specs.Leaving.{Does, MayReach}
 use Rattle.kdb_histories.specs.Moves.{IsLeft}
 use Rattle.kdb_histories.specs.Seen.{Seen, after_ask, entry_point, seen}
@@ -20,90 +19,84 @@ use Rattle.kdb_places.specs.Places.{Place}
 use Rattle.kdb_plain.specs.declared.states.State.{State}
 use Rattle.performed_plans.proofs.ChangedPlaces.{places_changed}
 use Rattle.primary_core.proofs.Asking.{kept, left, mastered}
-use Rattle.primary_core.specs.Deciding.{op_of, places_decided, reply_of}
-use Rattle.primary_core.specs.Opened.{HasState, IsDecided, MayLeave, MayMake, Opened, made_for, place_of}
+use Rattle.primary_core.proofs.Called.{call_does, call_reaches, left_at}
+use Rattle.primary_core.specs.Deciding.{change_of, places_decided, reply_of}
+use Rattle.primary_core.specs.Opened.{HasState, IsDecided, MayLeave, MayMake, Opened, made_for, masters_behind, place_of}
 use Rattle.primary_core.specs.declared.decided.Decided.{Decided}
 use Rattle.primary_core.specs.declared.decided.Decided.TheVariants.{Answer, Change}
-use Rattle.princ_entries.specs.declared.entries.Op.{Op}
+use Rattle.primary_core.specs.declared.decided.DecidedChange.{DecidedChange}
 use Rattle.store_files.specs.Found.{recovers}
 use Rattle.store_files.specs.Recovery.{LeavesPart}
 
--- the files recover to the place, or to one of those that follow it
-record LeftAt (p : Place) (made : List Place) (c : Files) : Type 0 where
-  place : Place
-  is : recovers c ≡ Ok place
-  part : IsPart p made place
-
-left_at : (p : Place) (made : List Place) (c : Files) → LeavesPart p made c → LeftAt p made c
-unfolding LeavesPart
-left_at p [] c is = record { place = p; is = is; part = refl }
-left_at p (q ∷ made) c (inl is) = record { place = p; is = is; part = inl refl }
-left_at p (q ∷ made) c (inr rest) = let l = left_at q made c rest in record { place = l.place; is = l.is; part = inr l.part }
-
-places_are : (ask : Ask) (op : Option Op) (p : Place) → places (made_for ask op p) ≡ places_decided (clock_of ask) op p
+places_are : (ask : Ask) (change : Option DecidedChange) (p : Place) → places (made_for ask change p) ≡ places_decided (clock_of ask) change p
 places_are ask None p = refl
-places_are ask (Some op) p = places_changed ask op p
+places_are ask (Some change) p = places_changed ask change.op p
 
-module _ (o : Opened) (ask : Ask) (reply : Reply) (op : Option Op) (d : IsDecided o ask reply op) (s : State) (has : HasState o s) where
-  pub reaches : (q : Place) → IsPart (place_of o) (places_decided (clock_of ask) op (place_of o)) q → MayReach (place_of o) s (Perform ask) q
-  reaches q part = inr (record {
-    answer = Replied reply;
-    made = made_for ask op (place_of o);
-    makes = d.performs s has;
-    part = subst (λ (x : List Place). IsPart (place_of o) x q) (sym (places_are ask op (place_of o))) part;
-  })
+-- whatever is answered
+module _ (o : Opened) (ask : Ask) (answer : Answered) (change : Option DecidedChange) (s : State) (makes : Performs (place_of o) s ask answer (made_for ask change (place_of o))) where
+  pub ask_reaches : (q : Place) → IsPart (place_of o) (places_decided (clock_of ask) change (place_of o)) q → MayReach (place_of o) s (Perform ask) q
+  ask_reaches q part =
+      call_reaches (place_of o) s (Perform ask) answer (made_for ask change (place_of o)) makes q
+      (subst (λ (x : List Place). IsPart (place_of o) x q) (sym (places_are ask change (place_of o))) part)
 
-  pub leaves : (c : Files) → LeavesPart (place_of o) (places_decided (clock_of ask) op (place_of o)) c → MayLeave (place_of o) s (Perform ask) c
-  leaves c h =
-      let l = left_at (place_of o) (places_decided (clock_of ask) op (place_of o)) c h in
-      record { place = l.place; is = l.is; may = reaches l.place l.part }
+  pub ask_leaves : (c : Files) → LeavesPart (place_of o) (places_decided (clock_of ask) change (place_of o)) c → MayLeave (place_of o) s (Perform ask) c
+  ask_leaves c h =
+      let l = left_at (place_of o) (places_decided (clock_of ask) change (place_of o)) c h in
+      record { place = l.place; is = l.is; may = ask_reaches l.place l.part }
 
-  pub does : (q : Place) → q ≡ end_of (place_of o) (places_decided (clock_of ask) op (place_of o)) → Does (place_of o) s (Perform ask) (Replied reply) q
-  does q is = record {
-    made = made_for ask op (place_of o);
-    makes = d.performs s has;
-    is = is ∙ ap (end_of (place_of o)) (sym (places_are ask op (place_of o)));
-  }
+  pub ask_does : (q : Place) → q ≡ end_of (place_of o) (places_decided (clock_of ask) change (place_of o)) → Does (place_of o) s (Perform ask) answer q
+  ask_does q is =
+      call_does (place_of o) s (Perform ask) answer (made_for ask change (place_of o)) makes q (is ∙ ap (end_of (place_of o)) (sym (places_are ask change (place_of o))))
+
+module _ (o : Opened) (ask : Ask) (reply : Reply) (change : Option DecidedChange) (d : IsDecided o ask reply change) (s : State) (has : HasState o s) where
+  pub reaches : (q : Place) → IsPart (place_of o) (places_decided (clock_of ask) change (place_of o)) q → MayReach (place_of o) s (Perform ask) q
+  reaches = ask_reaches o ask (Replied reply) change s (d.performs s has)
+
+  pub leaves : (c : Files) → LeavesPart (place_of o) (places_decided (clock_of ask) change (place_of o)) c → MayLeave (place_of o) s (Perform ask) c
+  leaves = ask_leaves o ask (Replied reply) change s (d.performs s has)
+
+  pub does : (q : Place) → q ≡ end_of (place_of o) (places_decided (clock_of ask) change (place_of o)) → Does (place_of o) s (Perform ask) (Replied reply) q
+  does = ask_does o ask (Replied reply) change s (d.performs s has)
 
 -- what stands as before
 pub stays : (o : Opened) (s : State) (ask : Ask) (c : Files) → recovers c ≡ Ok (place_of o) → MayLeave (place_of o) s (Perform ask) c
 stays o s ask c is = record { place = place_of o; is = is; may = inl refl }
 
 -- the state behind it
-pub state_behind : (o new : Opened) (ask : Ask) (reply : Reply) (op : Option Op) (s : State) → IsDecided o ask reply op → HasState o s
-    → (op ≡ None → new ≡ o)
-    → ((made : Op) (t : State) → op ≡ Some made → IsLeft (place_of o).realm (entry_point (clock_of ask) made (place_of o)) made (place_of o).rows t
-    → t.masters ≡ o.masters → HasState new t)
+pub state_behind : (o new : Opened) (ask : Ask) (reply : Reply) (change : Option DecidedChange) (s : State) → IsDecided o ask reply change → HasState o s
+    → (change ≡ None → new ≡ o)
+    → ((made : DecidedChange) (t : State) → change ≡ Some made → IsLeft (place_of o).realm (entry_point (clock_of ask) made.op (place_of o)) made.op (place_of o).rows t
+    → t.masters ≡ masters_behind o made.masters → HasState new t)
     → HasState new (after_ask ask (seen (place_of o) s)).state
 state_behind o new ask reply None s d has same made =
     subst (λ (x : Opened). HasState x (after_ask ask (seen (place_of o) s)).state) (sym (same refl))
     (subst (HasState o) (sym (ap (λ (x : Seen). x.state) (kept o ask reply s d has))) has)
-state_behind o new ask reply (Some op) s d has same made =
-    made op (after_ask ask (seen (place_of o) s)).state refl (left o ask reply s op d has) (mastered o ask reply s (Some op) d has)
+state_behind o new ask reply (Some change) s d has same made =
+    made change (after_ask ask (seen (place_of o) s)).state refl (left o ask reply s change d has) (mastered o ask reply s (Some change) d has)
 
 -- ---- by what is answered
 
-module _ (o new : Opened) (ask : Ask) (reply : Reply) (op : Option Op) (d : IsDecided o ask reply op) (s : State) (has : HasState o s) (r : Result Reply Halt) where
-  pub does_if : IfOk r (λ x. x ≡ reply) → OnOk r (place_of new ≡ end_of (place_of o) (places_decided (clock_of ask) op (place_of o)))
+module _ (o new : Opened) (ask : Ask) (reply : Reply) (change : Option DecidedChange) (d : IsDecided o ask reply change) (s : State) (has : HasState o s) (r : Result Reply Halt) where
+  pub does_if : IfOk r (λ x. x ≡ reply) → OnOk r (place_of new ≡ end_of (place_of o) (places_decided (clock_of ask) change (place_of o)))
       → IfOk r (λ x. Does (place_of o) s (Perform ask) (Replied x) (place_of new))
   does_if same at = on r same at
     where
-      on : (x : Result Reply Halt) → IfOk x (λ y. y ≡ reply) → OnOk x (place_of new ≡ end_of (place_of o) (places_decided (clock_of ask) op (place_of o)))
+      on : (x : Result Reply Halt) → IfOk x (λ y. y ≡ reply) → OnOk x (place_of new ≡ end_of (place_of o) (places_decided (clock_of ask) change (place_of o)))
           → IfOk x (λ y. Does (place_of o) s (Perform ask) (Replied y) (place_of new))
-      on (Ok y) e at = subst (λ (z : Reply). Does (place_of o) s (Perform ask) (Replied z) (place_of new)) (sym e) (does o ask reply op d s has (place_of new) at)
+      on (Ok y) e at = subst (λ (z : Reply). Does (place_of o) s (Perform ask) (Replied z) (place_of new)) (sym e) (does o ask reply change d s has (place_of new) at)
       on (Err h) e at = tt
 
-  pub state_if : (op ≡ None → new ≡ o)
-      → ((made : Op) (t : State) → op ≡ Some made → IsLeft (place_of o).realm (entry_point (clock_of ask) made (place_of o)) made (place_of o).rows t
-      → t.masters ≡ o.masters → OnOk r (HasState new t))
+  pub state_if : (change ≡ None → new ≡ o)
+      → ((made : DecidedChange) (t : State) → change ≡ Some made → IsLeft (place_of o).realm (entry_point (clock_of ask) made.op (place_of o)) made.op (place_of o).rows t
+      → t.masters ≡ masters_behind o made.masters → OnOk r (HasState new t))
       → OnOk r (HasState new (after_ask ask (seen (place_of o) s)).state)
   state_if same made = on r made
     where
       on : (x : Result Reply Halt)
-          → ((made : Op) (t : State) → op ≡ Some made → IsLeft (place_of o).realm (entry_point (clock_of ask) made (place_of o)) made (place_of o).rows t
-          → t.masters ≡ o.masters → OnOk x (HasState new t))
+          → ((made : DecidedChange) (t : State) → change ≡ Some made → IsLeft (place_of o).realm (entry_point (clock_of ask) made.op (place_of o)) made.op (place_of o).rows t
+          → t.masters ≡ masters_behind o made.masters → OnOk x (HasState new t))
           → OnOk x (HasState new (after_ask ask (seen (place_of o) s)).state)
-      on (Ok y) made = state_behind o new ask reply op s d has same made
+      on (Ok y) made = state_behind o new ask reply change s d has same made
       on (Err h) made = tt
 
 -- ---- what was decided is carried out
@@ -111,8 +104,8 @@ module _ (o new : Opened) (ask : Ask) (reply : Reply) (op : Option Op) (d : IsDe
 same_ok : (r : Result Decided Halt) (a b : Decided) → r ≡ Ok a → r ≡ Ok b → a ≡ b
 same_ok r a b x y = let both : Ok a ≡ Ok b = sym x ∙ y in cc
 
-pub whole_by : (b : Bool) (r : Result Decided Halt) (d : Decided) → r ≡ Ok d → (b ≡ true → r ≡ Ok (Answer (Refused Closed))) → op_of d ≢ None → b ≡ false
-whole_by true r d is closed some = absurd (some (ap op_of (same_ok r d (Answer (Refused Closed)) is (closed refl))))
+pub whole_by : (b : Bool) (r : Result Decided Halt) (d : Decided) → r ≡ Ok d → (b ≡ true → r ≡ Ok (Answer (Refused Closed))) → change_of d ≢ None → b ≡ false
+whole_by true r d is closed some = absurd (some (ap change_of (same_ok r d (Answer (Refused Closed)) is (closed refl))))
 whole_by false r d is closed some = refl
 
 pub whole_at_err : (b : Bool) (r : Result Decided Halt) (h : Halt) → r ≡ Err h → (b ≡ true → r ≡ Ok (Answer (Refused Closed))) → b ≡ false
@@ -122,20 +115,21 @@ whole_at_err true r h is closed =
 whole_at_err false r h is closed = refl
 
 pub may_by : (o : Opened) (clock : Moment) (r : Result Decided Halt) (d : Decided) → r ≡ Ok d
-    → ((op : Op) (point : Point) → r ≡ Ok (Change op point) → MayMake o clock op) → (op : Op) → op_of d ≡ Some op → MayMake o clock op
-may_by o clock r (Answer reply) is may op e = absurd cc
-may_by o clock r (Change made point) is may op e = let same : made ≡ op = cc in subst (MayMake o clock) same (may made point is)
+    → ((change : DecidedChange) (reply : Reply) → r ≡ Ok (Change change reply) → MayMake o clock change)
+    → (change : DecidedChange) → change_of d ≡ Some change → MayMake o clock change
+may_by o clock r (Answer reply) is may change e = absurd cc
+may_by o clock r (Change made reply) is may change e = let same : made ≡ change = cc in subst (MayMake o clock) same (may made reply is)
 
 pub closed_is : (r : Result Decided Halt) (d : Decided) → r ≡ Ok d → r ≡ Ok (Answer (Refused Closed)) → d ≡ Answer (Refused Closed)
 closed_is r d is closed = same_ok r d (Answer (Refused Closed)) is closed
 
 -- ---- one of the two ways
 
-pub answers_none : (d : Decided) (reply : Reply) → d ≡ Answer reply → op_of d ≡ None
-answers_none d reply e = ap op_of e
+pub answers_none : (d : Decided) (reply : Reply) → d ≡ Answer reply → change_of d ≡ None
+answers_none d reply e = ap change_of e
 
-pub changes_one : (d : Decided) (op : Op) (point : Point) → d ≡ Change op point → op_of d ≡ Some op
-changes_one d op point e = ap op_of e
+pub changes_one : (d : Decided) (change : DecidedChange) (reply : Reply) → d ≡ Change change reply → change_of d ≡ Some change
+changes_one d change reply e = ap change_of e
 
 -- where the primary is closed, the answer is no error
 pub reach_by : (A P : Type 0) (b own : Bool) (r : Result A Halt) (x : A) → own ≡ b → (own ≡ true → r ≡ Ok x) → (own ≡ false → OnErr r P) → OnErr r P
@@ -149,18 +143,19 @@ pub never_fault : (h : Halt) (A : Type 0) → h ≡ MemoryOut → ◌≡◌ {A =
 never_fault h A e f = let both : ◌≡◌ {A = Result A Halt} (Err MemoryOut) (Err DiskFault) = sym (ap Err e) ∙ f in absurd cc
 
 -- a state as it was handed on
-pub decided_at_ok : (o : Opened) (ask : Ask) (r : Result Decided Halt) (d : Decided) → r ≡ Ok d → IfOk r (λ x. IsDecided o ask (reply_of x) (op_of x))
-    → IsDecided o ask (reply_of d) (op_of d)
-decided_at_ok o ask r d is h = subst (λ (x : Result Decided Halt). IfOk x (λ y. IsDecided o ask (reply_of y) (op_of y))) is h
+pub decided_at_ok : (o : Opened) (ask : Ask) (r : Result Decided Halt) (d : Decided) → r ≡ Ok d → IfOk r (λ x. IsDecided o ask (reply_of x) (change_of x))
+    → IsDecided o ask (reply_of d) (change_of d)
+decided_at_ok o ask r d is h = subst (λ (x : Result Decided Halt). IfOk x (λ y. IsDecided o ask (reply_of y) (change_of y))) is h
 
-pub none_some : (d : Decided) (op : Op) → op_of d ≡ None → op_of d ≡ Some op → ⊥
-none_some d op e f = let both : ◌≡◌ {A = Option Op} None (Some op) = sym e ∙ f in absurd cc
+pub none_some : (d : Decided) (change : DecidedChange) → change_of d ≡ None → change_of d ≡ Some change → ⊥
+none_some d change e f = let both : ◌≡◌ {A = Option DecidedChange} None (Some change) = sym e ∙ f in absurd cc
 
-pub change_some : (d : Decided) (op : Op) (point : Point) → d ≡ Change op point → op_of d ≢ None
-change_some d op point e none = none_some d op none (changes_one d op point e)
+pub change_some : (d : Decided) (change : DecidedChange) (reply : Reply) → d ≡ Change change reply → change_of d ≢ None
+change_some d change reply e none = none_some d change none (changes_one d change reply e)
 
-pub same_op : (d : Decided) (op made : Op) (point : Point) → d ≡ Change op point → op_of d ≡ Some made → op ≡ made
-same_op d op made point e f = let both : ◌≡◌ {A = Option Op} (Some op) (Some made) = sym (changes_one d op point e) ∙ f in cc
+pub same_made : (d : Decided) (change made : DecidedChange) (reply : Reply) → d ≡ Change change reply → change_of d ≡ Some made → change ≡ made
+same_made d change made reply e f =
+    let both : ◌≡◌ {A = Option DecidedChange} (Some change) (Some made) = sym (changes_one d change reply e) ∙ f in cc
 
 pub err_same : (h k : Halt) (A : Type 0) → ◌≡◌ {A = Result A Halt} (Err h) (Err k) → h ≡ k
 err_same h k A e = cc

@@ -31,13 +31,14 @@ module _ (spec : SpecParts) (now_ : Moment) (random : List ℕ) (o : Opened) (pl
       } in
       record { shows = subst (λ (x : Place). ShowsAt x s) (sym place) made; masters_are = sym masters }
 
-  pub created_open : o.room ≡ 1 → IsOpened o
-  created_open one = record {
+  pub created_open : o.room ≡ 1 → o.dumps ≡ 0 → IsOpened o
+  created_open one none = record {
     state = first_state spec now_ random;
     has = created_state;
     newer = ap (λ (x : Place). x.format) place;
     from = omega (arith, one);
     upto = omega (arith, one);
+    within = omega (arith, none);
   }
 
 pub size_range : (n : ℕ) → 2 ≤ n → n ≤ 10000 → (nat_le 2 n && nat_le n 10000) ≡ true

@@ -1,22 +1,22 @@
 -- What a command that rows alone decide leaves of a state, and what is answered where time ends.
-use Rattle.std.proofs.Common.{◌≡◌, ℕ, Bool, true, false, List, [], Option, Some, None, refl, sym, ap, subst, ◌∙◌}
+use Rattle.std.proofs.Common.{◌≡◌, ℕ, Bool, true, false, List, [], Option, Some, None, refl, ap, ◌∙◌}
 use Rattle.acl_text.specs.declared.rules.AclLine.{AclLine}
 use Rattle.command_plans.specs.Given.{IsChange}
-use Rattle.command_plans.specs.KeptEntries.{kept_entry}
+use Rattle.command_plans.specs.KeptEntries.{kept_entry, kept_entry_of}
 use Rattle.mkey_admin.specs.KeptMasters.{kept_masters}
+use Rattle.mkey_admin.specs.Plans.{IsMasterChange, is_master_command}
+use Rattle.mkey_admin.specs.declared.planned.MasterChange.{MasterChange}
 use Rattle.kadm_commands.specs.declared.commands.Command.{Command}
 use Rattle.kadm_commands.specs.declared.commands.Command.TheVariants as command
-use Rattle.kadm_commands.specs.declared.replies.Reply.{Reply}
 use Rattle.kadm_commands.specs.declared.replies.Reply.TheVariants.{Refused}
 use Rattle.kadm_plan.specs.Ready.{is_planned}
 use Rattle.std.specs.Option.{option_or}
 use Rattle.kdb_base.specs.Moment.{Moment}
-use Rattle.kdb_base.specs.declared.moments.Point.{Point}
 use Rattle.kdb_base.specs.declared.outcomes.Refusal.{Refusal}
 use Rattle.kdb_base.specs.declared.outcomes.Refusal.TheVariants.{TimeEnd}
-use Rattle.kdb_histories.specs.Asks.{Answer, Ask, Commanded, Outcome, Replied, clock_of, commanded, kept, kept_op, kind_of, outcome}
-use Rattle.kdb_histories.specs.Calls.{Leads, MayBeFit, Performs}
-use Rattle.kdb_histories.specs.Seen.{Keep, Plan, due_at, is_due, is_due_of, made_by, moment_at, plan_at, planned, seen, stash_of}
+use Rattle.kdb_histories.specs.Asks.{Commanded, Outcome, Replied, commanded, kept, kept_op, kind_of, outcome}
+use Rattle.kdb_histories.specs.Calls.{Performs}
+use Rattle.kdb_histories.specs.Seen.{due_at, is_due, is_due_of, seen}
 use Rattle.kdb_model.specs.Calls.{Call, call_of, is_last}
 use Rattle.kdb_model.specs.Entries.{entry}
 use Rattle.kdb_model.specs.Laws.{at_point, is_master_line, told}
@@ -27,8 +27,10 @@ use Rattle.kdb_places.specs.Places.{Place}
 use Rattle.kdb_plain.specs.Changes.{Spares, effect_on}
 use Rattle.kdb_plain.specs.declared.changes.PlainOp.{PlainOp}
 use Rattle.kdb_plain.specs.declared.states.State.{State}
+use Rattle.primary_core.proofs.Performed.{ask_keeps}
 use Rattle.princ_entries.specs.declared.entries.Op.{Op}
 use Rattle.princ_name.specs.Names.{NameParts}
+use Rattle.princ_rows.specs.Rows.{RowLists}
 
 -- ---- the master keys stay
 
@@ -84,17 +86,6 @@ masters_stay laws s call planned_ = judged (refusal s call) refl
 
 -- ---- no later time
 
--- what makes nothing is performed by no place
-kept_performs : (p : Place) (s : State) (ask : Ask) (answer : Answer) → outcome p.rows ask (due_at ask (seen p s)) s ≡ kept s answer → Performs p s ask answer []
-kept_performs p s ask answer e =
-    let plan : plan_at ask (seen p s) ≡ Keep = ap (λ (o : Outcome). planned o.kind (kept_op p.rows s ask) (stash_of s (moment_at (clock_of ask) p))) e in
-    record {
-      answers = sym (ap (λ (o : Outcome). o.answer) e);
-      leads = subst (λ (x : Plan). Leads (clock_of ask) p s (outcome p.rows ask (due_at ask (seen p s)) s).state x) (sym plan) (ap (λ (o : Outcome). o.state) e);
-      fit = subst (MayBeFit p) (sym plan) tt;
-      is = sym (ap (λ (x : Plan). made_by ask x p) plan);
-    }
-
 refused_is : (s : State) (call : Call) (due : Bool) (why : Refusal) → refusal s (told due call) ≡ Some why
     → step s (told due call) ≡ record { state = s; reply = Refused why } → commanded call due s ≡ kept s (Replied (Refused why))
 unfolding commanded kind_of
@@ -107,14 +98,71 @@ pub record LateLaws : Type 0 where
       → refusal s (told true call) ≡ Some TimeEnd
   pub refused : (s : State) (call : Call) (why : Refusal) → refusal s call ≡ Some why → step s call ≡ record { state = s; reply = Refused why }
 
+-- where its change is this one, the log is to begin anew for it, and no later time is left
+late_at : (laws : LateLaws) (p : Place) (s : State) (client : NameParts) (access : Option (List AclLine)) (cmd : Command) (clock : Moment) (random : List ℕ) (op : Op)
+    (plain : PlainOp) → is_due op p ≡ true → is_last s.point.time ≡ true → refusal s (call_of client access cmd clock random false) ≡ None
+    → entry s (call_of client access cmd clock random false) ≡ Some plain
+    → kept_op p.rows s (Commanded (call_of client access cmd clock random false)) ≡ Some op
+    → Performs p s (Commanded (call_of client access cmd clock random false)) (Replied (Refused TimeEnd)) []
+unfolding outcome
+late_at laws p s client access cmd clock random op plain due last accepted entered exact =
+    let call = call_of client access cmd clock random false in
+    let ask = Commanded call in
+    let why : refusal s (told true call) ≡ Some TimeEnd = laws.ended s call plain accepted entered last in
+    let at : due_at ask (seen p s) ≡ true = ap (λ (o : Option Op). is_due_of o p) exact ∙ due in
+    ask_keeps p s ask (Replied (Refused TimeEnd))
+    (ap (λ (d : Bool). commanded call d s) at ∙ refused_is s call true TimeEnd why (laws.refused s (told true call) TimeEnd why))
+
+rows_exact : (rows : RowLists) (s : State) (call : Call) (op : Op) → kept_entry rows s call ≡ Some op → kept_op rows s (Commanded call) ≡ Some op
+unfolding kept_op
+rows_exact rows s call op is = ap (λ (o : Option Op). option_or o (kept_masters rows s call)) is
+
 pub late : (laws : LateLaws) (p : Place) (s : State) (client : NameParts) (access : Option (List AclLine)) (cmd : Command) (clock : Moment) (random : List ℕ) (op : Op)
     → is_due op p ≡ true → is_last s.point.time ≡ true → IsChange p.rows s (call_of client access cmd clock random false) op
     → Performs p s (Commanded (call_of client access cmd clock random false)) (Replied (Refused TimeEnd)) []
-unfolding outcome kept_op
 late laws p s client access cmd clock random op due last is =
-    let call = call_of client access cmd clock random false in
-    let ask = Commanded call in
-    let why : refusal s (told true call) ≡ Some TimeEnd = laws.ended s call is.plain is.accepted is.entry_is last in
-    let at : due_at ask (seen p s) ≡ true = ap (λ (o : Option Op). is_due_of (option_or o (kept_masters p.rows s call)) p) is.exact ∙ due in
-    kept_performs p s ask (Replied (Refused TimeEnd))
-    (ap (λ (d : Bool). commanded call d s) at ∙ refused_is s call true TimeEnd why (laws.refused s (told true call) TimeEnd why))
+    late_at laws p s client access cmd clock random op is.plain due last is.accepted is.entry_is
+    (rows_exact p.rows s (call_of client access cmd clock random false) op is.exact)
+
+-- of the commands of master keys, the change of rows that is kept of others says nothing
+no_kept_entry : (rows : RowLists) (s : State) (call : Call) (cmd : Command) → is_master_command cmd ≡ true → kept_entry_of rows s call cmd ≡ None
+unfolding kept_entry_of
+no_kept_entry rows s call (command.AddMaster etype) e = refl
+no_kept_entry rows s call (command.UseMaster c) e = refl
+no_kept_entry rows s call command.ListMasters e = refl
+no_kept_entry rows s call command.PurgeMasters e = refl
+no_kept_entry rows s call (command.AddPrinc c) e = absurd cc
+no_kept_entry rows s call (command.ModPrinc c) e = absurd cc
+no_kept_entry rows s call (command.ChangeKeys c) e = absurd cc
+no_kept_entry rows s call (command.RenPrinc c) e = absurd cc
+no_kept_entry rows s call (command.DelPrinc name) e = absurd cc
+no_kept_entry rows s call (command.GetPrinc name) e = absurd cc
+no_kept_entry rows s call (command.ListPrincs glob) e = absurd cc
+no_kept_entry rows s call (command.PurgeKeys c) e = absurd cc
+no_kept_entry rows s call (command.SetString c) e = absurd cc
+no_kept_entry rows s call (command.DelString c) e = absurd cc
+no_kept_entry rows s call (command.GetStrings name) e = absurd cc
+no_kept_entry rows s call (command.Extract name) e = absurd cc
+no_kept_entry rows s call (command.AddPolicy p) e = absurd cc
+no_kept_entry rows s call (command.ModPolicy c) e = absurd cc
+no_kept_entry rows s call (command.DelPolicy name) e = absurd cc
+no_kept_entry rows s call (command.GetPolicy name) e = absurd cc
+no_kept_entry rows s call command.ListPolicies e = absurd cc
+no_kept_entry rows s call command.GetPrivs e = absurd cc
+no_kept_entry rows s call (command.RekeyPrincs glob) e = absurd cc
+no_kept_entry rows s call command.Stash e = absurd cc
+no_kept_entry rows s call command.Dump e = absurd cc
+
+masters_exact : (rows : RowLists) (s : State) (call : Call) (op : Op) → is_master_command call.command ≡ true → kept_masters rows s call ≡ Some op
+    → kept_op rows s (Commanded call) ≡ Some op
+unfolding kept_op
+masters_exact rows s call op mastered is =
+    ap (λ (o : Option Op). option_or o (kept_masters rows s call)) (no_kept_entry rows s call call.command mastered) ∙ is
+
+pub masters_late : (laws : LateLaws) (p : Place) (s : State) (client : NameParts) (access : Option (List AclLine)) (cmd : Command) (clock : Moment) (random : List ℕ)
+    (c : MasterChange) → is_master_command cmd ≡ true → is_due c.op p ≡ true → is_last s.point.time ≡ true
+    → IsMasterChange p.rows s (call_of client access cmd clock random false) c
+    → Performs p s (Commanded (call_of client access cmd clock random false)) (Replied (Refused TimeEnd)) []
+masters_late laws p s client access cmd clock random c mastered due last is =
+    late_at laws p s client access cmd clock random c.op is.plain due last is.accepted is.entry_is
+    (masters_exact p.rows s (call_of client access cmd clock random false) c.op mastered is.exact)

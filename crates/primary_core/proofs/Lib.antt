@@ -1,10 +1,17 @@
 pub mod Serials
 pub mod Asked
 pub mod Asking
+pub mod Performed
 pub mod Ended
 pub mod Decisions
 pub mod Shown
+pub mod Called
 pub mod Carried
+pub mod Filled
 pub mod Created
+pub mod Told
+pub mod Begun
+pub mod Ends
+pub mod StashLine
 pub mod Renewed
 pub mod Recovered

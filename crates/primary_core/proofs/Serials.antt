@@ -1,5 +1,5 @@
 -- A serial number behind which another one is left.
-use Rattle.std.proofs.Common.{◌≡◌, ◌<◌, ◌^◌, ◌||◌, ℕ, Bool, true, false, refl, sym, ap, subst, ◌∙◌, arith}
+use Rattle.std.proofs.Common.{◌≡◌, ◌<◌, ◌^◌, ◌||◌, ℕ, Bool, true, false, refl, arith}
 use Rattle.std.specs.Prelude.{nat_eq}
 
 below_last : (n : ℕ) → n < 2 ^ 32 → nat_eq n 4294967295 ≡ false → n < 4294967295

@@ -1,5 +1,5 @@
 -- The states that the rows of a primary show, at each place to which a change or an opening may come.
-use Rattle.std.proofs.Common.{◌≡◌, ◌<◌, ◌≤◌, ◌+◌, ◌&&◌, ℕ, Bool, true, false, List, [], ◌∷◌, Option, Result, Ok, Err, inl, inr, refl, sym, ap, subst, ◌∙◌, eqb-true}
+use Rattle.std.proofs.Common.{◌≡◌, ◌<◌, ◌≤◌, ◌+◌, ◌&&◌, ℕ, Bool, true, false, List, [], ◌∷◌, Option, Result, Ok, Err, inl, inr, refl, sym, ap, subst, ◌∙◌, arith, eqb-true}
 use Rattle.std.specs.Prelude.{OnErr, OnOk, if◌then◌else◌, nat_eq}
 use Rattle.iprop_truths.specs.Blocks.{block_for}
 use Rattle.iprop_truths.specs.Parts.{IsPart, end_of}
@@ -19,14 +19,18 @@ use Rattle.kdb_places.specs.Places.{Place, base_marker, committed, log_anew, nex
 use Rattle.kdb_plain.specs.States.{IsValid}
 use Rattle.kdb_plain.specs.declared.states.State.{State}
 use Rattle.performed_plans.specs.Ready.{change_places}
-use Rattle.primary_core.specs.Opened.{HasState, IsOpened, IsShown, MayMake, Opened, place_of}
+use Rattle.primary_core.proofs.Asked.{secs_behind}
+use Rattle.primary_core.specs.Opened.{HasState, IsOpened, IsShown, MayMake, Opened, masters_behind, place_of}
+use Rattle.primary_core.specs.declared.decided.DecidedChange.{DecidedChange}
 use Rattle.primary_core.specs.Opening.{OpensAt}
 use Rattle.princ_entries.specs.declared.entries.Op.{Op}
+use Rattle.princ_rows.specs.Rows.{RowLists}
+use Rattle.row_keys.specs.Shows.{Shows}
 use Rattle.row_keys.specs.Sound.{HasState as HasStateOf, judged}
 
 -- ---- where a log is begun anew
 
-reset_shows : (valid : StaysValid) (p : Place) (clock : Moment) (size block : ℕ) (s : State) → IsMoment clock → ShowsAt p s
+pub reset_shows : (valid : StaysValid) (p : Place) (clock : Moment) (size block : ℕ) (s : State) → IsMoment clock → ShowsAt p s
     → ShowsAt (log_anew (reset_point clock p) size block p) (at_point (reset_point clock p) s)
 reset_shows valid p clock size block s moment shows =
     let base = reset_point clock p in
@@ -92,79 +96,130 @@ pub record Stands (q : Place) (masters : List Master) : Type 0 where
   pub shown : IsShown q masters
   pub newer : q.format ≡ 2
 
-stands_by : (due : Bool) (valid : StaysValid) (p : Place) (clock : Moment) (op : Op) (masters : List Master) (q : Place) → IsMoment clock → 0 < p.size
-    → Stands p masters → IsShown (end_of p (places_by due clock op p)) masters → IsPart p (places_by due clock op p) q → Stands q masters
-stands_by false valid p clock op masters q moment sized before after (inl e) = subst (λ (x : Place). Stands x masters) (sym e) before
-stands_by false valid p clock op masters q moment sized before after (inr e) =
-    subst (λ (x : Place). Stands x masters) (sym e) (record { shown = after; newer = before.newer })
-stands_by true valid p clock op masters q moment sized before after (inl e) = subst (λ (x : Place). Stands x masters) (sym e) before
-stands_by true valid p clock op masters q moment sized before after (inr (inl e)) =
+-- the rows of before at a place that is not earlier
+rows_shown : (valid : StaysValid) (p q : Place) (masters : List Master) → IsShown p masters → q.realm ≡ p.realm → q.rows ≡ p.rows
+    → (point_of p).time.secs ≤ (point_of q).time.secs → IsShown q masters
+rows_shown valid p q masters h realm rows since =
+    let at : Point = point_of q in
+    record {
+      state = at_point at h.state;
+      shows = record {
+        realm = h.shows.realm ∙ sym realm;
+        at = refl;
+        shows = subst (λ (x : RowLists). Shows x (at_point at h.state)) (sym rows) (shows_at p.rows at h.state h.shows.shows);
+        valid = valid.point h.state at.time at (valid.later h.state (point_of p).time at.time since h.shows.valid);
+      };
+      masters_are = h.masters_are;
+    }
+
+-- A place at which a change stopped that did not reach the rows.
+stopped_by : (due : Bool) (valid : StaysValid) (p : Place) (clock : Moment) (op : Op) (masters : List Master) (q : Place) → IsMoment clock → 0 < p.size
+    → Stands p masters → q.rows ≡ p.rows → IsPart p (places_by due clock op p) q → Stands q masters
+stopped_by false valid p clock op masters q moment sized before rows (inl e) = subst (λ (x : Place). Stands x masters) (sym e) before
+stopped_by false valid p clock op masters q moment sized before rows (inr e) =
+    let at : point_of q ≡ next_point (moment_at clock p) p = ap point_of e ∙ committed_point op (moment_at clock p) p sized in
+    record {
+      shown = rows_shown valid p q masters before.shown (ap (λ (x : Place). x.realm) e) rows
+          (subst (λ (x : Point). (point_of p).time.secs ≤ x.time.secs) (sym at) (secs_behind (point_of p).time clock moment.usecs));
+      newer = ap (λ (x : Place). x.format) e ∙ before.newer;
+    }
+stopped_by true valid p clock op masters q moment sized before rows (inl e) = subst (λ (x : Place). Stands x masters) (sym e) before
+stopped_by true valid p clock op masters q moment sized before rows (inr (inl e)) =
     subst (λ (x : Place). Stands x masters) (sym e)
     (record { shown = reset_shown valid p clock p.size (block_for op p) masters moment before.shown; newer = refl })
-stands_by true valid p clock op masters q moment sized before after (inr (inr e)) =
-    subst (λ (x : Place). Stands x masters) (sym e) (record { shown = after; newer = refl })
+stopped_by true valid p clock op masters q moment sized before rows (inr (inr e)) =
+    let base = reset_point clock p in
+    let anew = reset_for clock op p in
+    let point : Point = record { sno = 2; time = base.time } in
+    let first : point_of anew ≡ base = first_point no_point (base_marker base) in
+    let next : next_point base.time anew ≡ point = ap (λ (x : Point). let y : Point = record { sno = x.sno + 1; time = base.time } in y) first in
+    let at : point_of q ≡ point = ap point_of e ∙ (committed_point op base.time anew sized ∙ next) in
+    record {
+      shown = rows_shown valid p q masters before.shown (ap (λ (x : Place). x.realm) e) rows
+          (subst (λ (x : Point). (point_of p).time.secs ≤ x.time.secs) (sym at) (reset_since clock p moment));
+      newer = ap (λ (x : Place). x.format) e;
+    }
 
-last_part : (p : Place) (made : List Place) → IsPart p made (end_of p made)
-last_part p [] = refl
-last_part p (q ∷ made) = inr (last_part q made)
+end_newer : (due : Bool) (p : Place) (clock : Moment) (op : Op) → p.format ≡ 2 → (end_of p (places_by due clock op p)).format ≡ 2
+end_newer false p clock op newer = newer
+end_newer true p clock op newer = refl
 
 -- ---- a primary behind a change
 
--- the dump places and the master keys are those of before
+opened_by : (old new : Opened) → IsOpened old → Stands (place_of new) new.masters → new.room ≡ old.room → new.dumps ≡ old.dumps → IsOpened new
+opened_by old new opened stands room dumps = record {
+  state = stands.shown.state;
+  has = record { shows = stands.shown.shows; masters_are = stands.shown.masters_are };
+  newer = stands.newer;
+  from = subst (λ (n : ℕ). 1 ≤ n) (sym room) opened.from;
+  upto = subst (λ (n : ℕ). n ≤ 16) (sym room) opened.upto;
+  within = subst (λ (n : ℕ). n ≤ new.room) (sym dumps) (subst (λ (n : ℕ). old.dumps ≤ n) (sym room) opened.within);
+}
+
+-- the dumps, their places and the master keys are those of before
 pub record IsBeside (old new : Opened) : Type 0 where
   pub masters : new.masters ≡ old.masters
   pub room : new.room ≡ old.room
+  pub dumps : new.dumps ≡ old.dumps
 
-opened_at : (old new : Opened) → IsOpened old → Stands (place_of new) old.masters → IsBeside old new → IsOpened new
-opened_at old new opened stands beside = record {
-  state = stands.shown.state;
-  has = record { shows = stands.shown.shows; masters_are = stands.shown.masters_are ∙ sym beside.masters };
-  newer = stands.newer;
-  from = subst (λ (n : ℕ). 1 ≤ n) (sym beside.room) opened.from;
-  upto = subst (λ (n : ℕ). n ≤ 16) (sym beside.room) opened.upto;
-}
+pub opened_at : (old new : Opened) → IsOpened old → Stands (place_of new) old.masters → IsBeside old new → IsOpened new
+opened_at old new opened stands beside =
+    opened_by old new opened (subst (Stands (place_of new)) (sym beside.masters) stands) beside.room beside.dumps
 
-module _ (valid : StaysValid) (old new : Opened) (clock : Moment) (op : Op) (moment : IsMoment clock) (opened : IsOpened old) (may : MayMake old clock op)
-    (sized : 0 < (place_of old).size) (beside : IsBeside old new) where
-  pub stopped_open : IsPart (place_of old) (change_places clock op (place_of old)) (place_of new) → IsOpened new
-  stopped_open part =
+module _ (valid : StaysValid) (old new : Opened) (clock : Moment) (change : DecidedChange) (moment : IsMoment clock) (opened : IsOpened old)
+    (may : MayMake old clock change) (sized : 0 < (place_of old).size) (room : new.room ≡ old.room) (dumps : new.dumps ≡ old.dumps) where
+  -- it stopped, and the master keys are those of before
+  stopped_open : new.masters ≡ old.masters → (place_of new).rows ≡ (place_of old).rows
+      → IsPart (place_of old) (change_places clock change.op (place_of old)) (place_of new) → IsOpened new
+  stopped_open masters rows part =
       let p = place_of old in
-      let leads = may.leads opened.state opened.has in
       let before : Stands p old.masters = record {
         shown = record { state = opened.state; shows = opened.has.shows; masters_are = opened.has.masters_are };
         newer = opened.newer;
       } in
-      let after : IsShown (end_of p (change_places clock op p)) old.masters = record {
-        state = leads.state;
-        shows = end_shows p clock op leads.state sized leads.is;
-        masters_are = leads.masters_are;
-      } in
-      opened_at old new opened (stands_by (is_due op p) valid p clock op old.masters (place_of new) moment sized before after part) beside
+      let stands = stopped_by (is_due change.op p) valid p clock change.op old.masters (place_of new) moment sized before rows part in
+      opened_by old new opened (subst (Stands (place_of new)) (sym masters) stands) room dumps
 
-  pub made_open : place_of new ≡ end_of (place_of old) (change_places clock op (place_of old)) → IsOpened new
-  made_open is =
+  -- it was made, and the master keys are those behind it
+  made_open : new.masters ≡ masters_behind old change.masters → place_of new ≡ end_of (place_of old) (change_places clock change.op (place_of old)) → IsOpened new
+  made_open masters is =
       let p = place_of old in
-      stopped_open (subst (λ (x : Place). IsPart p (change_places clock op p) x) (sym is) (last_part p (change_places clock op p)))
+      let leads = may.leads opened.state opened.has in
+      let behind : Stands (end_of p (change_places clock change.op p)) new.masters = record {
+        shown = record {
+          state = leads.state;
+          shows = end_shows p clock change.op leads.state sized leads.is;
+          masters_are = leads.masters_are ∙ sym masters;
+        };
+        newer = end_newer (is_due change.op p) p clock change.op opened.newer;
+      } in
+      opened_by old new opened (subst (λ (x : Place). Stands x new.masters) (sym is) behind) room dumps
 
-  pub any_open : (A : Type 0) (r : Result A Halt) → OnOk r (place_of new ≡ end_of (place_of old) (change_places clock op (place_of old)))
-      → OnErr r (IsPart (place_of old) (change_places clock op (place_of old)) (place_of new)) → IsOpened new
-  any_open A (Ok done) made stopped = made_open made
-  any_open A (Err halt) made stopped = stopped_open stopped
+  pub any_open : (A : Type 0) (r : Result A Halt) → OnOk r (new.masters ≡ masters_behind old change.masters) → OnErr r (new.masters ≡ old.masters)
+      → OnOk r (place_of new ≡ end_of (place_of old) (change_places clock change.op (place_of old)))
+      → OnErr r ((place_of new).rows ≡ (place_of old).rows)
+      → OnErr r (IsPart (place_of old) (change_places clock change.op (place_of old)) (place_of new)) → IsOpened new
+  any_open A (Ok done) masters stay made rows stopped = made_open masters made
+  any_open A (Err halt) masters stay made rows stopped = stopped_open stay rows stopped
 
 -- the state that was led to is the primary's
-pub made_state : (old new : Opened) (clock : Moment) (op : Op) (t : State) → 0 < (place_of old).size → IsBeside old new
-    → place_of new ≡ end_of (place_of old) (change_places clock op (place_of old))
-    → IsLeft (place_of old).realm (entry_point clock op (place_of old)) op (place_of old).rows t → t.masters ≡ old.masters → HasState new t
-made_state old new clock op t sized beside is left masters = record {
-  shows = subst (λ (x : Place). ShowsAt x t) (sym is) (end_shows (place_of old) clock op t sized left);
-  masters_are = masters ∙ sym beside.masters;
+made_state : (old new : Opened) (clock : Moment) (change : DecidedChange) (t : State) → 0 < (place_of old).size
+    → new.masters ≡ masters_behind old change.masters
+    → place_of new ≡ end_of (place_of old) (change_places clock change.op (place_of old))
+    → IsLeft (place_of old).realm (entry_point clock change.op (place_of old)) change.op (place_of old).rows t → t.masters ≡ masters_behind old change.masters
+    → HasState new t
+made_state old new clock change t sized behind is left masters = record {
+  shows = subst (λ (x : Place). ShowsAt x t) (sym is) (end_shows (place_of old) clock change.op t sized left);
+  masters_are = masters ∙ sym behind;
 }
 
-pub any_state : (A : Type 0) (r : Result A Halt) (old new : Opened) (clock : Moment) (op : Op) (t : State) → 0 < (place_of old).size → IsBeside old new
-    → OnOk r (place_of new ≡ end_of (place_of old) (change_places clock op (place_of old)))
-    → IsLeft (place_of old).realm (entry_point clock op (place_of old)) op (place_of old).rows t → t.masters ≡ old.masters → OnOk r (HasState new t)
-any_state A (Ok done) old new clock op t sized beside is left masters = made_state old new clock op t sized beside is left masters
-any_state A (Err halt) old new clock op t sized beside is left masters = tt
+pub any_state : (A : Type 0) (r : Result A Halt) (old new : Opened) (clock : Moment) (change : DecidedChange) (t : State) → 0 < (place_of old).size
+    → OnOk r (new.masters ≡ masters_behind old change.masters)
+    → OnOk r (place_of new ≡ end_of (place_of old) (change_places clock change.op (place_of old)))
+    → IsLeft (place_of old).realm (entry_point clock change.op (place_of old)) change.op (place_of old).rows t → t.masters ≡ masters_behind old change.masters
+    → OnOk r (HasState new t)
+any_state A (Ok done) old new clock change t sized behind is left masters = made_state old new clock change t sized behind is left masters
+any_state A (Err halt) old new clock change t sized behind is left masters = tt
 
 -- ---- an opening
 
@@ -188,8 +243,8 @@ renewed valid p size clock masters moment shown =
     (λ e. eqb-true p.format 2 (first_of (nat_eq p.format 2) (nat_eq (size_or size p) p.size) e)) shown
 
 pub opened_renewed : (valid : StaysValid) (p : Place) (size : Option ℕ) (clock : Moment) (o : Opened) → IsMoment clock → IsShown p o.masters
-    → place_of o ≡ end_of p (places (resized size clock p)) → 1 ≤ o.room → o.room ≤ 16 → IsOpened o
-opened_renewed valid p size clock o moment shown is from upto =
+    → place_of o ≡ end_of p (places (resized size clock p)) → 1 ≤ o.room → o.room ≤ 16 → o.dumps ≡ 0 → IsOpened o
+opened_renewed valid p size clock o moment shown is from upto none =
     let stands = subst (λ (x : Place). Stands x o.masters) (sym is) (renewed valid p size clock o.masters moment shown) in
     record {
       state = stands.shown.state;
@@ -197,6 +252,7 @@ opened_renewed valid p size clock o moment shown is from upto =
       newer = stands.newer;
       from = from;
       upto = upto;
+      within = omega (arith, none);
     }
 
 -- rows that are sound show a state

@@ -3,6 +3,7 @@
 ghost use Rattle.std.specs.Prelude.{◌≡◌, ◌<◌};
 ghost use Rattle.kdb_places.specs.Places.{point_of};
 ghost use Rattle.primary_core.specs.Opened.{IsOpened, place_of};
+ghost use Rattle.primary_core.specs.Refusing.{is_full};
 
 use kdb_base::{Masters, Point};
 use kdb_store::Database;
@@ -16,8 +17,8 @@ pub struct Primary {
     pub(crate) database: Database,
     pub(crate) masters: Masters,
     // the dumps that are under way, and how many may be
-    dumps: u32,
-    room: u32,
+    pub(crate) dumps: u32,
+    pub(crate) room: u32,
 }
 
 impl Model for Primary {
@@ -66,6 +67,13 @@ impl Primary {
         self.database.broken()
     }
 
+    // Whether as many dumps are under way as may be.
+    pub(crate) fn is_full(&self) -> bool
+        ensures { result ≡ is_full self.now }
+    {
+        self.dumps == self.room
+    }
+
     /// The point of the last change, or of the log's base marker where there was none since.
     pub fn point(&self) -> Point
         ensures { result ≡ point_of (place_of self.now) }
@@ -78,5 +86,19 @@ impl Primary {
         ensures { result.now ≡ self.now.kept.realm }
     {
         self.database.realm()
+    }
+
+    /// The database, for readers: its rows, its log and what is stored of its files.
+    pub fn database(&self) -> &Database
+        ensures { result.now ≡ self.now.kept }
+    {
+        &self.database
+    }
+
+    /// The master keys by which the rows are read.
+    pub fn masters(&self) -> &Masters
+        ensures { result.now ≡ self.now.masters }
+    {
+        &self.masters
     }
 }

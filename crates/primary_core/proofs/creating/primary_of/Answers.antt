@@ -9,7 +9,7 @@ of_parts-requires c = created_open c.args.spec.now c.args.now c.args.random.now 
     c.requires.place c.requires.masters
     (c.first_state_is_valid.ensures.realm c.args.spec.now c.args.now c.args.random.now) (c.first_state_is_valid.ensures.point c.args.spec.now c.args.now c.args.random.now)
     (c.first_state_is_valid.ensures.valid c.args.spec.now c.args.now c.args.random.now c.realm-realm.ensures.spec)
-    (c.first_rows_show_the_first_state.ensures c.args.spec.now c.args.now c.args.random.now c.requires.random (are_bytes c.args.random.now (λ i. omega (arith, c.type_inv.random i)))) refl
+    (c.first_rows_show_the_first_state.ensures c.args.spec.now c.args.now c.args.random.now c.requires.random (are_bytes c.args.random.now (λ i. omega (arith, c.type_inv.random i)))) refl refl
 
 pub returns-clause-state : goal.returns-clause-state
 returns-clause-state c = subst (λ (x : Opened). HasState x (first_state c.args.spec.now c.args.now c.args.random.now)) (sym c.of_parts.ensures)

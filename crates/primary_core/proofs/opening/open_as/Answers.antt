@@ -8,7 +8,7 @@ use Rattle.store_files.specs.Kept.{IsOnDisk, place_kept}
 
 pub of_parts-requires : goal.of_parts-requires
 of_parts-requires g c = opened_renewed (record { later = c.valid_later.ensures.later; point = c.valid_later.ensures.point }) (place_kept c.args.database) c.args.size c.args.now
-    (record { kept = c.renew.new.database; masters = c.args.masters; dumps = 0; room = c.args.room }) c.holds_moment.ensures c.holds_state.ensures c.in-Ok.ensures.place c.requires.room.0 c.requires.room.1
+    (record { kept = c.renew.new.database; masters = c.args.masters; dumps = 0; room = c.args.room }) c.holds_moment.ensures c.holds_state.ensures c.in-Ok.ensures.place c.requires.room.0 c.requires.room.1 refl
 
 pub returns-in-Ok-clause-opens : goal.returns-in-Ok-clause-opens
 returns-in-Ok-clause-opens g c = subst (OpensFrom (place_kept c.args.database) c.args.masters c.args.size c.args.now) (sym c.of_parts.ensures)

@@ -8,7 +8,7 @@ use Rattle.kdb_base.specs.declared.outcomes.Refusal.TheVariants.{Closed}
 use Rattle.kdb_disk.proofs.Runs.{started, weaken}
 use Rattle.primary_core.proofs.Carried.{answers_none, closed_is, decided_at_ok, does_if, leaves, may_by, never_both, never_fault, reach_by, reaches, state_if, stays, whole_at_err, whole_by}
 use Rattle.primary_core.proofs.primary.Primary.perform.Goals as goal
-use Rattle.primary_core.specs.Deciding.{op_of, reply_of}
+use Rattle.primary_core.specs.Deciding.{change_of, reply_of}
 use Rattle.primary_core.specs.Opened.{command_ask, place_of}
 use Rattle.primary_core.specs.declared.decided.Decided.{Decided}
 
@@ -20,12 +20,12 @@ carry_out-requires-clause-may g c = may_by c.args.self.now c.args.now c.decide.r
 
 pub returns-in-Ok-clause-does : goal.returns-in-Ok-clause-does
 returns-in-Ok-clause-does g c = λ s whole has.
-    does_if c.args.self.now c.carry_out.new.self (command_ask c.args.client.now (option_map (λ acl. acl.now) c.args.acl) c.args.ready.now.command c.args.now c.args.random.now) (reply_of c.in-Ok.decided) (op_of c.in-Ok.decided) (decided_at_ok c.args.self.now (command_ask c.args.client.now (option_map (λ acl. acl.now) c.args.acl) c.args.ready.now.command c.args.now c.args.random.now) c.decide.result c.in-Ok.decided c.in-Ok.is (c.decide.ensures.decided whole)) s has c.carry_out.result
+    does_if c.args.self.now c.carry_out.new.self (command_ask c.args.client.now (option_map (λ acl. acl.now) c.args.acl) c.args.ready.now.command c.args.now c.args.random.now) (reply_of c.in-Ok.decided) (change_of c.in-Ok.decided) (decided_at_ok c.args.self.now (command_ask c.args.client.now (option_map (λ acl. acl.now) c.args.acl) c.args.ready.now.command c.args.now c.args.random.now) c.decide.result c.in-Ok.decided c.in-Ok.is (c.decide.ensures.decided whole)) s has c.carry_out.result
     c.carry_out.ensures.reply c.carry_out.ensures.place
 
 pub returns-in-Ok-clause-state : goal.returns-in-Ok-clause-state
 returns-in-Ok-clause-state g c = λ s whole has.
-    state_if c.args.self.now c.carry_out.new.self (command_ask c.args.client.now (option_map (λ acl. acl.now) c.args.acl) c.args.ready.now.command c.args.now c.args.random.now) (reply_of c.in-Ok.decided) (op_of c.in-Ok.decided) (decided_at_ok c.args.self.now (command_ask c.args.client.now (option_map (λ acl. acl.now) c.args.acl) c.args.ready.now.command c.args.now c.args.random.now) c.decide.result c.in-Ok.decided c.in-Ok.is (c.decide.ensures.decided whole)) s has c.carry_out.result
+    state_if c.args.self.now c.carry_out.new.self (command_ask c.args.client.now (option_map (λ acl. acl.now) c.args.acl) c.args.ready.now.command c.args.now c.args.random.now) (reply_of c.in-Ok.decided) (change_of c.in-Ok.decided) (decided_at_ok c.args.self.now (command_ask c.args.client.now (option_map (λ acl. acl.now) c.args.acl) c.args.ready.now.command c.args.now c.args.random.now) c.decide.result c.in-Ok.decided c.in-Ok.is (c.decide.ensures.decided whole)) s has c.carry_out.result
     (λ none. (c.carry_out.ensures.keeps none).1) c.carry_out.ensures.state
 
 pub returns-in-Ok-clause-closed : goal.returns-in-Ok-clause-closed
@@ -41,14 +41,14 @@ returns-in-Ok-clause-closed_keeps g c = λ b.
 pub returns-in-Ok-clause-crash : goal.returns-in-Ok-clause-crash
 returns-in-Ok-clause-crash g c = λ s whole has. record {
   told = λ t. weaken ((c.carry_out.ensures.crash whole).told t)
-      (λ f l. leaves c.args.self.now (command_ask c.args.client.now (option_map (λ acl. acl.now) c.args.acl) c.args.ready.now.command c.args.now c.args.random.now) (reply_of c.in-Ok.decided) (op_of c.in-Ok.decided) (decided_at_ok c.args.self.now (command_ask c.args.client.now (option_map (λ acl. acl.now) c.args.acl) c.args.ready.now.command c.args.now c.args.random.now) c.decide.result c.in-Ok.decided c.in-Ok.is (c.decide.ensures.decided whole)) s has f l);
+      (λ f l. leaves c.args.self.now (command_ask c.args.client.now (option_map (λ acl. acl.now) c.args.acl) c.args.ready.now.command c.args.now c.args.random.now) (reply_of c.in-Ok.decided) (change_of c.in-Ok.decided) (decided_at_ok c.args.self.now (command_ask c.args.client.now (option_map (λ acl. acl.now) c.args.acl) c.args.ready.now.command c.args.now c.args.random.now) c.decide.result c.in-Ok.decided c.in-Ok.is (c.decide.ensures.decided whole)) s has f l);
 }
 
 pub returns-in-Ok-clause-reach : goal.returns-in-Ok-clause-reach
 returns-in-Ok-clause-reach g c = λ s has.
     reach_by _ _ c.args.self.now.kept.broken c.args.self.now.kept.broken c.carry_out.result (Refused Closed) refl
     (λ b. (c.carry_out.ensures.keeps (answers_none c.in-Ok.decided (Refused Closed) (closed_is c.decide.result c.in-Ok.decided c.in-Ok.is (c.decide.ensures.closed b)))).0 ∙ ap (λ (x : Decided). let r : Result Reply Halt = Ok (reply_of x) in r) (closed_is c.decide.result c.in-Ok.decided c.in-Ok.is (c.decide.ensures.closed b)))
-    (λ whole. on_err_weaker c.carry_out.result (reaches c.args.self.now (command_ask c.args.client.now (option_map (λ acl. acl.now) c.args.acl) c.args.ready.now.command c.args.now c.args.random.now) (reply_of c.in-Ok.decided) (op_of c.in-Ok.decided) (decided_at_ok c.args.self.now (command_ask c.args.client.now (option_map (λ acl. acl.now) c.args.acl) c.args.ready.now.command c.args.now c.args.random.now) c.decide.result c.in-Ok.decided c.in-Ok.is (c.decide.ensures.decided whole)) s has (place_of c.carry_out.new.self)) c.carry_out.ensures.part)
+    (λ whole. on_err_weaker c.carry_out.result (reaches c.args.self.now (command_ask c.args.client.now (option_map (λ acl. acl.now) c.args.acl) c.args.ready.now.command c.args.now c.args.random.now) (reply_of c.in-Ok.decided) (change_of c.in-Ok.decided) (decided_at_ok c.args.self.now (command_ask c.args.client.now (option_map (λ acl. acl.now) c.args.acl) c.args.ready.now.command c.args.now c.args.random.now) c.decide.result c.in-Ok.decided c.in-Ok.is (c.decide.ensures.decided whole)) s has (place_of c.carry_out.new.self)) c.carry_out.ensures.part)
 
 pub returns-in-Err-clause-closed : goal.returns-in-Err-clause-closed
 returns-in-Err-clause-closed g c = λ b. absurd (never_both _ b (whole_at_err c.args.self.now.kept.broken c.decide.result c.in-Err.halt c.in-Err.is c.decide.ensures.closed))

@@ -1,0 +1,12 @@
+//! A dump that a primary takes in the place of all that it has.
+#![tactic(auto)]
+
+mod judging;
+pub mod laws;
+mod loading;
+
+pub use judging::judge_dump;
+pub use loading::load;
+
+#[cfg(test)]
+mod tests;
