@@ -1,0 +1,7 @@
+mod Lengths
+mod Pieces
+mod Steps
+mod Reading
+mod Written
+mod Came
+mod Beginnings

@@ -1,0 +1,4 @@
+pub mod Entries
+pub mod Keytabs
+pub mod Written
+pub mod Removed
