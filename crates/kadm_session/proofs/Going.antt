@@ -26,13 +26,14 @@ use Rattle.kadm_session.specs.Draws.{Draws}
 use Rattle.kadm_session.specs.Replies.{text_of}
 use Rattle.kadm_session.specs.Steps.{draws_after, is_refusal, places_by, places_made, reply_to, said, seen_after, text_to}
 use Rattle.kadm_session.specs.declared.intake.Asked.{Asked}
-use Rattle.kadm_session.specs.declared.intake.Asked.TheVariants.{Nothing, Refused, Does}
+use Rattle.kadm_session.specs.declared.intake.Asked.TheVariants.{Nothing, Refused, Does, Rekeys}
+use Rattle.kadm_session.proofs.Lines.{line_ends}
 
 -- ---- lines that do nothing
 
 -- a line that is skipped
 pub decides_nothing : (asked : Asked) (told : Option Draws) (o : Opened) (s : State) → asked ≡ Nothing → HasState o s → Decides asked told (seen (place_of o) s) None o told
-unfolding reply_to seen_after
+unfolding reply_to seen_after draws_after
 decides_nothing asked told o s is has = record {
   later = seen (place_of o) s;
   stands = record { place_is = refl; shows = has };
@@ -46,7 +47,7 @@ decides_nothing asked told o s is has = record {
 -- a line that is refused before the database is looked at
 pub decides_refused : (asked : Asked) (refusal : Refusal) (told : Option Draws) (o : Opened) (s : State) (answer : Reply) → asked ≡ Refused refusal → answer ≡ reply.Refused refusal → HasState o s
     → Decides asked told (seen (place_of o) s) (Some answer) o told
-unfolding reply_to seen_after
+unfolding reply_to seen_after draws_after
 decides_refused asked refusal told o s answer is answer_is has = record {
   later = seen (place_of o) s;
   stands = record { place_is = refl; shows = has };
@@ -90,35 +91,36 @@ unfolding seen_after places_by
 after_is_last Nothing draws at = refl
 after_is_last (Refused refusal) draws at = refl
 after_is_last (Does command) draws at = refl
+after_is_last (Rekeys glob) draws at = line_ends glob draws at
 
 -- ---- what follows a line
 
 -- one line more was answered in full
 answered_more : (taken out : Option (List ℕ)) (asked : Asked) (more : List Asked) (draws : Draws) (at : Seen) (later : Place)
-    → AnsweredWhole (after_told taken (text_to asked draws at)) more (draws_after asked draws) (seen_after asked draws at) out later
+    → AnsweredWhole (after_told taken (text_to asked draws at)) more (draws_after asked draws at) (seen_after asked draws at) out later
     → AnsweredWhole taken (asked ∷ more) draws at out later
 unfolding said
 answered_more taken out asked more draws at later rest = record {
   count = suc rest.count;
   within = omega (arith, rest.within);
-  out_is = rest.out_is ∙ after_told-append taken (text_to asked draws at) (said (take rest.count more) (draws_after asked draws) (seen_after asked draws at)).bytes;
+  out_is = rest.out_is ∙ after_told-append taken (text_to asked draws at) (said (take rest.count more) (draws_after asked draws at) (seen_after asked draws at)).bytes;
   place_is = rest.place_is;
 }
 
 leaves_more : (asked : Asked) (more : List Asked) (draws : Draws) (at : Seen) (c : Files)
-    → RecoversToOne ((seen_after asked draws at).place ∷ places_made more (draws_after asked draws) (seen_after asked draws at)) c
+    → RecoversToOne ((seen_after asked draws at).place ∷ places_made more (draws_after asked draws at) (seen_after asked draws at)) c
     → RecoversToOne (at.place ∷ places_made (asked ∷ more) draws at) c
 unfolding places_made
 leaves_more asked more draws at c one =
-    let others = places_made more (draws_after asked draws) (seen_after asked draws at) in
+    let others = places_made more (draws_after asked draws at) (seen_after asked draws at) in
     behind at.place (places_by asked draws at) others c (subst (λ (p : Place). RecoversToOne (p ∷ others) c) (after_is_last asked draws at) one)
 
 follows_told : (taken : Option (List ℕ)) (refused : Bool) (asked : Asked) (more : List Asked) (draws : Draws) (at : Seen)
     → Follows (course taken refused (Some (asked ∷ more)) (Some draws) at)
-    (course (after_told taken (text_to asked draws at)) (refused || is_refusal (reply_to asked draws at)) (Some more) (Some (draws_after asked draws)) (seen_after asked draws at))
+    (course (after_told taken (text_to asked draws at)) (refused || is_refusal (reply_to asked draws at)) (Some more) (Some (draws_after asked draws at)) (seen_after asked draws at))
 unfolding ending said Stops MayStop Rests Leaves
 follows_told taken refused asked more draws at =
-    let later = said more (draws_after asked draws) (seen_after asked draws at) in
+    let later = said more (draws_after asked draws at) (seen_after asked draws at) in
     record {
       ends = λ i. Some (record {
         out = sym (after_told-append taken (text_to asked draws at) later.bytes) i;
@@ -173,7 +175,7 @@ leaves_line : (taken : Option (List ℕ)) (refused : Bool) (asked : Asked) (more
 unfolding Leaves places_made
 leaves_line taken refused asked more None at made c are part = tt
 leaves_line taken refused asked more (Some draws) at made c are part =
-    part_of at.place (places_by asked draws at) (places_made more (draws_after asked draws) (seen_after asked draws at)) c
+    part_of at.place (places_by asked draws at) (places_made more (draws_after asked draws at) (seen_after asked draws at)) c
     (subst (λ (places : List Place). LeavesPart at.place places c) are part)
 
 -- whatever a line leaves

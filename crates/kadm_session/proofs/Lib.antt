@@ -2,5 +2,8 @@ pub mod Coming
 pub mod Drawing
 pub mod Naming
 pub mod Making
+pub mod Moving
+pub mod Lines
 pub mod Going
 pub mod Turning
+pub mod StashAsked

@@ -19,13 +19,14 @@ use Rattle.kdb_places.specs.Places.{Place}
 use Rattle.kdb_plain.specs.declared.states.State.{State}
 use Rattle.kdb_ports.specs.Told.{later_bytes, later_moments}
 use Rattle.performed_plans.specs.Ready.{change_places}
-use Rattle.primary_core.specs.Opened.{HasState, IsDecided, MayMake, Opened, made_for, place_of}
+use Rattle.primary_core.specs.Opened.{HasState, IsDecided, MayMake, Opened, made_for, masters_behind, masters_brought, place_of}
+use Rattle.primary_core.specs.declared.decided.DecidedChange.{DecidedChange}
 use Rattle.princ_entries.specs.declared.entries.Op.{Op}
 use Rattle.store_files.specs.Found.{recovers}
 use Rattle.store_files.specs.Recovery.{LeavesPart, RecoversTo}
 use Rattle.kadm_session.specs.Deciding.{AreMade, Answers, Decides, IsLineSafe, StandsAt}
 use Rattle.kadm_session.specs.Draws.{Draws, bytes_of, told_draws}
-use Rattle.kadm_session.specs.Steps.{ask_at, places_by, reply_in_answer, reply_to, seen_after}
+use Rattle.kadm_session.specs.Steps.{ask_at, draws_after, places_by, reply_in_answer, reply_to, seen_after}
 use Rattle.kadm_session.specs.declared.commands.Judged.{Judged}
 use Rattle.kadm_session.specs.declared.intake.Asked.{Asked}
 use Rattle.kadm_session.specs.declared.replies.Printed.{Printed}
@@ -64,28 +65,28 @@ safe_still g old new asked told at same recovered = record {
 -- ---- nothing is to be made, or a change
 
 -- the change that was judged may be made
-pub may_make : {E : Type 0} (r : Result Judged E) (made op : Op) (o : Opened) (now : Moment) → IfOk r (λ j. j.change ≡ Some made) → MayMake o now made
-    → IfOk r (λ j. j.change ≡ Some op → MayMake o now op)
-may_make (Ok judged) made op o now is may = λ other. subst (λ (x : Op). MayMake o now x) (same_Some made op (sym is ∙ other)) may
-may_make (Err fault) made op o now is may = tt
+pub may_make : {E : Type 0} (r : Result Judged E) (made other : DecidedChange) (o : Opened) (now : Moment) → IfOk r (λ j. j.change ≡ Some made) → MayMake o now made
+    → IfOk r (λ j. j.change ≡ Some other → MayMake o now other)
+may_make (Ok judged) made other o now is may = λ same. subst (λ (x : DecidedChange). MayMake o now x) (same_Some made other (sym is ∙ same)) may
+may_make (Err fault) made other o now is may = tt
 
 -- what is open stays where it is
 pub stands_still : ((o : Opened) (ask : Ask) (reply : Reply) (s : State) → IsDecided o ask reply None → HasState o s → after_ask ask (seen (place_of o) s) ≡ seen (place_of o) s)
-    → (o : Opened) (ask : Ask) (reply : Reply) (change : Option Op) (s : State) → change ≡ None → IsDecided o ask reply change → HasState o s
+    → (o : Opened) (ask : Ask) (reply : Reply) (change : Option DecidedChange) (s : State) → change ≡ None → IsDecided o ask reply change → HasState o s
     → StandsAt o (after_ask ask (seen (place_of o) s))
 stands_still keeps o ask reply change s none is has =
-    subst (λ (at : Seen). StandsAt o at) (sym (keeps o ask reply s (subst (λ (x : Option Op). IsDecided o ask reply x) none is) has))
+    subst (λ (at : Seen). StandsAt o at) (sym (keeps o ask reply s (subst (λ (x : Option DecidedChange). IsDecided o ask reply x) none is) has))
     (record { place_is = refl; shows = has })
 
 -- the places of a change
 pub places_are : ((ask : Ask) (op : Op) (p : Place) → places (changed ask op p) ≡ change_places (clock_of ask) op p)
-    → (o : Opened) (ask : Ask) (reply : Reply) (change : Option Op) (op : Op) (s : State) (now : Moment) → clock_of ask ≡ now → change ≡ Some op → IsDecided o ask reply change → HasState o s
-    → places (made_at ask (seen (place_of o) s)) ≡ change_places now op (place_of o)
-places_are law o ask reply change op s now clock some is has =
+    → (o : Opened) (ask : Ask) (reply : Reply) (change : Option DecidedChange) (made : DecidedChange) (s : State) (now : Moment) → clock_of ask ≡ now → change ≡ Some made → IsDecided o ask reply change → HasState o s
+    → places (made_at ask (seen (place_of o) s)) ≡ change_places now made.op (place_of o)
+places_are law o ask reply change made s now clock some is has =
     ap places (sym (is.performs s has).is)
-    ∙ ap (λ (x : Option Op). places (made_for ask x (place_of o))) some
-    ∙ law ask op (place_of o)
-    ∙ ap (λ (m : Moment). change_places m op (place_of o)) clock
+    ∙ ap (λ (x : Option DecidedChange). places (made_for ask x (place_of o))) some
+    ∙ law ask made.op (place_of o)
+    ∙ ap (λ (m : Moment). change_places m made.op (place_of o)) clock
 
 -- a crash leaves the place of before, or one of the change
 pub crash_changing : {D : Type 0} (g : Ghosts D) (old new : D) (p : Place) (made others : List Place) → others ≡ made → IsCrashSafe g old new (LeavesPart p made) → IsCrashSafe g old new (LeavesPart p others)
@@ -93,36 +94,36 @@ crash_changing g old new p made others same safe = subst (λ (places : List Plac
 
 -- what is open has come to the change's place
 pub stands_changed :
-    ((o : Opened) (ask : Ask) (reply : Reply) (op : Option Op) (s : State) → IsDecided o ask reply op → HasState o s → (after_ask ask (seen (place_of o) s)).place ≡ end_of (place_of o) (places (made_for ask op (place_of o))))
+    ((o : Opened) (ask : Ask) (reply : Reply) (change : Option DecidedChange) (s : State) → IsDecided o ask reply change → HasState o s → (after_ask ask (seen (place_of o) s)).place ≡ end_of (place_of o) (places (made_for ask change (place_of o))))
     → ((ask : Ask) (op : Op) (p : Place) → places (changed ask op p) ≡ change_places (clock_of ask) op p)
-    → (o new : Opened) (ask : Ask) (reply : Reply) (change : Option Op) (op : Op) (s : State) (now : Moment) → clock_of ask ≡ now → change ≡ Some op → IsDecided o ask reply change → HasState o s
-    → place_of new ≡ end_of (place_of o) (change_places now op (place_of o))
+    → (o new : Opened) (ask : Ask) (reply : Reply) (change : Option DecidedChange) (made : DecidedChange) (s : State) (now : Moment) → clock_of ask ≡ now → change ≡ Some made → IsDecided o ask reply change → HasState o s
+    → place_of new ≡ end_of (place_of o) (change_places now made.op (place_of o))
     → HasState new (after_ask ask (seen (place_of o) s)).state
     → StandsAt new (after_ask ask (seen (place_of o) s))
-stands_changed ends law o new ask reply change op s now clock some is has place shows = record {
+stands_changed ends law o new ask reply change made s now clock some is has place shows = record {
   place_is =
       place
-      ∙ ap (λ (m : Moment). end_of (place_of o) (change_places m op (place_of o))) (sym clock)
-      ∙ ap (end_of (place_of o)) (sym (law ask op (place_of o)))
-      ∙ ap (λ (x : Option Op). end_of (place_of o) (places (made_for ask x (place_of o)))) (sym some)
+      ∙ ap (λ (m : Moment). end_of (place_of o) (change_places m made.op (place_of o))) (sym clock)
+      ∙ ap (end_of (place_of o)) (sym (law ask made.op (place_of o)))
+      ∙ ap (λ (x : Option DecidedChange). end_of (place_of o) (places (made_for ask x (place_of o)))) (sym some)
       ∙ sym (ends o ask reply change s is has);
   shows = shows;
 }
 
 -- it shows the state behind the change
 pub shows_changed :
-    ((o : Opened) (ask : Ask) (reply : Reply) (op : Op) (s : State) → IsDecided o ask reply (Some op) → HasState o s
-    → IsLeft (place_of o).realm (entry_point (clock_of ask) op (place_of o)) op (place_of o).rows (after_ask ask (seen (place_of o) s)).state)
-    → ((o : Opened) (ask : Ask) (reply : Reply) (op : Option Op) (s : State) → IsDecided o ask reply op → HasState o s → (after_ask ask (seen (place_of o) s)).state.masters ≡ o.masters)
-    → (o new : Opened) (ask : Ask) (reply : Reply) (change : Option Op) (op : Op) (s : State) (now : Moment) → clock_of ask ≡ now → change ≡ Some op → IsDecided o ask reply change → HasState o s
-    → ((t : State) → IsLeft (place_of o).realm (entry_point now op (place_of o)) op (place_of o).rows t → t.masters ≡ o.masters → HasState new t)
+    ((o : Opened) (ask : Ask) (reply : Reply) (change : DecidedChange) (s : State) → IsDecided o ask reply (Some change) → HasState o s
+    → IsLeft (place_of o).realm (entry_point (clock_of ask) change.op (place_of o)) change.op (place_of o).rows (after_ask ask (seen (place_of o) s)).state)
+    → ((o : Opened) (ask : Ask) (reply : Reply) (change : Option DecidedChange) (s : State) → IsDecided o ask reply change → HasState o s → (after_ask ask (seen (place_of o) s)).state.masters ≡ masters_behind o (masters_brought change))
+    → (o new : Opened) (ask : Ask) (reply : Reply) (change : Option DecidedChange) (made : DecidedChange) (s : State) (now : Moment) → clock_of ask ≡ now → change ≡ Some made → IsDecided o ask reply change → HasState o s
+    → ((t : State) → IsLeft (place_of o).realm (entry_point now made.op (place_of o)) made.op (place_of o).rows t → t.masters ≡ masters_behind o made.masters → HasState new t)
     → HasState new (after_ask ask (seen (place_of o) s)).state
-shows_changed leaves masters o new ask reply change op s now clock some is has shows =
+shows_changed leaves masters o new ask reply change made s now clock some is has shows =
     let t = (after_ask ask (seen (place_of o) s)).state in
     shows t
-    (subst (λ (m : Moment). IsLeft (place_of o).realm (entry_point m op (place_of o)) op (place_of o).rows t) clock
-    (leaves o ask reply op s (subst (λ (x : Option Op). IsDecided o ask reply x) some is) has))
-    (masters o ask reply change s is has)
+    (subst (λ (m : Moment). IsLeft (place_of o).realm (entry_point m made.op (place_of o)) made.op (place_of o).rows t) clock
+    (leaves o ask reply made s (subst (λ (x : Option DecidedChange). IsDecided o ask reply x) some is) has))
+    (masters o ask reply change s is has ∙ ap (λ (x : Option DecidedChange). masters_behind o (masters_brought x)) some)
 
 realm_by : (due : Bool) (p first second other : Place) → second.realm ≡ p.realm → other.realm ≡ p.realm → (end_of p (if due then first ∷ second ∷ [] else other ∷ [])).realm ≡ p.realm
 realm_by true p first second other late early = late
@@ -140,7 +141,7 @@ pub decides_done : (cmd : Command) (moments moments' : Option (ℕ → Moment)) 
     → IfSome stream (λ f. random ≡ bytes_of 2048 f) → stream' ≡ option_map (later_bytes 2048) stream
     → answer_at (ask_at cmd now random at) at ≡ Replied answer → StandsAt o (after_ask (ask_at cmd now random at) at)
     → Decides (Does cmd) (told_draws moments stream) at (Some answer) o (told_draws moments' stream')
-unfolding reply_to seen_after
+unfolding reply_to seen_after draws_after
 decides_done cmd moments moments' stream stream' now random at answer o first others bytes rest answered stands = record {
   later = after_ask (ask_at cmd now random at) at;
   stands = stands;

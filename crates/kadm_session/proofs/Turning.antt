@@ -4,7 +4,9 @@ use Rattle.std.proofs.Math.Bool.{or-false}
 use Rattle.std.proofs.lemmas.Option.{same_Some}
 use Rattle.std.specs.Prelude.{Option, Some, None, Result, Ok, Err, IfOk}
 use Rattle.kadm_lines.specs.Reader.{ReaderState}
+use Rattle.std.specs.List.{Contains}
 use Rattle.kdb_disk.proofs.Runs.{started, weaken}
+use Rattle.kdb_disk.specs.declared.disk.Disk.{Ghosts}
 use Rattle.kdb_disk.specs.Files.{Files}
 use Rattle.kdb_disk.specs.Moments.{LeavesOnly}
 use Rattle.kdb_disk.specs.View.{View}
@@ -14,7 +16,8 @@ use Rattle.kdb_plain.specs.declared.states.State.{State}
 use Rattle.kdb_ports.proofs.Told.{after_told-nil}
 use Rattle.primary_core.specs.Opened.{HasState, Opened, place_of}
 use Rattle.store_files.specs.Recovery.{LeavesPart, RecoversTo}
-use Rattle.kadm_session.specs.Courses.{AnsweredWhole, Course, Ending, EndsAs, Follows, GoesOnFrom, IsAtRest, IsStopped, Leaves, MayStop, Rests, Stage, Stops, course, end_with, ending}
+use Rattle.kadm_session.specs.Courses.{AnsweredWhole, Course, Ending, EndsAs, Follows, GoesOnFrom, IsAtRest, IsStopped, Leaves, MayStop, Rests, Stage, Stops, course, end_with, ending, rests_before}
+use Rattle.kadm_session.specs.Deciding.{IsHalfway, MayRest}
 use Rattle.kadm_session.specs.Draws.{Draws}
 use Rattle.kadm_session.specs.Intake.{Comes, NoCommand, before_commands, coming}
 use Rattle.kadm_session.specs.Steps.{Said, places_by, places_made, said}
@@ -109,9 +112,13 @@ stops_here taken refused commands told at now recovered = record {
   stands = record { each = λ c image. leaves_first at.place (next_made commands told at) c (recovered c image) };
 }
 
+here_rests : (commands : List Asked) (draws : Draws) (at : Seen) → Contains (rests_before commands draws at) at.place
+here_rests [] draws at = (0, omega arith, refl)
+here_rests (asked ∷ commands) draws at = (0, omega arith, refl)
+
 none_answered : (taken : Option (List ℕ)) (commands : List Asked) (draws : Draws) (at : Seen) → AnsweredWhole taken commands draws at taken at.place
 unfolding said
-none_answered taken commands draws at = record { count = 0; within = omega arith; out_is = sym (after_told-nil taken); place_is = refl }
+none_answered taken commands draws at = record { count = 0; within = omega arith; out_is = sym (after_told-nil taken); place_is = here_rests commands draws at }
 
 may_rest_here : (taken : Option (List ℕ)) (refused : Bool) (commands : Option (List Asked)) (told : Option Draws) (at : Seen)
     → Rests (course taken refused commands told at) taken at.place
@@ -177,6 +184,44 @@ rests_from c o taken refused commands told now was recovered = record {
   stands = recovered;
 }
 
+-- it rests where a later course may rest
+pub rests_on : (c : Course) (o : Opened) (taken : Option (List ℕ)) (refused : Bool) (commands : Option (List Asked)) (told : Option Draws) (out : Option (List ℕ)) (now : View)
+    → (was : GoesOnFrom c o taken refused commands told)
+    → IsAtRest (course taken refused commands told (seen (place_of o) was.state)) out now
+    → IsAtRest c out now
+rests_on c o taken refused commands told out now was rest = record { place = rest.place; may = was.follows.rests out rest.place rest.may; stands = rest.stands }
+
+may_rest_halfway : (taken : Option (List ℕ)) (refused : Bool) (asked : Asked) (more : List Asked) (told : Option Draws) (at : Seen) (place : Place)
+    → MayRest asked told at place → Rests (course taken refused (Some (asked ∷ more)) told at) taken place
+unfolding Rests said
+may_rest_halfway taken refused asked more None at place may = tt
+may_rest_halfway taken refused asked more (Some draws) at place may = record { count = 0; within = omega arith; out_is = sym (after_told-nil taken); place_is = may }
+
+-- a line stopped halfway, and nothing was written
+pub rests_halfway : {D : Type 0} (g : Ghosts D) (new : D) (taken : Option (List ℕ)) (refused : Bool) (asked : Asked) (more : List Asked) (told : Option Draws) (at : Seen)
+    → IsHalfway g new asked told at → g.tells → IsAtRest (course taken refused (Some (asked ∷ more)) told at) taken (g.view new)
+rests_halfway g new taken refused asked more told at half tells = record {
+  place = half.place;
+  may = may_rest_halfway taken refused asked more told at half.place half.may;
+  stands = half.stands tells;
+}
+
+rests_unknown : (taken : Option (List ℕ)) (refused : Bool) (told : Option Draws) (at : Seen) (c : Course) (out : Option (List ℕ)) (now : View)
+    → IsAtRest c out now → IsAtRest (course taken refused None told at) out now
+unfolding Rests
+rests_unknown taken refused told at c out now rest = record { place = rest.place; may = tt; stands = rest.stands }
+
+-- the first of what comes stopped so
+pub rests_all : (asked : Asked) (old new : Option (List Asked)) (taken : Option (List ℕ)) (refused : Bool) (told : Option Draws) (at : Seen) (out : Option (List ℕ)) (now : View)
+    → old ≡ before_commands asked new
+    → ((more : List Asked) → IsAtRest (course taken refused (Some (asked ∷ more)) told at) out now)
+    → IsAtRest (course taken refused old told at) out now
+rests_all asked old None taken refused told at out now is step =
+    subst (λ (c : Option (List Asked)). IsAtRest (course taken refused c told at) out now) (sym is)
+    (rests_unknown taken refused told at (course taken refused (Some (asked ∷ [])) told at) out now (step []))
+rests_all asked old (Some more) taken refused told at out now is step =
+    subst (λ (c : Option (List Asked)). IsAtRest (course taken refused c told at) out now) (sym is) (step more)
+
 -- no line is left
 ends_here : (taken : Option (List ℕ)) (refused : Bool) (commands : Option (List Asked)) (told : Option Draws) (o : Opened) (s : State) (end : Ending)
     → NoCommand commands → HasState o s → ending (course taken refused commands told (seen (place_of o) s)) ≡ Some end → EndsAs taken refused o told end
@@ -229,3 +274,11 @@ goes_with c o taken refused refused' commands told same goes = subst (λ (r : Bo
 pub goes_first : (taken : Option (List ℕ)) (refused : Bool) (commands : Option (List Asked)) (told : Option Draws) (o : Opened) (s : State) → HasState o s
     → GoesOnFrom (course taken refused commands told (seen (place_of o) s)) o taken refused commands told
 goes_first taken refused commands told o s has = record { state = s; has = has; follows = follows_itself (course taken refused commands told (seen (place_of o) s)) }
+
+-- ---- one command alone
+
+-- it was answered, and none is left
+pub one_ended : {E : Type 0} (c : Course) (o : Opened) (taken : Option (List ℕ)) (told : Option Draws) (end : Ending) (r : Result Bool E)
+    → IfOk r (λ now_refused. GoesOnFrom c o taken (false || now_refused) (Some []) told) → ending c ≡ Some end → IfOk r (λ refused. EndsAs taken refused o told end)
+one_ended {E} c o taken told end (Ok refused) goes e = ended_from c o taken refused (Some []) told end goes refl e
+one_ended {E} c o taken told end (Err halt) goes e = tt

@@ -1,7 +1,7 @@
 -- The course of a session from some point on: how it ends, where it may stop early, and what a crash may leave of the disk.
-use Rattle.std.specs.Prelude.{ℕ, ◌≡◌, ◌≤◌, ◌+◌, ◌⊎◌, Bool, ◌||◌, List, [], ◌∷◌, ◌++◌, Option, Some, None, Ok, length, take, ⊤}
+use Rattle.std.specs.Prelude.{ℕ, ◌≡◌, ◌≤◌, ◌+◌, ◌⊎◌, Bool, ◌||◌, List, [], ◌∷◌, ◌++◌, Option, Some, None, Ok, drop, length, take, ⊤}
 use Rattle.kadm_session.specs.Draws.{Draws}
-use Rattle.kadm_session.specs.Steps.{Said, draws_after, places_by, places_made, said, seen_after, text_to}
+use Rattle.kadm_session.specs.Steps.{Said, draws_after, halfway, places_by, places_made, said, seen_after, text_to}
 use Rattle.kadm_session.specs.declared.intake.Asked.{Asked}
 use Rattle.kdb_disk.specs.Files.{Files}
 use Rattle.kdb_disk.specs.View.{View}
@@ -71,7 +71,7 @@ unfoldable pub MayStop : Option (List ℕ) → List Asked → Draws → Seen →
 MayStop taken [] draws at out first others = (out ≡ taken) × (first ≡ at.place) × (others ≡ [])
 MayStop taken (asked ∷ commands) draws at out first others =
     StopsAt taken (text_to asked draws at) at.place (places_by asked draws at) (seen_after asked draws at).place out first others
-    ⊎ MayStop (after_told taken (text_to asked draws at)) commands (draws_after asked draws) (seen_after asked draws at) out first others
+    ⊎ MayStop (after_told taken (text_to asked draws at)) commands (draws_after asked draws at) (seen_after asked draws at) out first others
 
 abbrev pub stops_by : Option (List ℕ) → Option (List Asked) → Option Draws → Seen → Stage
 stops_by taken None draws at out first others = ⊤
@@ -95,12 +95,18 @@ pub record IsStopped (stage : Stage) (out : Option (List ℕ)) (now : View) : Ty
 
 -- ---- where it stops for want of memory
 
--- so many of the commands were done, and the replies to them are written in full
+-- where it may stand before the reply to the next command: as behind the one before, or where the next rekeys many, behind some of these
+abbrev pub rests_before : List Asked → Draws → Seen → List Place
+rests_before [] draws at = at.place ∷ []
+rests_before (asked ∷ commands) draws at = at.place ∷ halfway asked draws at
+
+-- So many of the commands were done, and the replies to them are written in full. No change stands without its reply, but that of the next
+-- command some rekeyings may be made.
 pub record AnsweredWhole (taken : Option (List ℕ)) (commands : List Asked) (draws : Draws) (at : Seen) (out : Option (List ℕ)) (later : Place) : Type 0 where
   pub count : ℕ
   pub within : count ≤ length commands
   pub out_is : out ≡ after_told taken (said (take count commands) draws at).bytes
-  pub place_is : later ≡ (said (take count commands) draws at).at.place
+  pub place_is : Contains (rests_before (drop count commands) (said (take count commands) draws at).draws (said (take count commands) draws at).at) later
 
 abbrev pub rests_by : Option (List ℕ) → Option (List Asked) → Option Draws → Seen → Option (List ℕ) → Place → Type 0
 rests_by taken None draws at out later = ⊤

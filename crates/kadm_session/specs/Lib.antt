@@ -2,8 +2,10 @@ pub mod Draws
 pub mod Input
 pub mod Intake
 pub mod Replies
+pub mod Rekeying
 pub mod Steps
 pub mod Deciding
+pub mod RekeyedNames
 pub mod Courses
 pub mod Turns
 pub mod Halts

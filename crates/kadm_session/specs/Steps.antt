@@ -5,14 +5,18 @@ use Rattle.kadm_commands.specs.declared.commands.Command.{Command}
 use Rattle.kadm_commands.specs.declared.replies.Reply.{Reply}
 use Rattle.kadm_commands.specs.declared.replies.Reply.TheVariants as reply
 use Rattle.kadm_session.specs.Draws.{Draws, behind_command, block_in, moment_in}
+use Rattle.kadm_session.specs.Rekeying.{Progress, begun, rekeyed, rekeyed_reply}
 use Rattle.kadm_session.specs.Replies.{text_of}
 use Rattle.kadm_session.specs.declared.intake.Asked.{Asked}
-use Rattle.kadm_session.specs.declared.intake.Asked.TheVariants.{Nothing, Refused, Does}
+use Rattle.kadm_session.specs.declared.intake.Asked.TheVariants.{Nothing, Refused, Does, Rekeys}
 use Rattle.kdb_base.specs.Moment.{Moment}
 use Rattle.kdb_histories.specs.Asks.{Answer, Ask, Replied}
 use Rattle.kdb_histories.specs.Seen.{Seen, after_ask, answer_at, made_at}
 use Rattle.kdb_histories.specs.Stages.{places}
 use Rattle.kdb_places.specs.Places.{Place}
+use Rattle.kdb_plain.specs.Lists.{princ_names}
+use Rattle.kdb_ports.specs.Told.{later_moments}
+use Rattle.primary_answers.specs.Listing.{names_told}
 use Rattle.primary_core.specs.Opened.{command_ask}
 use Rattle.princ_name.specs.Names.{NameParts}
 use Rattle.princ_name.specs.RealmNames.{name_in}
@@ -34,29 +38,43 @@ abbrev pub reply_in_answer : Answer → Option Reply
 reply_in_answer (Replied reply) = Some reply
 reply_in_answer other = None
 
+-- the names of the state that the glob matches, rekeyed one after another at one moment
+abbrev pub rekeyed_by : Option (List ℕ) → Draws → Seen → Progress
+rekeyed_by glob draws at = rekeyed (names_told glob (princ_names at.state.princs)) (moment_in draws) (begun at draws.stream)
+
 -- a skipped line has no reply
 unfoldable pub reply_to : Asked → Draws → Seen → Option Reply
 reply_to Nothing draws at = None
 reply_to (Refused refusal) draws at = Some (reply.Refused refusal)
 reply_to (Does command) draws at = reply_in_answer (answer_at (ask_of command draws at) at)
+reply_to (Rekeys glob) draws at = Some (rekeyed_reply (rekeyed_by glob draws at))
 
 -- the place and the state after it
 unfoldable pub seen_after : Asked → Draws → Seen → Seen
 seen_after Nothing draws at = at
 seen_after (Refused refusal) draws at = at
 seen_after (Does command) draws at = after_ask (ask_of command draws at) at
+seen_after (Rekeys glob) draws at = (rekeyed_by glob draws at).at
 
--- the places that it makes: none, that of its change, or before it that of a log begun anew
+-- the places that it makes: none, those of its change, or those of the rekeyings; a change has one, or before it that of a log begun anew
 unfoldable pub places_by : Asked → Draws → Seen → List Place
 places_by Nothing draws at = []
 places_by (Refused refusal) draws at = []
 places_by (Does command) draws at = places (made_at (ask_of command draws at) at)
+places_by (Rekeys glob) draws at = (rekeyed_by glob draws at).made
 
--- a line that gives no command reads no clock and draws nothing
-abbrev pub draws_after : Asked → Draws → Draws
-draws_after Nothing draws = draws
-draws_after (Refused refusal) draws = draws
-draws_after (Does command) draws = behind_command draws
+-- those at which it may stop for want of memory or of random bytes: rekeyings that were settled before stay
+abbrev pub halfway : Asked → Draws → Seen → List Place
+halfway (Rekeys glob) draws at = places_by (Rekeys glob) draws at
+halfway other draws at = []
+
+-- A line that gives no command reads no clock and draws nothing. Of many that are rekeyed each has its own 512 bytes, up to the first that
+-- is refused.
+unfoldable pub draws_after : Asked → Draws → Seen → Draws
+draws_after Nothing draws at = draws
+draws_after (Refused refusal) draws at = draws
+draws_after (Does command) draws at = behind_command draws
+draws_after (Rekeys glob) draws at = record { moments = later_moments draws.moments; stream = (rekeyed_by glob draws at).stream }
 
 abbrev pub refuses : Reply → Bool
 refuses (reply.Refused refusal) = true
@@ -83,9 +101,9 @@ after_reply reply later = record { bytes = text_of reply ++ later.bytes; refused
 
 unfoldable pub said : List Asked → Draws → Seen → Said
 said [] draws at = record { bytes = []; refused = false; at = at; draws = draws }
-said (asked ∷ commands) draws at = after_reply (reply_to asked draws at) (said commands (draws_after asked draws) (seen_after asked draws at))
+said (asked ∷ commands) draws at = after_reply (reply_to asked draws at) (said commands (draws_after asked draws at) (seen_after asked draws at))
 
 -- the places that they make, in their order
 unfoldable pub places_made : List Asked → Draws → Seen → List Place
 places_made [] draws at = []
-places_made (asked ∷ commands) draws at = places_by asked draws at ++ places_made commands (draws_after asked draws) (seen_after asked draws at)
+places_made (asked ∷ commands) draws at = places_by asked draws at ++ places_made commands (draws_after asked draws at) (seen_after asked draws at)

@@ -1,6 +1,7 @@
 //! Commands of the administrator at the machine itself. All memory is taken before a change is made.
 
-ghost use Rattle.std.specs.Prelude.{◌≡◌, ◌≢◌, false, Err, IfErr, IfOk, None, OnOk, Some, length};
+ghost use Rattle.std.specs.Prelude.{◌≡◌, ◌≢◌, true, false, Err, IfErr, IfOk, None, OnOk, Some, length};
+ghost use Rattle.kadm_commands.specs.Commands.{IsCommand};
 ghost use Rattle.kadm_replies.specs.Replies.{reply_text};
 ghost use Rattle.kadm_session.specs.Deciding.{Decides, IsLineSafe, StandsAt};
 ghost use Rattle.kadm_session.specs.Draws.{told_draws};
@@ -13,8 +14,9 @@ ghost use Rattle.kdb_histories.specs.Asks.{Ask, Replied, clock_of};
 ghost use Rattle.kdb_histories.specs.Seen.{after_ask, answer_at, made_at, seen};
 ghost use Rattle.kdb_histories.specs.Stages.{places};
 ghost use Rattle.kdb_plain.specs.declared.states.State.{State};
+ghost use Rattle.primary_core.specs.Deciding.{is_judged};
 ghost use Rattle.primary_core.specs.Opened.{HasState, IsDecided, MayMake, command_ask, place_of};
-ghost use Rattle.princ_entries.specs.declared.entries.Op.{Op as Operation};
+ghost use Rattle.primary_core.specs.declared.decided.DecidedChange.{DecidedChange as Changes};
 ghost use Rattle.store_files.specs.Kept.{IsOnDisk};
 ghost use Rattle.store_files.specs.Recovery.{LeavesPart};
 
@@ -22,16 +24,16 @@ use crate::clients::local_client;
 use crate::draws::draw;
 use crate::halts::SessionHalt;
 use crate::replies::{Printed, print};
+use crate::stashing::{is_stash, restash};
 use kadm_commands::{Command, Reply};
 use kadm_plan::{Ready, prepare};
-use kdb_base::{MemoryOut, Point, Time};
+use kdb_base::{MemoryOut, Time};
 use kdb_disk::Disk;
 use kdb_ports::{Clock, Entropy};
 use performed_plans::laws::changes_make_places;
 use primary_core::laws::decisions_are_asked;
-use primary_core::{Decided, Primary};
+use primary_core::{Decided, DecidedChange, Primary};
 use princ_name::Name;
-use princ_rows::Op;
 use std::alloc::Global;
 use store_files::laws::what_is_kept_is_recovered;
 
@@ -39,19 +41,19 @@ use store_files::laws::what_is_kept_is_recovered;
 #[derive(Drop)]
 struct Judged {
     printed: Printed,
-    change: Option<Op>,
+    change: Option<DecidedChange>,
 }
 
 // Prints the reply of a change.
-fn judged_change(alloc: Global, op: Op, point: Point) -> Result<Judged, MemoryOut>
-    ensures reply { IfOk result (λ j. j.printed.reply ≡ Reply.Done point) }
+fn judged_change(alloc: Global, change: DecidedChange, reply: Reply) -> Result<Judged, MemoryOut>
+    ensures reply { IfOk result (λ j. j.printed.reply ≡ reply) }
     ensures text { IfOk result (λ j. j.printed.text ≡ reply_text j.printed.reply) }
-    ensures change { IfOk result (λ j. j.change ≡ Some op) }
+    ensures change { IfOk result (λ j. j.change ≡ Some change) }
 {
-    match print(alloc, Reply::Done(point)) {
+    match print(alloc, reply) {
         Ok(printed) => Ok(Judged {
             printed,
-            change: Some(op),
+            change: Some(change),
         }),
         Err(_) => Err(MemoryOut),
     }
@@ -81,16 +83,17 @@ fn judge_for(
     now: Time,
     random: &[u8],
 ) -> Result<Judged, MemoryOut>
-    requires command { IsLineCommand primary.now.kept.realm ready.now.command }
+    requires command { IsCommand primary.now.kept.realm ready.now.command }
+    requires judged { is_judged ready.now.command ≡ true }
     requires random { length random.now ≡ 2048 }
     requires whole { primary.now.kept.broken ≡ false }
     ensures decided { IfOk result (λ j. IsDecided primary.now (command_ask client.now None ready.now.command now random.now) j.printed.reply j.change) }
-    ensures may { (op : Operation) → IfOk result (λ j. j.change ≡ Some op → MayMake primary.now now op) }
+    ensures may { (change : Changes) → IfOk result (λ j. j.change ≡ Some change → MayMake primary.now now change) }
     ensures text { IfOk result (λ j. j.printed.text ≡ reply_text j.printed.reply) }
 {
     match primary.decide(alloc, client, None, ready, now, random) {
         Ok(Decided::Answer(reply)) => judged_answer(alloc, reply),
-        Ok(Decided::Change { op, point }) => judged_change(alloc, op, point),
+        Ok(Decided::Change(change, reply)) => judged_change(alloc, change, reply),
         Err(_) => Err(MemoryOut),
     }
 }
@@ -103,11 +106,12 @@ fn judge(
     now: Time,
     random: &[u8],
 ) -> Result<Judged, MemoryOut>
-    requires command { IsLineCommand primary.now.kept.realm ready.now.command }
+    requires command { IsCommand primary.now.kept.realm ready.now.command }
+    requires judged { is_judged ready.now.command ≡ true }
     requires random { length random.now ≡ 2048 }
     requires whole { primary.now.kept.broken ≡ false }
     ensures decided { IfOk result (λ j. IsDecided primary.now (command_ask (local_client primary.now.kept.realm) None ready.now.command now random.now) j.printed.reply j.change) }
-    ensures may { (op : Operation) → IfOk result (λ j. j.change ≡ Some op → MayMake primary.now now op) }
+    ensures may { (change : Changes) → IfOk result (λ j. j.change ≡ Some change → MayMake primary.now now change) }
     ensures text { IfOk result (λ j. j.printed.text ≡ reply_text j.printed.reply) }
 {
     match local_client(alloc, primary.realm().as_slice()) {
@@ -126,7 +130,7 @@ fn carry_out<D: Disk>(
 ) -> Result<Printed, SessionHalt>
     requires on { D.tells → IsOnDisk primary.old.kept (D.view disk.old) }
     requires whole { primary.old.kept.broken ≡ false }
-    requires may { (op : Operation) → judged.change ≡ Some op → MayMake primary.old now op }
+    requires may { (change : Changes) → judged.change ≡ Some change → MayMake primary.old now change }
     ensures same { IfOk result (λ printed. printed ≡ judged.printed) }
     ensures stands { (ask : Ask) (s : State) → clock_of ask ≡ now → IsDecided primary.old ask judged.printed.reply judged.change → HasState primary.old s → OnOk result (StandsAt primary.new (after_ask ask (seen (place_of primary.old) s))) }
     ensures crash { (ask : Ask) (s : State) → clock_of ask ≡ now → IsDecided primary.old ask judged.printed.reply judged.change → HasState primary.old s → IsCrashSafe D.Disk disk.old disk.new (LeavesPart (place_of primary.old) (places (made_at ask (seen (place_of primary.old) s)))) }
@@ -144,10 +148,44 @@ fn carry_out<D: Disk>(
     let Judged { printed, change } = judged;
     match change {
         None => Ok(printed),
-        Some(op) => match primary.make(alloc, disk, op, now) {
+        Some(change) => match primary.make(alloc, disk, change, now) {
             Ok(()) => Ok(printed),
             Err(halt) => Err(SessionHalt::from(halt)),
         },
+    }
+}
+
+// Judges a command that is ready, and makes its change.
+fn perform_judged<D: Disk>(
+    alloc: Global,
+    primary: &mut Primary,
+    disk: &mut D,
+    ready: &Ready,
+    now: Time,
+    random: &[u8],
+) -> Result<Printed, SessionHalt>
+    requires command { IsCommand primary.old.kept.realm ready.now.command }
+    requires judged { is_judged ready.now.command ≡ true }
+    requires random { length random.now ≡ 2048 }
+    requires on { D.tells → IsOnDisk primary.old.kept (D.view disk.old) }
+    requires whole { primary.old.kept.broken ≡ false }
+    ensures reply { (s : State) → HasState primary.old s → IfOk result (λ printed. answer_at (ask_at ready.now.command now random.now (seen (place_of primary.old) s)) (seen (place_of primary.old) s) ≡ Replied printed.reply) }
+    ensures stands { (s : State) → HasState primary.old s → OnOk result (StandsAt primary.new (after_ask (ask_at ready.now.command now random.now (seen (place_of primary.old) s)) (seen (place_of primary.old) s))) }
+    ensures crash { (s : State) → HasState primary.old s → IsCrashSafe D.Disk disk.old disk.new (LeavesPart (place_of primary.old) (places (made_at (ask_at ready.now.command now random.now (seen (place_of primary.old) s)) (seen (place_of primary.old) s)))) }
+    ensures text { IfOk result (λ printed. printed.text ≡ reply_text printed.reply) }
+    ensures on { D.tells → OnOk result (IsOnDisk primary.new.kept (D.view disk.new)) }
+    ensures whole { OnOk result (primary.new.kept.broken ≡ false) }
+    ensures realm { OnOk result (primary.new.kept.realm ≡ primary.old.kept.realm) }
+    ensures memory { result ≡ Err SessionHalt.MemoryOut → (disk.new ≡ disk.old) × (place_of primary.new ≡ place_of primary.old) }
+    ensures halt { IfErr result IsPerformHalt }
+    ensures not_drawn { IfErr result (λ halt. halt ≢ SessionHalt.DrawFault) }
+    ensures call { IsCall D.Disk disk.old disk.new (result ≡ Err SessionHalt.DiskFault) }
+{
+    what_is_kept_is_recovered(disk);
+    decisions_are_asked();
+    match judge(alloc, primary, ready, now, random) {
+        Ok(judged) => carry_out(alloc, primary, disk, judged, now),
+        Err(_) => Err(SessionHalt::MemoryOut),
     }
 }
 
@@ -176,12 +214,10 @@ fn perform_at<D: Disk>(
     ensures not_drawn { IfErr result (λ halt. halt ≢ SessionHalt.DrawFault) }
     ensures call { IsCall D.Disk disk.old disk.new (result ≡ Err SessionHalt.DiskFault) }
 {
-    what_is_kept_is_recovered(disk);
-    decisions_are_asked();
-    match judge(alloc, primary, ready, now, random) {
-        Ok(judged) => carry_out(alloc, primary, disk, judged, now),
-        Err(_) => Err(SessionHalt::MemoryOut),
+    if is_stash(ready.command()) {
+        return restash(alloc, primary, disk, now);
     }
+    perform_judged(alloc, primary, disk, ready, now, random)
 }
 
 // Does a command that is ready: a block of random bytes is drawn, and the clock is read, once each.

@@ -3,16 +3,15 @@
 ghost use Rattle.std.specs.Prelude.{◌≡◌, ◌≢◌, ◌<◌, List, ℕ, Option, Some, Ok, Err, IfErr, IfOk, IsTrue};
 ghost use Rattle.kadm_commands.specs.Commands.{IsCommand};
 ghost use Rattle.kadm_lines.specs.Reader.{work_left};
-ghost use Rattle.kadm_plan.specs.Ready.{is_planned};
 ghost use Rattle.kadm_session.specs.Halts.{Counts, IsReadHalt};
-ghost use Rattle.kadm_session.specs.Input.{asked_for, asked_in, line_bytes, without_return, IsAsked};
+ghost use Rattle.kadm_session.specs.Input.{asked_else, asked_for, asked_in, is_event, line_bytes, without_return, IsAsked};
 ghost use Rattle.kadm_session.specs.Intake.{coming, Comes, IsValid, HasTaken};
 
 use crate::halts::SessionHalt;
 use kadm_commands::Command;
 use kadm_lines::{IntakeFault, LineReader, NextLine};
 use kadm_wire::parse_line;
-use kdb_base::{MemoryOut, Refusal, Stop};
+use kdb_base::{Blob, MemoryOut, Refusal, Stop};
 use kdb_ports::Source;
 use std::alloc::Global;
 
@@ -21,10 +20,12 @@ use std::alloc::Global;
 pub enum Asked {
     /// The line is skipped.
     Nothing,
-    /// The line is not of the grammar, or too long, or of a command of master keys or of files.
+    /// The line is not of the grammar, or too long, or of a command that is no line yet.
     Refused(Refusal),
-    /// The line gives a command that rows alone decide.
+    /// The line gives a command that is one event of a primary.
     Does(Command),
+    /// The line rekeys the principals that this glob matches, or all without one, each as an event of its own.
+    Rekeys(Option<Blob>),
 }
 
 /// What comes next of the input.
@@ -52,18 +53,12 @@ fn line_bytes(text: &[u8], ended: bool) -> &[u8]
     if ended { without_return(text) } else { text }
 }
 
-/// Whether rows alone decide a command.
-fn is_planned(command: &Command) -> bool
-    ensures { result ≡ is_planned command.now }
+/// Whether a command is one event of a primary.
+fn is_event(command: &Command) -> bool
+    ensures { result ≡ is_event command.now }
 {
     match command {
-        Command::AddMaster(_)
-        | Command::UseMaster(_)
-        | Command::ListMasters
-        | Command::PurgeMasters
-        | Command::RekeyPrincs(_)
-        | Command::Stash
-        | Command::Dump => false,
+        Command::RekeyPrincs(_) | Command::Dump => false,
         Command::AddPrinc(_)
         | Command::ModPrinc(_)
         | Command::ChangeKeys(_)
@@ -81,19 +76,35 @@ fn is_planned(command: &Command) -> bool
         | Command::DelPolicy(_)
         | Command::GetPolicy(_)
         | Command::ListPolicies
-        | Command::GetPrivs => true,
+        | Command::GetPrivs
+        | Command::AddMaster(_)
+        | Command::UseMaster(_)
+        | Command::ListMasters
+        | Command::PurgeMasters
+        | Command::Stash => true,
     }
 }
 
-/// A command that rows alone decide is done; another is no line of the program.
+/// A rekeying of many is an event for each of them; another command that is not one event is no line of the program.
+fn asked_else(command: Command) -> Asked
+    ensures value { result ≡ asked_else command }
+    ensures valid { (realm : List ℕ) → IsAsked realm result }
+{
+    match command {
+        Command::RekeyPrincs(glob) => Asked::Rekeys(glob),
+        _ => Asked::Refused(Refusal::BadLine),
+    }
+}
+
+/// A command that is one event is done.
 fn asked_for(command: Command) -> Asked
     ensures value { result ≡ asked_for command }
     ensures valid { (realm : List ℕ) → IsCommand realm command → IsAsked realm result }
 {
-    if is_planned(&command) {
+    if is_event(&command) {
         Asked::Does(command)
     } else {
-        Asked::Refused(Refusal::BadLine)
+        asked_else(command)
     }
 }
 

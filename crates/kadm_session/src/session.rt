@@ -1,9 +1,9 @@
 //! A session: the lines of an input, one after another.
 
-ghost use Rattle.std.specs.Prelude.{◌≡◌, ◌≢◌, ◌<◌, ◌∷◌, ◌||◌, IsTrue, Bool, false, List, ℕ, Option, Some, None, Ok, Err, IfErr, IfOk, OnOk, OnErr};
+ghost use Rattle.std.specs.Prelude.{◌≡◌, ◌≢◌, ◌<◌, ◌∷◌, ◌||◌, IsTrue, Bool, false, List, [], ℕ, Option, Some, None, Ok, Err, IfErr, IfOk, OnOk, OnErr};
 ghost use Rattle.kadm_lines.specs.Reader.{work_left};
 ghost use Rattle.kadm_session.specs.Courses.{Ending, EndsAs, GoesOnFrom, IsAtRest, IsStopped, Leaves, Stops, course, ending};
-ghost use Rattle.kadm_session.specs.Deciding.{Decides, IsLineSafe};
+ghost use Rattle.kadm_session.specs.Deciding.{Decides, IsHalfway, IsLineSafe};
 ghost use Rattle.kadm_session.specs.Draws.{told_draws};
 ghost use Rattle.kadm_session.specs.Halts.{Counts, IsAnswerHalt, IsPerformHalt};
 ghost use Rattle.kadm_session.specs.Input.{IsAsked};
@@ -22,6 +22,7 @@ ghost use Rattle.store_files.specs.Kept.{IsOnDisk};
 use crate::commands::perform;
 use crate::halts::SessionHalt;
 use crate::intake::{Asked, Next, next_command};
+use crate::rekeying::rekey;
 use crate::replies::{Printed, print, write_any};
 use kadm_commands::Reply;
 use kadm_lines::LineReader;
@@ -50,7 +51,7 @@ fn is_refusal(printed: &Option<Printed>) -> bool
 
 // Does what a line asks for, and gives the printed reply; none, where the line is skipped. The clock is read, and
 // random bytes are drawn, where the line gives a command. Where memory is wanted and not there, or no random bytes are
-// given, nothing was done.
+// given, nothing was done, but that of many that are rekeyed some may be.
 fn decide<D: Disk, C: Clock, E: Entropy>(
     alloc: Global,
     primary: &mut Primary,
@@ -68,8 +69,8 @@ fn decide<D: Disk, C: Clock, E: Entropy>(
     ensures on { D.tells → OnOk result (IsOnDisk primary.new.kept (D.view disk.new)) }
     ensures whole { OnOk result (primary.new.kept.broken ≡ false) }
     ensures realm { OnOk result (primary.new.kept.realm ≡ primary.old.kept.realm) }
-    ensures memory { result ≡ Err SessionHalt.MemoryOut → (disk.new ≡ disk.old) × (place_of primary.new ≡ place_of primary.old) }
-    ensures drawn { result ≡ Err SessionHalt.DrawFault → (disk.new ≡ disk.old) × (primary.new ≡ primary.old) }
+    ensures memory { (s : State) → HasState primary.old s → result ≡ Err SessionHalt.MemoryOut → IsHalfway D.Disk disk.new asked.now (told_draws (C.moments clock.old) (E.stream entropy.old)) (seen (place_of primary.old) s) }
+    ensures drawn { (s : State) → HasState primary.old s → result ≡ Err SessionHalt.DrawFault → IsHalfway D.Disk disk.new asked.now (told_draws (C.moments clock.old) (E.stream entropy.old)) (seen (place_of primary.old) s) }
     ensures halt { IfErr result IsPerformHalt }
     ensures call { IsCall D.Disk disk.old disk.new (result ≡ Err SessionHalt.DiskFault) }
     ensures faults { Counts (E.faults entropy.old) (E.faults entropy.new) (result ≡ Err SessionHalt.DrawFault) }
@@ -85,11 +86,16 @@ fn decide<D: Disk, C: Clock, E: Entropy>(
             Ok(printed) => Ok(Some(printed)),
             Err(halt) => Err(halt),
         },
+        Asked::Rekeys(glob) => match rekey(alloc, primary, disk, clock, entropy, glob) {
+            Ok(printed) => Ok(Some(printed)),
+            Err(halt) => Err(halt),
+        },
     }
 }
 
 // Does what a line asks for, and then writes the reply, if there is one. It answers whether that is a refusal. The
-// writing takes no memory: where memory is wanted and not there, nothing was done, and nothing was written.
+// writing takes no memory: where memory is wanted and not there, nothing was written, and nothing was done, but that of
+// many that are rekeyed some may be.
 fn answer<K: Sink, D: Disk, C: Clock, E: Entropy>(
     alloc: Global,
     primary: &mut Primary,
@@ -112,8 +118,10 @@ fn answer<K: Sink, D: Disk, C: Clock, E: Entropy>(
     ensures on { D.tells → OnOk result (IsOnDisk primary.new.kept (D.view disk.new)) }
     ensures whole { OnOk result (primary.new.kept.broken ≡ false) }
     ensures realm { OnOk result (primary.new.kept.realm ≡ primary.old.kept.realm) }
-    ensures memory { result ≡ Err SessionHalt.MemoryOut → (sink.new ≡ sink.old) × (disk.new ≡ disk.old) × (place_of primary.new ≡ place_of primary.old) }
-    ensures drawn { result ≡ Err SessionHalt.DrawFault → (sink.new ≡ sink.old) × (disk.new ≡ disk.old) × (primary.new ≡ primary.old) }
+    ensures memory { D.tells → (s : State) (refused : Bool) (more : List Asks) → HasState primary.old s → result ≡ Err SessionHalt.MemoryOut
+        → IsAtRest (course (K.taken sink.old) refused (Some (asked.now ∷ more)) (told_draws (C.moments clock.old) (E.stream entropy.old)) (seen (place_of primary.old) s)) (K.taken sink.new) (D.view disk.new) }
+    ensures drawn { D.tells → (s : State) (refused : Bool) (more : List Asks) → HasState primary.old s → result ≡ Err SessionHalt.DrawFault
+        → IsAtRest (course (K.taken sink.old) refused (Some (asked.now ∷ more)) (told_draws (C.moments clock.old) (E.stream entropy.old)) (seen (place_of primary.old) s)) (K.taken sink.new) (D.view disk.new) }
     ensures halt { IfErr result IsAnswerHalt }
     ensures call { IsCall D.Disk disk.old disk.new (result ≡ Err SessionHalt.DiskFault) }
     ensures writes { Counts (K.faults sink.old) (K.faults sink.new) (result ≡ Err SessionHalt.WriteFault) }
@@ -154,8 +162,10 @@ fn turn<S: Source, K: Sink, D: Disk, C: Clock, E: Entropy>(
         (Leaves (course (K.taken sink.old) refused (coming primary.old.kept.realm reader.old (S.left source.old)) (told_draws (C.moments clock.old) (E.stream entropy.old)) (seen (place_of primary.old) s))) }
     ensures on { D.tells → OnOk result (IsOnDisk primary.new.kept (D.view disk.new)) }
     ensures whole { OnOk result (primary.new.kept.broken ≡ false) }
-    ensures memory { result ≡ Err SessionHalt.MemoryOut → (sink.new ≡ sink.old) × (disk.new ≡ disk.old) × (place_of primary.new ≡ place_of primary.old) }
-    ensures drawn { result ≡ Err SessionHalt.DrawFault → (sink.new ≡ sink.old) × (disk.new ≡ disk.old) × (primary.new ≡ primary.old) }
+    ensures memory { D.tells → (s : State) (refused : Bool) → HasState primary.old s → result ≡ Err SessionHalt.MemoryOut
+        → IsAtRest (course (K.taken sink.old) refused (coming primary.old.kept.realm reader.old (S.left source.old)) (told_draws (C.moments clock.old) (E.stream entropy.old)) (seen (place_of primary.old) s)) (K.taken sink.new) (D.view disk.new) }
+    ensures drawn { D.tells → (s : State) (refused : Bool) → HasState primary.old s → result ≡ Err SessionHalt.DrawFault
+        → IsAtRest (course (K.taken sink.old) refused (coming primary.old.kept.realm reader.old (S.left source.old)) (told_draws (C.moments clock.old) (E.stream entropy.old)) (seen (place_of primary.old) s)) (K.taken sink.new) (D.view disk.new) }
     ensures read { result ≡ Err SessionHalt.ReadFault → (sink.new ≡ sink.old) × (disk.new ≡ disk.old) × (primary.new ≡ primary.old) }
     ensures at_limit { result ≡ Err SessionHalt.InputTooLong → (sink.new ≡ sink.old) × (disk.new ≡ disk.old) × (primary.new ≡ primary.old) }
     ensures end { result ≡ Ok None → (K.taken sink.new ≡ K.taken sink.old) × (primary.new ≡ primary.old) × IsTrue reader.new.over }
@@ -214,7 +224,8 @@ pub fn serve<S: Source, K: Sink, D: Disk, C: Clock, E: Entropy>(
         (IsStopped (Stops (course (K.taken sink.old) false (coming primary.old.kept.realm reader.old (S.left source.old)) (told_draws (C.moments clock.old) (E.stream entropy.old)) (seen (place_of primary.old) s))) (K.taken sink.new) (D.view disk.new)) }
 
     // Where it stops for want of memory, of random bytes or of input, or at the limit of the input, so many commands were
-    // done, and the replies to them are written in full: no change stands without its reply.
+    // done, and the replies to them are written in full: no change stands without its reply, but of many that are to be
+    // rekeyed those that were before it.
     ensures memory { D.tells → (s : State) → HasState primary.old s → result ≡ Err SessionHalt.MemoryOut
         → IsAtRest (course (K.taken sink.old) false (coming primary.old.kept.realm reader.old (S.left source.old)) (told_draws (C.moments clock.old) (E.stream entropy.old)) (seen (place_of primary.old) s)) (K.taken sink.new) (D.view disk.new) }
     ensures drawn { D.tells → (s : State) → HasState primary.old s → result ≡ Err SessionHalt.DrawFault
@@ -249,4 +260,45 @@ pub fn serve<S: Source, K: Sink, D: Disk, C: Clock, E: Entropy>(
             Err(halt) => return Err(halt),
         }
     }
+}
+
+/// Answers one command that did not come as a line of the input. It answers whether that was a refusal.
+///
+/// # Errors
+///
+/// As those of `serve`. After `MemoryOut` and `DrawFault` it was done and answered in full, or nothing was written and
+/// nothing was done, but that of many that are rekeyed some may be.
+pub fn serve_one<K: Sink, D: Disk, C: Clock, E: Entropy>(
+    alloc: Global,
+    primary: &mut Primary,
+    disk: &mut D,
+    sink: &mut K,
+    clock: &mut C,
+    entropy: &mut E,
+    asked: &Asked,
+) -> Result<bool, SessionHalt>
+    requires asked { IsAsked primary.old.kept.realm asked.now }
+    requires on { D.tells → IsOnDisk primary.old.kept (D.view disk.old) }
+    requires whole { primary.old.kept.broken ≡ false }
+    // As a session of this command alone.
+    ensures ended { (s : State) (end : Ending) → HasState primary.old s
+        → ending (course (K.taken sink.old) false (Some (asked.now ∷ [])) (told_draws (C.moments clock.old) (E.stream entropy.old)) (seen (place_of primary.old) s)) ≡ Some end
+        → IfOk result (λ refused. EndsAs (K.taken sink.new) refused primary.new (told_draws (C.moments clock.new) (E.stream entropy.new)) end) }
+    ensures on { D.tells → OnOk result (IsOnDisk primary.new.kept (D.view disk.new)) }
+    ensures whole { OnOk result (primary.new.kept.broken ≡ false) }
+    ensures stopped { D.tells → (s : State) → HasState primary.old s → OnErr result
+        (IsStopped (Stops (course (K.taken sink.old) false (Some (asked.now ∷ [])) (told_draws (C.moments clock.old) (E.stream entropy.old)) (seen (place_of primary.old) s))) (K.taken sink.new) (D.view disk.new)) }
+    ensures memory { D.tells → (s : State) → HasState primary.old s → result ≡ Err SessionHalt.MemoryOut
+        → IsAtRest (course (K.taken sink.old) false (Some (asked.now ∷ [])) (told_draws (C.moments clock.old) (E.stream entropy.old)) (seen (place_of primary.old) s)) (K.taken sink.new) (D.view disk.new) }
+    ensures drawn { D.tells → (s : State) → HasState primary.old s → result ≡ Err SessionHalt.DrawFault
+        → IsAtRest (course (K.taken sink.old) false (Some (asked.now ∷ [])) (told_draws (C.moments clock.old) (E.stream entropy.old)) (seen (place_of primary.old) s)) (K.taken sink.new) (D.view disk.new) }
+    ensures moments { D.tells → (s : State) → HasState primary.old s → LeavesOnly (D.view disk.old) (D.view disk.new)
+        (Leaves (course (K.taken sink.old) false (Some (asked.now ∷ [])) (told_draws (C.moments clock.old) (E.stream entropy.old)) (seen (place_of primary.old) s))) }
+    ensures halt { IfErr result IsAnswerHalt }
+    ensures call { IsCall D.Disk disk.old disk.new (result ≡ Err SessionHalt.DiskFault) }
+    ensures writes { Counts (K.faults sink.old) (K.faults sink.new) (result ≡ Err SessionHalt.WriteFault) }
+    ensures draws { Counts (E.faults entropy.old) (E.faults entropy.new) (result ≡ Err SessionHalt.DrawFault) }
+{
+    what_is_kept_is_recovered(disk);
+    answer(alloc, primary, disk, sink, clock, entropy, asked)
 }

@@ -1,12 +1,13 @@
 -- From a session to the course of an input.
 use Rattle.std.proofs.Common.{◌≡◌, ◌∙◌, ℕ, ◌+◌, ◌<◌, List, length, refl, ap, sym, subst, Bool, false, IsTrue, arith, add-zero}
-use Rattle.std.specs.Prelude.{Option, Some, None, IfSome, Result, Ok, Err, IfOk, OnErr, OnOk, option_map}
+use Rattle.std.specs.Prelude.{Option, Some, None, IfSome, Result, Ok, Err, IfErr, IfOk, OnErr, OnOk, option_map}
 use Rattle.std.proofs.lemmas.Option.{same_Some}
 use Rattle.std.proofs.lemmas.Result.{on_ok_weaker}
 use Rattle.kadm_lines.specs.Lines.{lines_from}
 use Rattle.kadm_lines.specs.Reader.{ReaderState, to_come}
 use Rattle.kadm_session.specs.Courses.{Course, Ending, EndsAs, IsAtRest, IsStopped, Leaves, Stops, course, ending}
 use Rattle.kadm_session.specs.Draws.{Draws}
+use Rattle.kadm_session.specs.Halts.{IsAnswerHalt}
 use Rattle.kadm_session.specs.Intake.{HasTaken, coming}
 use Rattle.kadm_session.specs.declared.halts.SessionHalt.{SessionHalt}
 use Rattle.kadm_session.specs.declared.halts.SessionHalt.TheVariants as session
@@ -27,7 +28,7 @@ fresh_coming : (realm : List ℕ) (reader : ReaderState) (left : Option (List �
 unfolding to_come lines_from
 fresh_coming realm reader left is = ap (λ (r : ReaderState). coming realm r left) is
 
-pub fresh_course : (taken left : Option (List ℕ)) (draws : Option Draws) (reader : ReaderState) (at : Seen) → reader ≡ fresh → course taken false (coming at.place.realm reader left) draws at ≡ course_from (told taken left draws) at
+pub fresh_course : (taken left : Option (List ℕ)) (draws : Option Draws) (reader : ReaderState) (at : Seen) → reader ≡ fresh → course taken false (coming at.place.realm reader left) draws at ≡ course_from None (told taken left draws) at
 fresh_course taken left draws reader at is = ap (λ (commands : Option (List Asked)). course taken false commands draws at) (fresh_coming at.place.realm reader left is)
 
 nothing_taken : (left : Option (List ℕ)) → option_map length left ≡ option_map (λ bytes. length bytes + 0) left
@@ -95,3 +96,22 @@ course_run o (Err halt) ended stands stopped memory drawn read limit moments = r
   rests = λ spares. at_rest halt memory drawn read limit spares;
   moments = moments;
 }
+
+-- ---- what comes of one command alone
+
+-- it stopped for no want of input
+never_read : {P : Type 0} (r : Result Bool SessionHalt) → IfErr r IsAnswerHalt → r ≡ Err session.ReadFault → P
+never_read r answers is = absurd (subst (λ (x : Result Bool SessionHalt). IfErr x IsAnswerHalt) is answers)
+
+never_long : {P : Type 0} (r : Result Bool SessionHalt) → IfErr r IsAnswerHalt → r ≡ Err session.InputTooLong → P
+never_long r answers is = absurd (subst (λ (x : Result Bool SessionHalt). IfErr x IsAnswerHalt) is answers)
+
+pub one_run : {c : Course} {old now : View} {after : Told} (o : Opened) (r : Result Bool SessionHalt)
+    → ((end : Ending) → ending c ≡ Some end → IfOk r (λ refused. EndsAs after.taken refused o after.draws end))
+    → OnOk r (RecoversTo (place_of o) now)
+    → OnErr r (IsStopped (Stops c) after.taken now)
+    → (r ≡ Err session.MemoryOut → IsAtRest c after.taken now) → (r ≡ Err session.DrawFault → IsAtRest c after.taken now)
+    → IfErr r IsAnswerHalt → LeavesOnly old now (Leaves c)
+    → HasCourse c old now after r
+one_run o r ended stands stopped memory drawn answers moments =
+    course_run o r ended stands stopped memory drawn (never_read r answers) (never_long r answers) moments

@@ -9,7 +9,7 @@ use Rattle.kadm_replies.specs.Replies.{reply_text}
 use Rattle.kadm_session.specs.Draws.{Draws, block_in, moment_in}
 use Rattle.kadm_session.specs.declared.halts.SessionHalt.{SessionHalt}
 use Rattle.kadm_top.specs.Openings.{ABlock, Ends, Makes, NoDraw, Opening, Refuses, ReadsInput, behind, create_of, destroy_of}
-use Rattle.kadm_top.specs.Run.{AreDrawn, HasRun, IfTold, MakesStop, RunEnd, RunEndsAs, RunLeaves, Told, SparesOutput, end_made, ended_text, made_line, place_made, refusal_line}
+use Rattle.kadm_top.specs.Run.{AreDrawn, HasRun, IfTold, IsErased, MakesStop, RunEnd, RunEndsAs, RunLeaves, Told, SparesOutput, end_made, ended_text, made_line, place_made, refusal_line}
 use Rattle.kadm_top.proofs.Running.{cut_refusal_run, idle_run, refused_run}
 use Rattle.kdb_base.specs.Moment.{Moment}
 use Rattle.kdb_base.specs.declared.outcomes.Refusal.{Refusal}
@@ -26,7 +26,7 @@ use Rattle.kdb_places.specs.Places.{Place}
 use Rattle.kdb_ports.specs.Parts.{SaidPart}
 use Rattle.kdb_ports.specs.Told.{after_told}
 use Rattle.primary_core.specs.Opening.{first_place}
-use Rattle.store_files.specs.Recovery.{Creates, Destroys, RecoversTo, RecoversToNone}
+use Rattle.store_files.specs.Recovery.{Creates, Destroys, RecoversTo}
 use Rattle.store_opening.specs.Made.{AnswersMade}
 use Rattle.store_switches.specs.Ending.{AnswersEnded, IsChosen, RefusesEnd}
 
@@ -177,7 +177,7 @@ end_refuses_for (Broken place) refusal is = ap (λ (r : Refusal). Refuses r NoDr
 end_refuses : {A : Type 0} (answer : Result A Stop) (force : Force) (refusal : Refusal) → answer ≡ Err (stop.Refused refusal) → AnswersEnded answer force → destroy_of force ≡ Refuses refusal NoDraw
 end_refuses {A} answer force refusal is ended_or = end_refuses_for force refusal (subst (λ (a : Result A Stop). AnswersEnded a force) is ended_or)
 
-ends_run : {old now : View} {before after : Told} → LeavesOnly old now (Destroys old) → RecoversToNone now
+ends_run : {old now : View} {before after : Told} → LeavesOnly old now (Destroys old) → IsErased now
     → after.taken ≡ after_told before.taken ended_text → after.draws ≡ before.draws → HasRun Ends old now before after (Ok false)
 ends_run {old} {now} {before} {after} run none said_it draws = record {
   ended = λ end e. subst (λ (x : RunEnd). RunEndsAs after.taken false after.draws old now x) (same_Some _ _ e)
@@ -188,7 +188,7 @@ ends_run {old} {now} {before} {after} run none said_it draws = record {
   read = λ no. absurd no;
 }
 
-cut_ends_run : {old now : View} {before after : Told} (halt : SessionHalt) → LeavesOnly old now (Destroys old) → RecoversToNone now
+cut_ends_run : {old now : View} {before after : Told} (halt : SessionHalt) → LeavesOnly old now (Destroys old) → IsErased now
     → SaidPart ended_text before.taken after.taken → (SparesOutput halt → ⊥) → HasRun Ends old now before after (Err halt)
 cut_ends_run halt run none part fault = record {
   ended = λ end e. tt;
@@ -208,12 +208,12 @@ halted_ends_run halt run nothing fault = record {
   read = λ no. absurd no;
 }
 
-pub end_done : {old now : View} {before after : Told} (force : Force) → IsChosen force → LeavesOnly old now (Destroys old) → RecoversToNone now
+pub end_done : {old now : View} {before after : Told} (force : Force) → IsChosen force → LeavesOnly old now (Destroys old) → IsErased now
     → after.taken ≡ after_told before.taken ended_text → after.draws ≡ before.draws → HasRun (destroy_of force) old now before after (Ok false)
 end_done {old} {now} {before} {after} force chosen run none said_it draws =
     subst (λ (o : Opening). HasRun o old now before after (Ok false)) (sym (chosen_ends force chosen)) (ends_run run none said_it draws)
 
-pub end_cut : {old now : View} {before after : Told} (force : Force) (halt : SessionHalt) → IsChosen force → LeavesOnly old now (Destroys old) → RecoversToNone now
+pub end_cut : {old now : View} {before after : Told} (force : Force) (halt : SessionHalt) → IsChosen force → LeavesOnly old now (Destroys old) → IsErased now
     → SaidPart ended_text before.taken after.taken → (SparesOutput halt → ⊥) → HasRun (destroy_of force) old now before after (Err halt)
 end_cut {old} {now} {before} {after} force halt chosen run none part fault =
     subst (λ (o : Opening). HasRun o old now before after (Err halt)) (sym (chosen_ends force chosen)) (cut_ends_run halt run none part fault)

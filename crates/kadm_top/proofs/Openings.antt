@@ -1,16 +1,19 @@
 -- What comes of an opening, by what the files stand for.
 use Rattle.std.proofs.Common.{◌≡◌, ◌≢◌, ◌∙◌, ℕ, List, [], ◌∷◌, refl, ap, sym, subst, inl, inr, Bool, true, false}
-use Rattle.std.specs.Prelude.{Option, Some, Result, Ok, Err, IfOk, OnOk, if◌then◌else◌}
+use Rattle.std.specs.Prelude.{Option, Some, None, Result, Ok, Err, IfOk, OnOk, if◌then◌else◌}
 use Rattle.first_rows.specs.Parts.{SpecParts}
 use Rattle.iprop_truths.specs.Parts.{end_of}
 use Rattle.kadm_session.specs.Draws.{Draws, moment_in}
+use Rattle.kadm_commands.specs.declared.commands.Command.{Command}
 use Rattle.kadm_session.specs.declared.halts.SessionHalt.{SessionHalt}
-use Rattle.kadm_top.specs.Openings.{AMoment, Drawn, Ends, HasAdminOpening, HasOpening, IsOpen, IsOpening, Makes, NoDraw, Opening, Opens, Refuses, ReadsInput, admin_opens, behind, create_of, destroy_of}
+use Rattle.kadm_session.specs.declared.intake.Asked.{Asked}
+use Rattle.kadm_session.specs.declared.intake.Asked.TheVariants.{Does}
+use Rattle.kadm_top.specs.Openings.{AMoment, Drawn, Ends, HasOpening, HasOpeningFor, IsInput, IsOpen, IsOpening, Makes, NoDraw, Opening, Opens, Refuses, ReadsInput, Tells, behind, create_of, destroy_of, opens_for}
 use Rattle.kadm_top.specs.Reads.{IsReadWhole}
-use Rattle.kadm_top.specs.Run.{HasCourse, HasRun, IsSame, OpensPart, Told, SparesOutput, course_from, refusal_line, told}
+use Rattle.kadm_top.specs.Run.{HasCourse, HasRun, IsSame, OpensPart, Told, SparesOutput, course_behind, course_from, refusal_line, told}
 use Rattle.kadm_top.proofs.Running.{cut_refusal_run, opened_run, refused_run, said_nothing, unopened_run}
 use Rattle.kadm_top.specs.declared.words.Words.{Words}
-use Rattle.kadm_top.specs.declared.words.Words.TheVariants.{Admin, Create, Destroy}
+use Rattle.kadm_top.specs.declared.words.Words.TheVariants.{Admin, Create, Destroy, Line}
 use Rattle.kdb_base.specs.Moment.{Moment}
 use Rattle.kdb_base.specs.declared.outcomes.Refusal.{Refusal}
 use Rattle.kdb_base.specs.declared.outcomes.Stop.{Stop}
@@ -84,93 +87,104 @@ opened_state {at = at} o opens place masters = record {
 -- ---- the four ways that an opening goes
 
 -- it opened
-pub admin_opened : {size : Option ℕ} {found : Result Found Refusal} {old mid now : View} {before after middle : Told} {result : Result Bool SessionHalt} (clock : Moment) (o : Opening) (primary : Opened)
+pub admin_opened : {size : Option ℕ} {found : Result Found Refusal} {old mid now : View} {before after middle : Told} {result : Result Bool SessionHalt} (asked : Option Asked) (clock : Moment) (o : Opening) (primary : Opened)
     → ((d : Draws) → before.draws ≡ Some d → clock ≡ moment_in d)
-    → admin_opens size found before.draws o → Answers found size clock (Ok primary) old mid
+    → opens_for size asked found before.draws o → Answers found size clock (Ok primary) old mid
     → middle ≡ told before.taken before.left (behind AMoment before.draws)
-    → ((s : State) → HasState primary s → HasCourse (course_from middle (seen (place_of primary) s)) mid now after result)
-    → OnOk result (IsReadWhole before.left after.left)
+    → ((s : State) → HasState primary s → HasCourse (course_from asked middle (seen (place_of primary) s)) mid now after result)
+    → (IsInput asked → OnOk result (IsReadWhole before.left after.left))
     → HasRun o old now before after result
-admin_opened clock (Refuses why drawn) primary gave opens answers is course whole = absurd (answers.only_refused why (opens.1 clock))
-admin_opened {size} {found} {old} {mid} {now} {before} {after} {middle} {result} clock (Opens begin made at) primary gave opens answers is course whole =
-    let at_clock : clock ≡ moment_in opens.told = gave opens.told opens.draws_are in
-    let place : place_of primary ≡ at.place = opened_place clock primary opens at_clock answers.opens in
-    let state : HasState primary at.state = opened_state primary opens place (open_having clock (Ok primary) opens at_clock answers) in
-    opened_run begin made at (opening_part clock opens at_clock answers.moments)
-    (subst (λ (t : Told). HasCourse (course_from t at) mid now after result) is
-    (subst (λ (p : Place). HasCourse (course_from middle (seen p at.state)) mid now after result) place (course at.state state)))
-    whole
-admin_opened clock (Makes spec) primary gave opens answers is course whole = absurd opens
-admin_opened clock Ends primary gave opens answers is course whole = absurd opens
+admin_opened asked clock (Refuses why drawn) primary gave opens answers is course whole = absurd (answers.only_refused why (opens.1 clock))
+admin_opened {size} {found} {old} {mid} {now} {before} {after} {middle} {result} asked clock (Opens begin made at its) primary gave opens answers is course whole =
+    let found_open = opens.0 in
+    let at_clock : clock ≡ moment_in found_open.told = gave found_open.told found_open.draws_are in
+    let place : place_of primary ≡ at.place = opened_place clock primary found_open at_clock answers.opens in
+    let state : HasState primary at.state = opened_state primary found_open place (open_having clock (Ok primary) found_open at_clock answers) in
+    opened_run begin made at its (opening_part clock found_open at_clock answers.moments)
+    (subst (λ (a : Option Asked). HasCourse (course_behind a before at) mid now after result) (sym opens.1)
+    (subst (λ (t : Told). HasCourse (course_from asked t at) mid now after result) is
+    (subst (λ (p : Place). HasCourse (course_from asked middle (seen p at.state)) mid now after result) place (course at.state state))))
+    (λ reads. whole (subst IsInput opens.1 reads))
+admin_opened asked clock (Tells text) primary gave opens answers is course whole = absurd opens
+admin_opened asked clock (Makes spec) primary gave opens answers is course whole = absurd opens
+admin_opened asked clock Ends primary gave opens answers is course whole = absurd opens
 
 -- it was refused, and that was written
-pub admin_refused : {size : Option ℕ} {found : Result Found Refusal} {old now : View} {before after : Told} (clock : Moment) (o : Opening) (refusal : Refusal)
+pub admin_refused : {size : Option ℕ} {found : Result Found Refusal} {old now : View} {before after : Told} (asked : Option Asked) (clock : Moment) (o : Opening) (refusal : Refusal)
     → ((d : Draws) → before.draws ≡ Some d → clock ≡ moment_in d)
-    → admin_opens size found before.draws o → Answers found size clock (Err (stop.Refused refusal)) old now
+    → opens_for size asked found before.draws o → Answers found size clock (Err (stop.Refused refusal)) old now
     → after.taken ≡ after_told before.taken (refusal_line refusal) → after.draws ≡ behind AMoment before.draws
     → HasRun o old now before after (Ok true)
-admin_refused {old = old} {now = now} {before = before} {after = after} clock (Refuses why drawn) refusal gave opens answers said_it draws =
+admin_refused {old = old} {now = now} {before = before} {after = after} asked clock (Refuses why drawn) refusal gave opens answers said_it draws =
     let cause : OpeningRefused _ _ clock why = opens.1 clock in
     let same : refusal ≡ why = answers.only_refused why cause in
     refused_run why drawn
     (said_it ∙ ap (λ (r : Refusal). after_told before.taken (refusal_line r)) same)
     (draws ∙ ap (λ (d : Drawn). behind d before.draws) (sym opens.0))
     (subst (λ (d : Drawn). IsSame d old now) (sym opens.0) (answers.refusals why cause))
-admin_refused clock (Opens begin made at) refusal gave opens answers said_it draws =
-    absurd (open_having clock (Err (stop.Refused refusal)) opens (gave opens.told opens.draws_are) answers)
-admin_refused clock (Makes spec) refusal gave opens answers said_it draws = absurd opens
-admin_refused clock Ends refusal gave opens answers said_it draws = absurd opens
+admin_refused asked clock (Opens begin made at its) refusal gave opens answers said_it draws =
+    absurd (open_having clock (Err (stop.Refused refusal)) opens.0 (gave opens.0.told opens.0.draws_are) answers)
+admin_refused asked clock (Tells text) refusal gave opens answers said_it draws = absurd opens
+admin_refused asked clock (Makes spec) refusal gave opens answers said_it draws = absurd opens
+admin_refused asked clock Ends refusal gave opens answers said_it draws = absurd opens
 
 -- of which not all was written
-pub admin_cut : {size : Option ℕ} {found : Result Found Refusal} {old now : View} {before after : Told} (clock : Moment) (o : Opening) (refusal : Refusal) (halt : SessionHalt)
+pub admin_cut : {size : Option ℕ} {found : Result Found Refusal} {old now : View} {before after : Told} (asked : Option Asked) (clock : Moment) (o : Opening) (refusal : Refusal) (halt : SessionHalt)
     → ((d : Draws) → before.draws ≡ Some d → clock ≡ moment_in d)
-    → admin_opens size found before.draws o → Answers found size clock (Err (stop.Refused refusal)) old now
+    → opens_for size asked found before.draws o → Answers found size clock (Err (stop.Refused refusal)) old now
     → SaidPart (refusal_line refusal) before.taken after.taken
     → (SparesOutput halt → after.taken ≡ before.taken)
     → HasRun o old now before after (Err halt)
-admin_cut {old = old} {now = now} {before = before} {after = after} clock (Refuses why drawn) refusal halt gave opens answers part nothing =
+admin_cut {old = old} {now = now} {before = before} {after = after} asked clock (Refuses why drawn) refusal halt gave opens answers part nothing =
     let cause : OpeningRefused _ _ clock why = opens.1 clock in
     let same : refusal ≡ why = answers.only_refused why cause in
     cut_refusal_run why drawn halt
     (subst (λ (r : Refusal). SaidPart (refusal_line r) before.taken after.taken) same part)
     (subst (λ (d : Drawn). IsSame d old now) (sym opens.0) (answers.refusals why cause))
     nothing
-admin_cut clock (Opens begin made at) refusal halt gave opens answers part nothing =
-    absurd (open_having clock (Err (stop.Refused refusal)) opens (gave opens.told opens.draws_are) answers)
-admin_cut clock (Makes spec) refusal halt gave opens answers part nothing = absurd opens
-admin_cut clock Ends refusal halt gave opens answers part nothing = absurd opens
+admin_cut asked clock (Opens begin made at its) refusal halt gave opens answers part nothing =
+    absurd (open_having clock (Err (stop.Refused refusal)) opens.0 (gave opens.0.told opens.0.draws_are) answers)
+admin_cut asked clock (Tells text) refusal halt gave opens answers part nothing = absurd opens
+admin_cut asked clock (Makes spec) refusal halt gave opens answers part nothing = absurd opens
+admin_cut asked clock Ends refusal halt gave opens answers part nothing = absurd opens
 
 -- it was stopped
-pub admin_halted : {size : Option ℕ} {found : Result Found Refusal} {old now : View} {before after : Told} (clock : Moment) (o : Opening) (answer : Result Opened Stop) (halt : SessionHalt)
+pub admin_halted : {size : Option ℕ} {found : Result Found Refusal} {old now : View} {before after : Told} (asked : Option Asked) (clock : Moment) (o : Opening) (answer : Result Opened Stop) (halt : SessionHalt)
     → ((d : Draws) → before.draws ≡ Some d → clock ≡ moment_in d)
-    → admin_opens size found before.draws o → Answers found size clock answer old now
+    → opens_for size asked found before.draws o → Answers found size clock answer old now
     → after.taken ≡ before.taken
     → HasRun o old now before after (Err halt)
-admin_halted {old = old} {now = now} {before = before} {after = after} clock (Refuses why drawn) answer halt gave opens answers nothing =
+admin_halted {old = old} {now = now} {before = before} {after = after} asked clock (Refuses why drawn) answer halt gave opens answers nothing =
     let cause : OpeningRefused _ _ clock why = opens.1 clock in
     cut_refusal_run why drawn halt (said_nothing (refusal_line why) before.taken after.taken nothing)
     (subst (λ (d : Drawn). IsSame d old now) (sym opens.0) (answers.refusals why cause))
     (λ _. nothing)
-admin_halted clock (Opens begin made at) answer halt gave opens answers nothing =
-    unopened_run begin made at halt (opening_part clock opens (gave opens.told opens.draws_are) answers.moments) nothing
-admin_halted clock (Makes spec) answer halt gave opens answers nothing = absurd opens
-admin_halted clock Ends answer halt gave opens answers nothing = absurd opens
+admin_halted asked clock (Opens begin made at its) answer halt gave opens answers nothing =
+    unopened_run begin made at its halt (opening_part clock opens.0 (gave opens.0.told opens.0.draws_are) answers.moments) nothing
+admin_halted asked clock (Tells text) answer halt gave opens answers nothing = absurd opens
+admin_halted asked clock (Makes spec) answer halt gave opens answers nothing = absurd opens
+admin_halted asked clock Ends answer halt gave opens answers nothing = absurd opens
 
 -- ---- what was read of the input
 
--- what opens is read, and what is read opens
-pub opened_reads : {size : Option ℕ} {found : Result Found Refusal} {old mid : View} (draws : Option Draws) (clock : Moment) (o : Opening) (primary : Opened)
-    → admin_opens size found draws o → Answers found size clock (Ok primary) old mid → ReadsInput o
-opened_reads draws clock (Refuses why drawn) primary opens answers = absurd (answers.only_refused why (opens.1 clock))
-opened_reads draws clock (Opens begin made at) primary opens answers = tt
-opened_reads draws clock (Makes spec) primary opens answers = absurd opens
-opened_reads draws clock Ends primary opens answers = absurd opens
+-- what opens for the input is read
+pub opened_reads : {size : Option ℕ} {found : Result Found Refusal} {old mid : View} (asked : Option Asked) (draws : Option Draws) (clock : Moment) (o : Opening) (primary : Opened)
+    → opens_for size asked found draws o → Answers found size clock (Ok primary) old mid → IsInput asked → ReadsInput o
+opened_reads asked draws clock (Refuses why drawn) primary opens answers input = absurd (answers.only_refused why (opens.1 clock))
+opened_reads asked draws clock (Opens begin made at its) primary opens answers input = subst IsInput (sym opens.1) input
+opened_reads asked draws clock (Tells text) primary opens answers input = absurd opens
+opened_reads asked draws clock (Makes spec) primary opens answers input = absurd opens
+opened_reads asked draws clock Ends primary opens answers input = absurd opens
 
 -- ---- by the words
 
-pub for_admin : (files : Files) (draws : Option Draws) (o : Opening) (words : Result Words Refusal) (size : Option ℕ) → words ≡ Ok (Admin size) → IsOpening words files draws o → admin_opens size (found_in files) draws o
+pub for_admin : (files : Files) (draws : Option Draws) (o : Opening) (words : Result Words Refusal) (size : Option ℕ) → words ≡ Ok (Admin size) → IsOpening words files draws o → opens_for size None (found_in files) draws o
 unfolding IsOpening
 for_admin files draws o words size is opening = subst (λ (w : Result Words Refusal). IsOpening w files draws o) is opening
+
+pub for_line : (files : Files) (draws : Option Draws) (o : Opening) (words : Result Words Refusal) (command : Command) → words ≡ Ok (Line command) → IsOpening words files draws o → opens_for None (Some (Does command)) (found_in files) draws o
+unfolding IsOpening
+for_line files draws o words command is opening = subst (λ (w : Result Words Refusal). IsOpening w files draws o) is opening
 
 pub for_create : (files : Files) (draws : Option Draws) (o : Opening) (words : Result Words Refusal) (spec : SpecParts) → words ≡ Ok (Create spec) → IsOpening words files draws o → o ≡ create_of spec (in_force (files 0))
 unfolding IsOpening
@@ -201,27 +215,30 @@ refused_always (Ok f) size clock other why (inr late) = inr (record {
 })
 
 -- one that was refused
-pub refused_opening : (size : Option ℕ) (found : Result Found Refusal) (draws : Option Draws) (clock : Moment) (why : Refusal) → OpeningRefused found size clock why → HasAdminOpening size found draws
-refused_opening size found draws clock why refused = record { opening = Refuses why AMoment; is = (refl, λ other. refused_always found size clock other why refused) }
+pub refused_opening : (size : Option ℕ) (asked : Option Asked) (found : Result Found Refusal) (draws : Option Draws) (clock : Moment) (why : Refusal) → OpeningRefused found size clock why → HasOpeningFor size asked found draws
+refused_opening size asked found draws clock why refused = record { opening = Refuses why AMoment; is = (refl, λ other. refused_always found size clock other why refused) }
 
 -- one that went well
-pub good_opening : (size : Option ℕ) (found : Result Found Refusal) (draws : Draws) (clock : Moment) (o : Opened) → clock ≡ moment_in draws → OpensTo found size clock o → IsOpened o → HasAdminOpening size found (Some draws)
-good_opening size found draws clock o is to opened = record {
-  opening = Opens (place_found to.found_is) (places (resized size (moment_in draws) (place_found to.found_is))) (seen (place_of o) opened.state);
-  is = record {
-    told = draws;
-    draws_are = refl;
-    files = to.found_is;
-    found_is = to.is;
-    masters = o.masters;
-    opens = to.opens;
-    begin_is = refl;
-    made_are = refl;
-    left = subst (λ (m : Moment). resized size m (place_found to.found_is) ≢ [] → HasTimeLeft (place_found to.found_is)) is to.left;
-    place_is = to.place_is ∙ ap (λ (m : Moment). end_of (place_found to.found_is) (places (resized size m (place_found to.found_is)))) is;
-    shows = opened.has.shows;
-    masters_are = opened.has.masters_are;
-  };
+pub good_opening : (size : Option ℕ) (asked : Option Asked) (found : Result Found Refusal) (draws : Draws) (clock : Moment) (o : Opened) → clock ≡ moment_in draws → OpensTo found size clock o → IsOpened o → HasOpeningFor size asked found (Some draws)
+good_opening size asked found draws clock o is to opened = record {
+  opening = Opens (place_found to.found_is) (places (resized size (moment_in draws) (place_found to.found_is))) (seen (place_of o) opened.state) asked;
+  is = (
+    record {
+      told = draws;
+      draws_are = refl;
+      files = to.found_is;
+      found_is = to.is;
+      masters = o.masters;
+      opens = to.opens;
+      begin_is = refl;
+      made_are = refl;
+      left = subst (λ (m : Moment). resized size m (place_found to.found_is) ≢ [] → HasTimeLeft (place_found to.found_is)) is to.left;
+      place_is = to.place_is ∙ ap (λ (m : Moment). end_of (place_found to.found_is) (places (resized size m (place_found to.found_is)))) is;
+      shows = opened.has.shows;
+      masters_are = opened.has.masters_are;
+    },
+    refl,
+  );
 }
 
 pub any_ok : {T E : Type 0} (r : Result T E) (P : Type 0) → P → OnOk r P
@@ -229,9 +246,13 @@ any_ok (Ok x) P p = p
 any_ok (Err e) P p = tt
 
 -- by the words
-pub admin_has : (files : Files) (draws : Option Draws) (words : Result Words Refusal) (size : Option ℕ) → words ≡ Ok (Admin size) → HasAdminOpening size (found_in files) draws → HasOpening words files draws
+pub admin_has : (files : Files) (draws : Option Draws) (words : Result Words Refusal) (size : Option ℕ) → words ≡ Ok (Admin size) → HasOpeningFor size None (found_in files) draws → HasOpening words files draws
 unfolding IsOpening
 admin_has files draws words size is has = subst (λ (w : Result Words Refusal). HasOpening w files draws) (sym is) (record { opening = has.opening; is = has.is })
+
+pub line_has : (files : Files) (draws : Option Draws) (words : Result Words Refusal) (command : Command) → words ≡ Ok (Line command) → HasOpeningFor None (Some (Does command)) (found_in files) draws → HasOpening words files draws
+unfolding IsOpening
+line_has files draws words command is has = subst (λ (w : Result Words Refusal). HasOpening w files draws) (sym is) (record { opening = has.opening; is = has.is })
 
 pub create_has : (files : Files) (draws : Option Draws) (words : Result Words Refusal) (spec : SpecParts) → words ≡ Ok (Create spec) → HasOpening words files draws
 unfolding IsOpening

@@ -7,8 +7,9 @@ use Rattle.kadm_session.specs.Courses.{Ending, ending}
 use Rattle.kadm_session.specs.Draws.{Draws}
 use Rattle.kadm_session.specs.Halts.{disk_as_session}
 use Rattle.kadm_session.specs.declared.halts.SessionHalt.{SessionHalt}
+use Rattle.kadm_session.specs.declared.intake.Asked.{Asked}
 use Rattle.kadm_session.specs.declared.halts.SessionHalt.TheVariants as session
-use Rattle.kadm_top.specs.Openings.{AMoment, ABlock, Drawn, Ends, Makes, NoDraw, Opening, Opens, Refuses, behind}
+use Rattle.kadm_top.specs.Openings.{AMoment, ABlock, Drawn, Ends, IsInput, Makes, NoDraw, Opening, Opens, Refuses, Tells, behind}
 use Rattle.kadm_top.specs.Reads.{IsReadWhole}
 use Rattle.kadm_top.specs.Run.{HasCourse, HasRun, IfTold, IsSame, LeavesAll, MakesStop, OpensPart, RunEnd, RunEndsAs, RunLeaves, RunRests, RunStops, Told, SparesOutput, course_behind, end_opened, place_made, refusal_line}
 use Rattle.kadm_top.specs.Statuses.{IsSayHalt}
@@ -105,19 +106,22 @@ made_like spec (Some draws) c like = inl like
 
 idle_stops : {old now : View} (before : Told) (o : Opening) (out : Option (List ℕ)) → Keeps old now → out ≡ before.taken → RunStops o old before out now
 idle_stops {old} {now} before (Refuses why drawn) out keeps is = (said_nothing (refusal_line why) before.taken out is, keeps_same drawn keeps)
-idle_stops before (Opens begin made at) out keeps is = inr (is, all_at_end (weaken (keeps_like keeps) (λ c like. inl like)))
+idle_stops before (Opens begin made at asked) out keeps is = inr (is, all_at_end (weaken (keeps_like keeps) (λ c like. inl like)))
+idle_stops {old} {now} before (Tells text) out keeps is = (said_nothing text before.taken out is, keeps_like keeps)
 idle_stops {old} {now} before (Makes spec) out keeps is = made_idle spec before.draws before.taken out keeps is
 idle_stops before Ends out keeps is = inl (is, all_at_end (weaken (keeps_like keeps) (λ c like. inl like)))
 
 idle_rests : {old now : View} (before : Told) (o : Opening) (out : Option (List ℕ)) → Keeps old now → out ≡ before.taken → RunRests o old before out now
 idle_rests before (Refuses why drawn) out keeps is = (is, keeps_same drawn keeps)
-idle_rests before (Opens begin made at) out keeps is = inr (is, all_at_end (weaken (keeps_like keeps) (λ c like. inl like)))
+idle_rests before (Opens begin made at asked) out keeps is = inr (is, all_at_end (weaken (keeps_like keeps) (λ c like. inl like)))
+idle_rests before (Tells text) out keeps is = (said_nothing text before.taken out is, keeps_like keeps)
 idle_rests before (Makes spec) out keeps is = (is, keeps)
 idle_rests before Ends out keeps is = (is, keeps)
 
 idle_leaves : {old now : View} (before : Told) (o : Opening) → Keeps old now → LeavesOnly old now (RunLeaves o old before)
 idle_leaves before (Refuses why drawn) keeps = keeps_like keeps
-idle_leaves before (Opens begin made at) keeps = weaken (keeps_like keeps) (λ c like. inl (inl like))
+idle_leaves before (Opens begin made at asked) keeps = weaken (keeps_like keeps) (λ c like. inl (inl like))
+idle_leaves before (Tells text) keeps = keeps_like keeps
 idle_leaves before (Makes spec) keeps = weaken (keeps_like keeps) (λ c like. made_like spec before.draws c like)
 idle_leaves before Ends keeps = weaken (keeps_like keeps) (λ c like. inl like)
 
@@ -133,9 +137,9 @@ idle_run {old} {now} {before} {after} o halt keeps is = record {
 -- ---- a database that was opened
 
 -- the opening was stopped
-pub unopened_run : {old now : View} {before after : Told} (begin : Place) (made : List Place) (at : Seen) (halt : SessionHalt)
-    → LeavesOnly old now (OpensPart old begin made) → after.taken ≡ before.taken → HasRun (Opens begin made at) old now before after (Err halt)
-unopened_run begin made at halt run is = record {
+pub unopened_run : {old now : View} {before after : Told} (begin : Place) (made : List Place) (at : Seen) (asked : Option Asked) (halt : SessionHalt)
+    → LeavesOnly old now (OpensPart old begin made) → after.taken ≡ before.taken → HasRun (Opens begin made at asked) old now before after (Err halt)
+unopened_run begin made at asked halt run is = record {
   ended = λ end e. tt;
   stopped = inr (is, all_at_end run);
   rests = λ at_rest. inr (is, all_at_end run);
@@ -161,17 +165,17 @@ rests_over P Q (Ok refused) rests = tt
 rests_over P Q (Err halt) rests = λ spares. inl (rests spares)
 
 -- its input went its course
-pub opened_run : {old mid now : View} {before after : Told} {result : Result Bool SessionHalt} (begin : Place) (made : List Place) (at : Seen)
+pub opened_run : {old mid now : View} {before after : Told} {result : Result Bool SessionHalt} (begin : Place) (made : List Place) (at : Seen) (asked : Option Asked)
     → LeavesOnly old mid (OpensPart old begin made)
-    → HasCourse (course_behind before at) mid now after result
-    → OnOk result (IsReadWhole before.left after.left)
-    → HasRun (Opens begin made at) old now before after result
-opened_run {old} {mid} {now} {before} {after} {result} begin made at opening course whole = record {
-  ended = λ end e. by (ending (course_behind before at)) course.ended end e;
+    → HasCourse (course_behind asked before at) mid now after result
+    → (IsInput asked → OnOk result (IsReadWhole before.left after.left))
+    → HasRun (Opens begin made at asked) old now before after result
+opened_run {old} {mid} {now} {before} {after} {result} begin made at asked opening course whole = record {
+  ended = λ end e. by (ending (course_behind asked before at)) course.ended end e;
   stopped = stopped_over _ _ result course.stopped;
   rests = rests_over _ _ result course.rests;
   moments = then_on (weaken opening (λ c part. inl part)) course.moments (λ c leaves. inr leaves);
-  read = λ reads. whole;
+  read = λ reads. whole reads;
 }
   where
     by : (o : Option Ending) → ((x : Ending) → o ≡ Some x → IfOk result (λ refused. RunEndsAs after.taken refused after.draws mid now (end_opened x))) → (end : RunEnd) → option_map end_opened o ≡ Some end

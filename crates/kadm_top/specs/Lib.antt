@@ -1,4 +1,5 @@
 pub mod Words
+pub mod Accounts
 pub mod Openings
 pub mod Reads
 pub mod Run

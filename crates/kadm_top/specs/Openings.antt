@@ -1,10 +1,13 @@
 -- What a run begins with, by its words, by what the files stand for, and by what the clock and the source of random bytes will give.
-use Rattle.std.specs.Prelude.{ℕ, ◌≡◌, ◌≢◌, List, [], Option, Some, Result, Ok, Err, option_map}
+use Rattle.std.specs.Prelude.{ℕ, ◌≡◌, ◌≢◌, List, [], Option, Some, None, Result, Ok, Err, option_map}
 use Rattle.first_rows.specs.Parts.{SpecParts}
 use Rattle.iprop_truths.specs.Parts.{end_of}
 use Rattle.kadm_session.specs.Draws.{Draws, behind_command, behind_moment, moment_in}
+use Rattle.kadm_session.specs.declared.intake.Asked.{Asked}
+use Rattle.kadm_session.specs.declared.intake.Asked.TheVariants.{Does}
+use Rattle.kadm_top.specs.Accounts.{account_text}
 use Rattle.kadm_top.specs.declared.words.Words.{Words}
-use Rattle.kadm_top.specs.declared.words.Words.TheVariants.{Admin, Create, Destroy}
+use Rattle.kadm_top.specs.declared.words.Words.TheVariants.{Admin, Create, Destroy, Line, Tell}
 use Rattle.kdb_base.specs.Moment.{Moment}
 use Rattle.kdb_base.specs.declared.outcomes.Refusal.{Refusal}
 use Rattle.kdb_base.specs.declared.outcomes.Refusal.TheVariants.{NotADatabase, AlreadyThere, Damaged}
@@ -18,7 +21,7 @@ use Rattle.kdb_histories.specs.Seen.{Seen}
 use Rattle.kdb_histories.specs.Stages.{ShowsAt, places}
 use Rattle.kdb_places.specs.Places.{Place}
 use Rattle.primary_core.specs.Opening.{OpeningRefused, OpensWith, place_found}
-use Rattle.store_files.specs.Found.{Found, found_in}
+use Rattle.store_files.specs.Found.{Found, found_in, recovers}
 
 -- ---- what was taken of the clock and of the random bytes
 
@@ -35,11 +38,13 @@ behind ABlock told = option_map behind_command told
 
 -- ---- openings
 
--- A refusal, and what was taken before it. A database whose input is to be answered: the place that its files stand for, the places that its
--- opening makes (a log begun anew, or none), and where it then is. A database that is to be made, or one that is to be ended.
+-- A refusal, and what was taken before it. A database that is to be asked: the place that its files stand for, the places that its opening makes
+-- (a log begun anew, or none), where it then is, and what alone it is asked, or none where that is the input. A database of which this text is
+-- to be told. One that is to be made, or one that is to be ended.
 pub data Opening : Type 0 where
   Refuses : (why : Refusal) (drawn : Drawn) → Opening
-  Opens : (begin : Place) (made : List Place) (at : Seen) → Opening
+  Opens : (begin : Place) (made : List Place) (at : Seen) (asked : Option Asked) → Opening
+  Tells : (text : List ℕ) → Opening
   Makes : (spec : SpecParts) → Opening
   Ends : Opening
 
@@ -58,12 +63,18 @@ pub record IsOpen (size : Option ℕ) (found : Result Found Refusal) (draws : Op
   pub shows : ShowsAt at.place at.state
   pub masters_are : at.state.masters ≡ masters
 
--- it is refused at whatever moment, or opens
-abbrev pub admin_opens : Option ℕ → Result Found Refusal → Option Draws → Opening → Type 0
-admin_opens size found draws (Refuses why drawn) = (drawn ≡ AMoment) × ((clock : Moment) → OpeningRefused found size clock why)
-admin_opens size found draws (Opens begin made at) = IsOpen size found draws begin made at
-admin_opens size found draws (Makes spec) = ⊥
-admin_opens size found draws Ends = ⊥
+-- it is refused at whatever moment, or opens to be asked this
+abbrev pub opens_for : Option ℕ → Option Asked → Result Found Refusal → Option Draws → Opening → Type 0
+opens_for size asked found draws (Refuses why drawn) = (drawn ≡ AMoment) × ((clock : Moment) → OpeningRefused found size clock why)
+opens_for size asked found draws (Opens begin made at its) = IsOpen size found draws begin made at × (its ≡ asked)
+opens_for size asked found draws (Tells text) = ⊥
+opens_for size asked found draws (Makes spec) = ⊥
+opens_for size asked found draws Ends = ⊥
+
+-- what the files stand for is told, whatever its format, and without its stash
+abbrev pub tells_of : (Place → List ℕ) → Result Place Refusal → Opening
+tells_of text (Err why) = Refuses why AMoment
+tells_of text (Ok p) = Tells (text p)
 
 abbrev pub create_of : SpecParts → Force → Opening
 create_of spec Nothing = Makes spec
@@ -78,7 +89,9 @@ destroy_of (Broken place) = Refuses (Damaged 0 place) NoDraw
 -- the words are judged first, and then the files
 unfoldable pub IsOpening : Result Words Refusal → Files → Option Draws → Opening → Type 0
 IsOpening (Err refusal) files draws o = o ≡ Refuses refusal NoDraw
-IsOpening (Ok (Admin size)) files draws o = admin_opens size (found_in files) draws o
+IsOpening (Ok (Admin size)) files draws o = opens_for size None (found_in files) draws o
+IsOpening (Ok (Line command)) files draws o = opens_for None (Some (Does command)) (found_in files) draws o
+IsOpening (Ok (Tell account)) files draws o = o ≡ tells_of (account_text account) (recovers files)
 IsOpening (Ok (Create spec)) files draws o = o ≡ create_of spec (in_force (files 0))
 IsOpening (Ok Destroy) files draws o = o ≡ destroy_of (in_force (files 0))
 
@@ -87,13 +100,18 @@ pub record HasOpening (words : Result Words Refusal) (files : Files) (draws : Op
   pub opening : Opening
   pub is : IsOpening words files draws opening
 
-pub record HasAdminOpening (size : Option ℕ) (found : Result Found Refusal) (draws : Option Draws) : Type 0 where
+pub record HasOpeningFor (size : Option ℕ) (asked : Option Asked) (found : Result Found Refusal) (draws : Option Draws) : Type 0 where
   pub opening : Opening
-  pub is : admin_opens size found draws opening
+  pub is : opens_for size asked found draws opening
+
+abbrev pub IsInput : Option Asked → Type 0
+IsInput None = Unit {0}
+IsInput (Some asked) = ⊥
 
 -- the input is read where a database is opened for it
 abbrev pub ReadsInput : Opening → Type 0
 ReadsInput (Refuses why drawn) = ⊥
-ReadsInput (Opens begin made at) = Unit {0}
+ReadsInput (Opens begin made at asked) = IsInput asked
+ReadsInput (Tells text) = ⊥
 ReadsInput (Makes spec) = ⊥
 ReadsInput Ends = ⊥

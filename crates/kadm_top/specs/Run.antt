@@ -1,5 +1,5 @@
 -- A whole run of the program, from its opening on: how it ends, where it may stop early, and what a crash may leave.
-use Rattle.std.specs.Prelude.{ℕ, ◌≡◌, ◌⊎◌, Bool, true, false, List, codes, Option, Some, None, Result, IfErr, IfOk, OnErr, OnOk, option_map, ⊤}
+use Rattle.std.specs.Prelude.{ℕ, ◌≡◌, ◌≤◌, ◌⊎◌, Bool, true, false, List, [], ◌∷◌, codes, Option, Some, None, Result, IfErr, IfOk, OnErr, OnOk, option_map, ⊤}
 use Rattle.first_rows.specs.Creation.{first_point}
 use Rattle.first_rows.specs.Parts.{SpecParts}
 use Rattle.kadm_commands.specs.declared.replies.Reply.TheVariants.{Done, Refused}
@@ -11,7 +11,7 @@ use Rattle.kadm_session.specs.Input.{commands_in}
 use Rattle.kadm_session.specs.declared.intake.Asked.{Asked}
 use Rattle.kadm_session.specs.declared.halts.SessionHalt.{SessionHalt}
 use Rattle.kadm_session.specs.declared.halts.SessionHalt.TheVariants.{WriteFault, DiskFault}
-use Rattle.kadm_top.specs.Openings.{AMoment, ABlock, Drawn, Ends, Makes, NoDraw, Opening, Opens, ReadsInput, Refuses, behind}
+use Rattle.kadm_top.specs.Openings.{AMoment, ABlock, Drawn, Ends, Makes, NoDraw, Opening, Opens, ReadsInput, Refuses, Tells, behind}
 use Rattle.kadm_top.specs.Reads.{IsReadWhole}
 use Rattle.kdb_base.specs.Moment.{Moment}
 use Rattle.kdb_base.specs.declared.outcomes.Refusal.{Refusal}
@@ -40,13 +40,18 @@ told taken left draws = record { taken = taken; left = left; draws = draws }
 abbrev pub input_commands : List ℕ → Option (List ℕ) → Option (List Asked)
 input_commands realm left = commands_in realm (option_map seen_lines left)
 
--- the course of the input from a place and the state that its rows show
-abbrev pub course_from : Told → Seen → Course
-course_from before at = course before.taken false (input_commands at.place.realm before.left) before.draws at
+-- what the database is asked: this alone, or what the lines of the input ask for
+abbrev pub commands_for : Option Asked → List ℕ → Option (List ℕ) → Option (List Asked)
+commands_for None realm left = input_commands realm left
+commands_for (Some asked) realm left = Some (asked ∷ [])
+
+-- the course of that from a place and the state that its rows show
+abbrev pub course_from : Option Asked → Told → Seen → Course
+course_from asked before at = course before.taken false (commands_for asked at.place.realm before.left) before.draws at
 
 -- the same behind an opening, which takes a moment
-abbrev pub course_behind : Told → Seen → Course
-course_behind before at = course_from (told before.taken before.left (behind AMoment before.draws)) at
+abbrev pub course_behind : Option Asked → Told → Seen → Course
+course_behind asked before at = course_from asked (told before.taken before.left (behind AMoment before.draws)) at
 
 -- ---- what is written
 
@@ -81,19 +86,24 @@ IsSame AMoment old now = LeavesOnly old now (IsLike old)
 IsSame NoDraw old now = Keeps old now
 IsSame ABlock old now = Keeps old now
 
+-- Whatever a crash leaves recovers to no database, and every file but the control file reads as empty.
+pub record IsErased (now : View) : Type 0 where
+  pub none : RecoversToNone now
+  pub empty : (file : ℕ) → 1 ≤ file → file ≤ 6 → now.seen file ≡ []
+
 -- what the disk then has
 pub data Standing : Type 0 where
   -- what it had
   Same : (drawn : Drawn) → Standing
   -- whatever a crash leaves recovers to this place
   At : (place : Place) → Standing
-  -- to no database
+  -- to no database, and nothing of one is left
   Gone : Standing
 
 abbrev pub Stands : Standing → View → View → Type 0
 Stands (Same drawn) old now = IsSame drawn old now
 Stands (At place) old now = RecoversTo place now
-Stands Gone old now = RecoversToNone now
+Stands Gone old now = IsErased now
 
 -- the bytes in the sink, whether a refusal was written, the disk, and what the clock and the source of random bytes have left
 pub record RunEnd : Type 0 where
@@ -111,7 +121,8 @@ end_made spec taken draws = record { out = after_told taken (made_line draws); r
 -- as far as it is told
 abbrev pub run_end : Opening → Told → Option RunEnd
 run_end (Refuses why drawn) before = Some (record { out = after_told before.taken (refusal_line why); refused = true; disk = Same drawn; draws = behind drawn before.draws })
-run_end (Opens begin made at) before = option_map end_opened (ending (course_behind before at))
+run_end (Opens begin made at asked) before = option_map end_opened (ending (course_behind asked before at))
+run_end (Tells text) before = Some (record { out = after_told before.taken text; refused = false; disk = Same AMoment; draws = behind AMoment before.draws })
 run_end (Makes spec) before = option_map (end_made spec before.taken) before.draws
 run_end Ends before = Some (record { out = after_told before.taken ended_text; refused = false; disk = Gone; draws = before.draws })
 
@@ -142,12 +153,13 @@ MakesStop spec old taken draws out now =
 abbrev pub EndsStop : View → Option (List ℕ) → Option (List ℕ) → View → Type 0
 EndsStop old taken out now =
     ((out ≡ taken) × LeavesAll (Destroys old) now)
-    ⊎ (SaidPart ended_text taken out × RecoversToNone now)
+    ⊎ (SaidPart ended_text taken out × IsErased now)
 
 abbrev pub RunStops : Opening → View → Told → Option (List ℕ) → View → Type 0
 RunStops (Refuses why drawn) old before out now = SaidPart (refusal_line why) before.taken out × IsSame drawn old now
-RunStops (Opens begin made at) old before out now =
-    IsStopped (Stops (course_behind before at)) out now ⊎ ((out ≡ before.taken) × LeavesAll (OpensPart old begin made) now)
+RunStops (Opens begin made at asked) old before out now =
+    IsStopped (Stops (course_behind asked before at)) out now ⊎ ((out ≡ before.taken) × LeavesAll (OpensPart old begin made) now)
+RunStops (Tells text) old before out now = SaidPart text before.taken out × IsSame AMoment old now
 RunStops (Makes spec) old before out now = IfTold before.draws (λ draws. MakesStop spec old before.taken draws out now)
 RunStops Ends old before out now = EndsStop old before.taken out now
 
@@ -157,11 +169,13 @@ SparesOutput WriteFault = ⊥
 SparesOutput DiskFault = ⊥
 SparesOutput other = Unit {0}
 
--- There the first so many lines were done and are answered in full, or nothing was written, and no more was done than an opening does.
+-- There the first so many lines were done and are answered in full, or nothing was written, and no more was done than an opening does. Of a
+-- text that is told a front may have been written.
 abbrev pub RunRests : Opening → View → Told → Option (List ℕ) → View → Type 0
 RunRests (Refuses why drawn) old before out now = (out ≡ before.taken) × IsSame drawn old now
-RunRests (Opens begin made at) old before out now =
-    IsAtRest (course_behind before at) out now ⊎ ((out ≡ before.taken) × LeavesAll (OpensPart old begin made) now)
+RunRests (Opens begin made at asked) old before out now =
+    IsAtRest (course_behind asked before at) out now ⊎ ((out ≡ before.taken) × LeavesAll (OpensPart old begin made) now)
+RunRests (Tells text) old before out now = SaidPart text before.taken out × IsSame AMoment old now
 RunRests (Makes spec) old before out now = (out ≡ before.taken) × Keeps old now
 RunRests Ends old before out now = (out ≡ before.taken) × Keeps old now
 
@@ -170,7 +184,8 @@ RunRests Ends old before out now = (out ≡ before.taken) × Keeps old now
 -- what an image of before stood for, a place of the opening or of the input's course, or nothing while a database is made or once its end has begun
 abbrev pub RunLeaves : Opening → View → Told → Files → Type 0
 RunLeaves (Refuses why drawn) old before c = IsLike old c
-RunLeaves (Opens begin made at) old before c = OpensPart old begin made c ⊎ Leaves (course_behind before at) c
+RunLeaves (Opens begin made at asked) old before c = OpensPart old begin made c ⊎ Leaves (course_behind asked before at) c
+RunLeaves (Tells text) old before c = IsLike old c
 RunLeaves (Makes spec) old before c = IfTold before.draws (λ draws. Creates old (place_made spec draws) c)
 RunLeaves Ends old before c = Destroys old c
 

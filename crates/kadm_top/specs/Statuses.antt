@@ -95,9 +95,10 @@ pub record IsRun (o : Opening) (old now : View) (before after : Told) (result : 
   -- leaves the last place, or all as it was where the opening was refused.
   pub ended : (end : RunEnd) → run_end o before ≡ Some end → OnEnd result (λ refused. RunEndsAs after.taken refused after.draws old now end)
   -- Where it stopped early: the bytes are a front of the replies, and a crash leaves the place after some of the lines, among them each of which
-  -- a byte was answered, or no more was done than an opening does.
+  -- a byte was answered, or one that the next line makes, or no more was done than an opening does.
   pub stopped : OnStop result (RunStops o old before after.taken now)
-  -- Where neither the sink nor the disk failed: the replies to these lines are written in full, and a crash leaves the place after them.
+  -- Where neither the sink nor the disk failed: the replies to so many lines are written in full, and a crash leaves the place after them, or of a
+  -- next line that rekeys many the place behind some of these.
   pub rests : OnRest result (RunRests o old before after.taken now)
   -- A crash at any moment of it leaves files like those that one would have left before it, or a place of the run, or no database while one is
   -- made or once its end has begun.

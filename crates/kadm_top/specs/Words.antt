@@ -1,5 +1,5 @@
 -- What the words of a run ask for.
-use Rattle.std.specs.Prelude.{ℕ, ◌≤◌, ◌&&◌, List, [], ◌∷◌, Bool, true, false, codes, Option, Some, None, Result, Ok, Err, IfSome, unwrap_or, if◌then◌else◌}
+use Rattle.std.specs.Prelude.{ℕ, ◌≤◌, ◌&&◌, ◌||◌, List, [], ◌∷◌, Bool, true, false, codes, Option, Some, None, Result, Ok, Err, IfSome, unwrap_or, if◌then◌else◌}
 use Rattle.std.specs.Option.{option_and_then}
 use Rattle.std.specs.Str.{bytes_eq}
 use Rattle.first_rows.specs.Parts.{SpecParts}
@@ -11,9 +11,15 @@ use Rattle.kadm_options.specs.declared.options.Opening.TheVariants as opening
 use Rattle.kadm_options.specs.declared.options.OptionName.TheVariants as option
 use Rattle.kadm_options.specs.declared.options.ValueKind.TheVariants.{Word, OneEtype, Number}
 use Rattle.kadm_top.specs.declared.alone.TheConstants.{USAGE, VERSION}
+use Rattle.kadm_top.specs.declared.words.Account.{Account}
+use Rattle.kadm_top.specs.declared.words.Account.TheVariants.{Dump}
 use Rattle.kadm_top.specs.declared.words.Words.{Words}
-use Rattle.kadm_top.specs.declared.words.Words.TheVariants.{Admin, Create, Destroy}
+use Rattle.kadm_top.specs.declared.words.Words.TheVariants.{Admin, Create, Destroy, Line, Tell}
 use Rattle.kadm_values.specs.EtypeWords.{etype_named}
+use Rattle.kadm_commands.specs.declared.commands.Command.{Command}
+use Rattle.kadm_commands.specs.declared.commands.Command.TheVariants as command
+use Rattle.kadm_session.specs.Input.{IsLineCommand}
+use Rattle.kadm_wire.specs.LineReadings.{words_answer}
 use Rattle.kdb_base.specs.declared.keys.Etype.{Etype}
 use Rattle.kdb_base.specs.declared.keys.Etype.TheVariants.{Aes256}
 use Rattle.kdb_base.specs.declared.outcomes.Field.{Field}
@@ -74,7 +80,7 @@ abbrev pub unless_bad : Option Field → Words → Result Words Refusal
 unless_bad None words = Ok words
 unless_bad (Some field) words = Err (BadValue field)
 
--- ---- the commands: `admin [-ulogsize N]`, `create REALM [-P PASS] [-e ETYPE] [-ulogsize N]` and `destroy [-f]`
+-- ---- the commands: `admin [-ulogsize N]`, `create REALM [-P PASS] [-e ETYPE] [-ulogsize N]`, `destroy [-f]`, `dump`, and the lines of master keys
 
 abbrev pub admin_by : Option (List Given) → Result Words Refusal
 admin_by None = Err BadLine
@@ -90,25 +96,54 @@ abbrev pub create_in : List (List ℕ) → Result Words Refusal
 create_in [] = Err BadLine
 create_in (realm ∷ words) = create_by realm (options_alone create_options words)
 
+abbrev pub tell_by : Account → Option (List Given) → Result Words Refusal
+tell_by account None = Err BadLine
+tell_by account (Some options) = Ok (Tell account)
+
 abbrev pub destroy_by : Option (List Given) → Result Words Refusal
 destroy_by None = Err BadLine
 destroy_by (Some options) = Ok Destroy
+
+-- the first word of a line that may stand in place of the input
+unfoldable pub is_line_word : List ℕ → Bool
+is_line_word word =
+    bytes_eq word (codes "add_mkey") || bytes_eq word (codes "use_mkey") || bytes_eq word (codes "list_mkeys")
+    || bytes_eq word (codes "purge_mkeys") || bytes_eq word (codes "stash")
+
+-- these commands name no realm
+abbrev pub is_line : Command → Bool
+is_line (command.AddMaster etype) = true
+is_line (command.UseMaster c) = true
+is_line command.ListMasters = true
+is_line command.PurgeMasters = true
+is_line command.Stash = true
+is_line other = false
+
+abbrev pub line_with : Command → Result Words Refusal
+line_with command = if is_line command then Ok (Line command) else Err BadLine
+
+abbrev pub line_by : Result (Option Command) Refusal → Result Words Refusal
+line_by (Ok (Some command)) = line_with command
+line_by (Ok None) = Err BadLine
+line_by (Err refusal) = Err refusal
 
 abbrev pub words_behind : List ℕ → List (List ℕ) → Result Words Refusal
 words_behind word words =
     if bytes_eq word (codes "admin") then admin_by (options_alone admin_options words)
     else if bytes_eq word (codes "create") then create_in words
+    else if bytes_eq word (codes "dump") then tell_by Dump (options_alone [] words)
     else if bytes_eq word (codes "destroy") then destroy_by (options_alone destroy_options words)
     else Err BadLine
 
 -- what the words ask for, or why they are refused: they are not of the grammar, or a value is bad
 unfoldable pub words_in : List (List ℕ) → Result Words Refusal
 words_in [] = Err BadLine
-words_in (word ∷ words) = words_behind word words
+words_in (word ∷ words) = if is_line_word word then line_by (words_answer [] (word ∷ words)) else words_behind word words
 
--- the size of a log is one that a log may have
+-- the size of a log is one that a log may have, and a line is one of any realm
 abbrev pub AreSized : Result Words Refusal → Type 0
 AreSized (Ok (Admin size)) = IfSome size (λ n. (2 ≤ n) × (n ≤ 10000))
+AreSized (Ok (Line command)) = (realm : List ℕ) → IsLineCommand realm command
 AreSized (Ok other) = Unit {0}
 AreSized (Err refusal) = Unit {0}
 

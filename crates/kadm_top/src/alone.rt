@@ -20,6 +20,12 @@ usage:
   kdb_tool admin [-ulogsize N] [--]
                                 answers the lines of standard input; a log that
                                 does not hold N entries is begun anew
+  kdb_tool add_mkey [-e ETYPE]  adds a master key, which is not active yet
+  kdb_tool use_mkey V [TIME]    makes version V active at TIME, else now
+  kdb_tool list_mkeys           lists the master keys
+  kdb_tool purge_mkeys [-f]     deletes the master keys that do not serve
+  kdb_tool stash                writes the stash anew with all master keys
+  kdb_tool dump [--]            writes the whole database as text
   kdb_tool destroy [-f] [--]    ends the database; -f has no effect
   kdb_tool --help               prints this
   kdb_tool --version            prints the version

@@ -1,6 +1,7 @@
 //! The program's one call: from the words, the input, the disk and the clock to the replies.
 #![tactic(auto)]
 
+mod accounting;
 pub mod alone;
 mod making;
 pub mod run;

@@ -1,25 +1,29 @@
 //! A whole run.
 
-ghost use Rattle.std.specs.Prelude.{◌≡◌, ◌≢◌, ◌≤◌, ◌⊎◌, true, false, ℕ, Option, Some, Ok, Err, map, IfSome, OnOk};
+ghost use Rattle.std.specs.Prelude.{◌≡◌, ◌≢◌, ◌≤◌, ◌⊎◌, true, false, ℕ, List, Option, Some, None, Ok, Err, map, IfErr, IfSome, OnOk};
 ghost use Rattle.kadm_session.specs.Draws.{Draws, told_draws};
-ghost use Rattle.kadm_top.specs.Openings.{HasAdminOpening, HasOpening, IsOpening, Opening, ReadsInput, admin_opens};
+ghost use Rattle.kadm_session.specs.Halts.{Counts, IsAnswerHalt};
+ghost use Rattle.kadm_session.specs.Input.{IsAsked};
+ghost use Rattle.kadm_top.specs.Openings.{HasOpening, HasOpeningFor, IsInput, IsOpening, Opening, ReadsInput, opens_for};
 ghost use Rattle.kadm_top.specs.Reads.{InputIsRead, IsReadWhole, WereTaken, fresh};
 ghost use Rattle.kadm_top.specs.Run.{HasCourse, HasRun, course_from, told};
 ghost use Rattle.kadm_top.specs.Statuses.{HasCauses, IsRun, OnEnd, StatusHasCauses, faults};
 ghost use Rattle.kadm_top.specs.Words.{AreSized, words_in};
 ghost use Rattle.kadm_top.specs.declared.words.Words.TheVariants.{Admin};
 ghost use Rattle.kdb_base.specs.declared.outcomes.Refusal.{Refusal as WhyNot};
+ghost use Rattle.kdb_disk.specs.Frames.{IsCall};
 ghost use Rattle.kdb_histories.specs.Seen.{seen};
 ghost use Rattle.kdb_plain.specs.declared.states.State.{State};
 ghost use Rattle.primary_core.specs.Opened.{HasState, IsOpened, place_of};
 ghost use Rattle.store_files.specs.Found.{found_in};
 ghost use Rattle.store_files.specs.Kept.{IsOnDisk};
 
+use crate::accounting::tell;
 use crate::making::{create, end, refuse};
 use crate::statuses::status_after;
 use crate::words::{Words, read_words};
 use kadm_lines::LineReader;
-use kadm_session::{SessionHalt, serve};
+use kadm_session::{Asked, SessionHalt, serve, serve_one};
 use kdb_base::{Refusal, Status, Stop};
 use kdb_disk::Disk;
 use kdb_ports::{Clock, Entropy, Sink, Source};
@@ -31,7 +35,7 @@ use store_files::laws::what_is_kept_is_recovered;
 const DUMPS: u32 = 1;
 
 /// Answers the input over a database that was opened.
-fn session<S: Source, K: Sink, D: Disk, C: Clock, E: Entropy>(
+fn answer_input<S: Source, K: Sink, D: Disk, C: Clock, E: Entropy>(
     alloc: Global,
     reader: &mut LineReader,
     opened: Primary,
@@ -45,7 +49,7 @@ fn session<S: Source, K: Sink, D: Disk, C: Clock, E: Entropy>(
     requires on { D.tells → IsOnDisk opened.kept (D.view disk.old) }
     requires whole { opened.kept.broken ≡ false }
     ensures course { D.tells → (s : State) → HasState opened s
-        → HasCourse (course_from (told (K.taken sink.old) (S.left source.old) (told_draws (C.moments clock.old) (E.stream entropy.old))) (seen (place_of opened) s)) (D.view disk.old) (D.view disk.new)
+        → HasCourse (course_from None (told (K.taken sink.old) (S.left source.old) (told_draws (C.moments clock.old) (E.stream entropy.old))) (seen (place_of opened) s)) (D.view disk.old) (D.view disk.new)
         (told (K.taken sink.new) (S.left source.new) (told_draws (C.moments clock.new) (E.stream entropy.new))) result }
     ensures opened { IsOpened opened }
     ensures read { OnOk result (IsReadWhole (S.left source.old) (S.left source.new)) }
@@ -68,11 +72,72 @@ fn session<S: Source, K: Sink, D: Disk, C: Clock, E: Entropy>(
     answered
 }
 
-/// Opens the database and answers the input over it.
+/// Answers one command over a database that was opened.
+fn answer_alone<K: Sink, D: Disk, C: Clock, E: Entropy>(
+    alloc: Global,
+    asked: &Asked,
+    opened: Primary,
+    sink: &mut K,
+    disk: &mut D,
+    clock: &mut C,
+    entropy: &mut E,
+) -> Result<bool, SessionHalt>
+    requires asked { IsAsked opened.kept.realm asked.now }
+    requires on { D.tells → IsOnDisk opened.kept (D.view disk.old) }
+    requires whole { opened.kept.broken ≡ false }
+    ensures course { D.tells → (left : Option (List ℕ)) (s : State) → HasState opened s
+        → HasCourse (course_from (Some asked.now) (told (K.taken sink.old) left (told_draws (C.moments clock.old) (E.stream entropy.old))) (seen (place_of opened) s)) (D.view disk.old) (D.view disk.new)
+        (told (K.taken sink.new) left (told_draws (C.moments clock.new) (E.stream entropy.new))) result }
+    ensures opened { IsOpened opened }
+    ensures halt { IfErr result IsAnswerHalt }
+    ensures call { IsCall D.Disk disk.old disk.new (result ≡ Err SessionHalt.DiskFault) }
+    ensures writes { Counts (K.faults sink.old) (K.faults sink.new) (result ≡ Err SessionHalt.WriteFault) }
+    ensures draws { Counts (E.faults entropy.old) (E.faults entropy.new) (result ≡ Err SessionHalt.DrawFault) }
+{
+    opened.holds_opened();
+    let mut primary = opened;
+    let answered = serve_one(alloc, &mut primary, disk, sink, clock, entropy, asked);
+    what_is_kept_is_recovered(disk);
+    answered
+}
+
+/// Answers the input over a database that was opened, or this command alone.
+fn session<S: Source, K: Sink, D: Disk, C: Clock, E: Entropy>(
+    alloc: Global,
+    reader: &mut LineReader,
+    asked: &Option<Asked>,
+    opened: Primary,
+    source: &mut S,
+    sink: &mut K,
+    disk: &mut D,
+    clock: &mut C,
+    entropy: &mut E,
+) -> Result<bool, SessionHalt>
+    requires front { reader.old ≡ fresh }
+    requires asked { IfSome asked.now (IsAsked opened.kept.realm) }
+    requires on { D.tells → IsOnDisk opened.kept (D.view disk.old) }
+    requires whole { opened.kept.broken ≡ false }
+    ensures course { D.tells → (s : State) → HasState opened s
+        → HasCourse (course_from asked.now (told (K.taken sink.old) (S.left source.old) (told_draws (C.moments clock.old) (E.stream entropy.old))) (seen (place_of opened) s)) (D.view disk.old) (D.view disk.new)
+        (told (K.taken sink.new) (S.left source.new) (told_draws (C.moments clock.new) (E.stream entropy.new))) result }
+    ensures opened { IsOpened opened }
+    ensures read { IsInput asked.now → OnOk result (IsReadWhole (S.left source.old) (S.left source.new)) }
+    ensures unread { (IsInput asked.now → ⊥) → source.new ≡ source.old }
+    ensures too_long { result ≡ Err SessionHalt.InputTooLong → WereTaken 4294967296 (S.left source.old) (S.left source.new) }
+    ensures causes { HasCauses (faults (S.faults source.old) (K.faults sink.old) (D.faults disk.old) (E.faults entropy.old)) (faults (S.faults source.new) (K.faults sink.new) (D.faults disk.new) (E.faults entropy.new)) result }
+{
+    match asked {
+        Some(asked) => answer_alone(alloc, asked, opened, sink, disk, clock, entropy),
+        None => answer_input(alloc, reader, opened, source, sink, disk, clock, entropy),
+    }
+}
+
+/// Opens the database and answers the input over it, or this command alone.
 fn open_and_answer<S: Source, K: Sink, D: Disk, C: Clock, E: Entropy>(
     alloc: Global,
     reader: &mut LineReader,
     size: Option<u32>,
+    asked: &Option<Asked>,
     source: &mut S,
     sink: &mut K,
     disk: &mut D,
@@ -81,22 +146,26 @@ fn open_and_answer<S: Source, K: Sink, D: Disk, C: Clock, E: Entropy>(
 ) -> Result<bool, SessionHalt>
     requires front { reader.old ≡ fresh }
     requires size { IfSome size (λ n. (2 ≤ n) × (n ≤ 10000)) }
+    requires asked { (realm : List ℕ) → IfSome asked.now (IsAsked realm) }
     ensures run { D.tells → (o : Opening)
-        → admin_opens size (found_in (D.view disk.old).seen) (told_draws (C.moments clock.old) (E.stream entropy.old)) o
+        → opens_for size asked.now (found_in (D.view disk.old).seen) (told_draws (C.moments clock.old) (E.stream entropy.old)) o
         → HasRun o (D.view disk.old) (D.view disk.new)
         (told (K.taken sink.old) (S.left source.old) (told_draws (C.moments clock.old) (E.stream entropy.old)))
         (told (K.taken sink.new) (S.left source.new) (told_draws (C.moments clock.new) (E.stream entropy.new))) result }
     ensures opening { D.tells → (draws : Draws) → told_draws (C.moments clock.old) (E.stream entropy.old) ≡ Some draws
-        → OnOk result (HasAdminOpening size (found_in (D.view disk.old).seen) (told_draws (C.moments clock.old) (E.stream entropy.old))) }
-    ensures input { InputIsRead S.left source.old source.new (result ≡ Ok false) (result ≡ Ok true) (result ≡ Err SessionHalt.InputTooLong) }
+        → OnOk result (HasOpeningFor size asked.now (found_in (D.view disk.old).seen) (told_draws (C.moments clock.old) (E.stream entropy.old))) }
+    ensures input { InputIsRead S.left source.old source.new (IsInput asked.now × (result ≡ Ok false)) (result ≡ Ok true) (result ≡ Err SessionHalt.InputTooLong) }
     ensures unread { D.tells → (o : Opening)
-        → admin_opens size (found_in (D.view disk.old).seen) (told_draws (C.moments clock.old) (E.stream entropy.old)) o
+        → opens_for size asked.now (found_in (D.view disk.old).seen) (told_draws (C.moments clock.old) (E.stream entropy.old)) o
         → (ReadsInput o → ⊥) → source.new ≡ source.old }
+    ensures alone { (IsInput asked.now → ⊥) → source.new ≡ source.old }
     ensures causes { HasCauses (faults (S.faults source.old) (K.faults sink.old) (D.faults disk.old) (E.faults entropy.old)) (faults (S.faults source.new) (K.faults sink.new) (D.faults disk.new) (E.faults entropy.new)) result }
 {
     let moment = clock.now();
     match Primary::recover(alloc, disk, size, DUMPS, moment) {
-        Ok(opened) => session(alloc, reader, opened, source, sink, disk, clock, entropy),
+        Ok(opened) => session(
+            alloc, reader, asked, opened, source, sink, disk, clock, entropy,
+        ),
         Err(Stop::Refused(refusal)) => match refuse(alloc, sink, refusal) {
             Ok(()) => Ok(true),
             Err(halt) => Err(halt),
@@ -105,35 +174,49 @@ fn open_and_answer<S: Source, K: Sink, D: Disk, C: Clock, E: Entropy>(
     }
 }
 
-/// Opens the database and answers the input over it. It answers whether a refusal was written.
-fn admin<S: Source, K: Sink, D: Disk, C: Clock, E: Entropy>(
+/// Opens the database and answers the input over it, or this command alone. It answers whether a refusal was
+/// written.
+fn ask<S: Source, K: Sink, D: Disk, C: Clock, E: Entropy>(
     alloc: Global,
     size: Option<u32>,
+    asked: &Option<Asked>,
     source: &mut S,
     sink: &mut K,
     disk: &mut D,
     clock: &mut C,
     entropy: &mut E,
 ) -> Result<bool, SessionHalt>
-    requires { IfSome size (λ n. (2 ≤ n) × (n ≤ 10000)) }
+    requires size { IfSome size (λ n. (2 ≤ n) × (n ≤ 10000)) }
+    requires asked { (realm : List ℕ) → IfSome asked.now (IsAsked realm) }
     ensures run { D.tells → (o : Opening)
-        → admin_opens size (found_in (D.view disk.old).seen) (told_draws (C.moments clock.old) (E.stream entropy.old)) o
+        → opens_for size asked.now (found_in (D.view disk.old).seen) (told_draws (C.moments clock.old) (E.stream entropy.old)) o
         → HasRun o (D.view disk.old) (D.view disk.new)
         (told (K.taken sink.old) (S.left source.old) (told_draws (C.moments clock.old) (E.stream entropy.old)))
         (told (K.taken sink.new) (S.left source.new) (told_draws (C.moments clock.new) (E.stream entropy.new))) result }
     ensures opening { D.tells → (draws : Draws) → told_draws (C.moments clock.old) (E.stream entropy.old) ≡ Some draws
-        → OnOk result (HasAdminOpening size (found_in (D.view disk.old).seen) (told_draws (C.moments clock.old) (E.stream entropy.old))) }
-    ensures input { InputIsRead S.left source.old source.new (result ≡ Ok false) (result ≡ Ok true) (result ≡ Err SessionHalt.InputTooLong) }
+        → OnOk result (HasOpeningFor size asked.now (found_in (D.view disk.old).seen) (told_draws (C.moments clock.old) (E.stream entropy.old))) }
+    ensures input { InputIsRead S.left source.old source.new (IsInput asked.now × (result ≡ Ok false)) (result ≡ Ok true) (result ≡ Err SessionHalt.InputTooLong) }
     ensures unread { D.tells → (o : Opening)
-        → admin_opens size (found_in (D.view disk.old).seen) (told_draws (C.moments clock.old) (E.stream entropy.old)) o
+        → opens_for size asked.now (found_in (D.view disk.old).seen) (told_draws (C.moments clock.old) (E.stream entropy.old)) o
         → (ReadsInput o → ⊥) → source.new ≡ source.old }
+    ensures alone { (IsInput asked.now → ⊥) → source.new ≡ source.old }
     ensures causes { HasCauses (faults (S.faults source.old) (K.faults sink.old) (D.faults disk.old) (E.faults entropy.old)) (faults (S.faults source.new) (K.faults sink.new) (D.faults disk.new) (E.faults entropy.new)) result }
 {
     // What memory the input wants by itself is taken before a file is touched.
     match LineReader::new(alloc) {
         Ok(reader) => {
             let mut reader = reader;
-            open_and_answer(alloc, &mut reader, size, source, sink, disk, clock, entropy)
+            open_and_answer(
+                alloc,
+                &mut reader,
+                size,
+                asked,
+                source,
+                sink,
+                disk,
+                clock,
+                entropy,
+            )
         }
         Err(_) => Err(SessionHalt::MemoryOut),
     }
@@ -166,7 +249,12 @@ fn run_words<S: Source, K: Sink, D: Disk, C: Clock, E: Entropy>(
     ensures causes { HasCauses (faults (S.faults source.old) (K.faults sink.old) (D.faults disk.old) (E.faults entropy.old)) (faults (S.faults source.new) (K.faults sink.new) (D.faults disk.new) (E.faults entropy.new)) result }
 {
     match words {
-        Ok(Words::Admin(size)) => admin(alloc, size, source, sink, disk, clock, entropy),
+        Ok(Words::Admin(size)) => ask(alloc, size, &None, source, sink, disk, clock, entropy),
+        Ok(Words::Line(command)) => {
+            let asked = Some(Asked::Does(command));
+            ask(alloc, None, &asked, source, sink, disk, clock, entropy)
+        }
+        Ok(Words::Tell(account)) => tell(alloc, account, sink, disk, clock),
         Ok(Words::Create(spec)) => create(alloc, &spec, sink, disk, clock, entropy),
         Ok(Words::Destroy) => end(alloc, sink, disk),
         Err(refusal) => match refuse(alloc, sink, refusal) {
@@ -179,14 +267,15 @@ fn run_words<S: Source, K: Sink, D: Disk, C: Clock, E: Entropy>(
 /// Does all that the program does: it judges the words, makes, ends or opens the database on the disk,
 /// answers the lines of the source to the sink, and keeps the disk the way the replies say.
 ///
-/// The words are `create REALM [-P PASS] [-e ETYPE] [-ulogsize N]`, `admin [-ulogsize N]` or
-/// `destroy [-f]`, where `--` may end the options; other words are answered by `err 1 BadLine`, a bad realm
-/// or value by `err 13 BadValue`, and no file is touched. A creation takes a moment of the clock and 2048
-/// random bytes, an opening a moment, and a line that is read as a command both. A reply is written once
-/// its change is on the disk. A crash at any moment leaves the database as it was or after some of the
-/// lines; where it returns early, a crash afterwards leaves it after lines among which is each of which a
-/// byte was answered, and where neither the sink nor the disk failed, these lines are answered in full. When
-/// the input is read, no clause says.
+/// The words are `create REALM [-P PASS] [-e ETYPE] [-ulogsize N]`, `admin [-ulogsize N]`, `destroy [-f]` or
+/// `dump`, where `--` may end the options, or a line of master keys, which is answered as in an input; other words
+/// are answered by `err 1 BadLine`, a bad realm or value by `err 13 BadValue`, and no file is touched. A
+/// creation takes a moment of the clock and 2048 random bytes, an opening a moment, a command both, and
+/// `update_princ_encryption` a moment and 512 bytes for each name that it asks. A reply is written once its change
+/// is on the disk. A crash at any moment leaves the database as it was, after some of the lines, or between two
+/// rekeyings of one; where it returns early, a crash afterwards leaves it so behind each line of which a byte was
+/// answered, and where neither the sink nor the disk failed, so many lines are answered in full, and beyond them
+/// nothing is done but some rekeyings of the next line. When the input is read, no clause says.
 pub fn run_local<S: Source, K: Sink, D: Disk, C: Clock, E: Entropy>(
     alloc: Global,
     words: &[Vec<u8>],

@@ -1,21 +1,32 @@
 //! What the words of a run ask for.
 
-ghost use Rattle.std.specs.Prelude.{◌≡◌, ◌≤◌, Some, map, option_map, IfOk, IfSome, unwrap_or};
+ghost use Rattle.std.specs.Prelude.{◌≡◌, ◌≤◌, [], Some, map, option_map, IfOk, IfSome, unwrap_or};
 ghost use Rattle.std.specs.Str.{bytes_eq};
 ghost use Rattle.kadm_options.specs.OptionValues.{word_given};
 ghost use Rattle.kadm_options.specs.declared.options.OptionName.TheVariants as option;
-ghost use Rattle.kadm_top.specs.Words.{AreSized, admin_by, admin_options, create_by, create_in, create_options, destroy_by, destroy_options, etype_given, no_more, options_alone, size_given, spec_of, words_behind, words_in};
+ghost use Rattle.kadm_commands.specs.Commands.{IsCommand};
+ghost use Rattle.kadm_top.specs.Words.{AreSized, admin_by, admin_options, create_by, create_in, create_options, destroy_by, destroy_options, etype_given, is_line, is_line_word, line_by, line_with, no_more, options_alone, size_given, spec_of, tell_by, words_behind, words_in};
+ghost use Rattle.kadm_wire.specs.LineReadings.{words_answer};
 ghost use Rattle.princ_name.specs.Realms.{IsRealm};
 
 use first_rows::CreateSpec;
+use kadm_commands::Command;
 use kadm_options::{
     Given, Opening, OptionName, Setting, ValueKind, are_single, find_word, first_bad, is_dashes,
     read_options, read_within,
 };
 use kadm_values::read_etype;
+use kadm_wire::parse_words;
 use kdb_base::{Blob, Etype, Field, MemoryOut, Refusal};
 use princ_name::{Realm, is_realm};
 use std::alloc::Global;
+
+/// What is told of a database with no change, whatever its format, and without its stash.
+#[derive(Clone, Copy, Debug, PartialEq, Eq)]
+pub enum Account {
+    /// The whole database as text.
+    Dump,
+}
 
 /// What the words of a run ask for. It does not print itself: what it would print is a password.
 #[derive(Drop)]
@@ -27,6 +38,10 @@ pub enum Words {
     Create(CreateSpec),
     /// The database is ended.
     Destroy,
+    /// This is answered over the database, as a line of the input is.
+    Line(Command),
+    /// This is told of the database.
+    Tell(Account),
 }
 
 /// How many entries the log of a new database holds.
@@ -235,6 +250,20 @@ fn read_create(alloc: Global, words: &[Blob]) -> Result<Result<Words, Refusal>, 
     }
 }
 
+fn read_tell(
+    alloc: Global,
+    account: Account,
+    words: &[Blob],
+) -> Result<Result<Words, Refusal>, MemoryOut>
+    ensures value { IfOk result (λ found. found ≡ tell_by account (options_alone [] words.now)) }
+    ensures sized { IfOk result AreSized }
+{
+    match read_alone(alloc, &[], words)? {
+        Some(_) => Ok(Ok(Words::Tell(account))),
+        None => Ok(Err(Refusal::BadLine)),
+    }
+}
+
 fn read_destroy(alloc: Global, words: &[Blob]) -> Result<Result<Words, Refusal>, MemoryOut>
     ensures value { IfOk result (λ found. found ≡ destroy_by (options_alone destroy_options words.now)) }
     ensures sized { IfOk result AreSized }
@@ -242,6 +271,56 @@ fn read_destroy(alloc: Global, words: &[Blob]) -> Result<Result<Words, Refusal>,
     match read_alone(alloc, destroy_options(), words)? {
         Some(_) => Ok(Ok(Words::Destroy)),
         None => Ok(Err(Refusal::BadLine)),
+    }
+}
+
+// Whether the word begins a line that may stand in place of the input.
+#[tactic(auto, unfolding(crate::specs::Words::is_line_word))]
+fn is_line_word(word: &[u8]) -> bool
+    ensures { result ≡ is_line_word word.now }
+{
+    is_word(word, b"add_mkey")
+        || is_word(word, b"use_mkey")
+        || is_word(word, b"list_mkeys")
+        || is_word(word, b"purge_mkeys")
+        || is_word(word, b"stash")
+}
+
+// Whether the command may stand in place of the input: it names no realm.
+fn is_line(command: &Command) -> bool
+    ensures { result ≡ is_line command.now }
+{
+    matches!(
+        command,
+        Command::AddMaster(_)
+            | Command::UseMaster(_)
+            | Command::ListMasters
+            | Command::PurgeMasters
+            | Command::Stash
+    )
+}
+
+fn line_with(command: Command) -> Result<Words, Refusal>
+    requires { IsCommand [] command }
+    ensures value { result ≡ line_with command }
+    ensures sized { AreSized result }
+{
+    if is_line(&command) {
+        Ok(Words::Line(command))
+    } else {
+        Err(Refusal::BadLine)
+    }
+}
+
+// What the words of a line ask for.
+fn read_line(alloc: Global, words: &[Blob]) -> Result<Result<Words, Refusal>, MemoryOut>
+    ensures value { IfOk result (λ found. found ≡ line_by (words_answer [] words.now)) }
+    ensures sized { IfOk result AreSized }
+{
+    match parse_words(alloc, words, b"")? {
+        Ok(Some(command)) => Ok(line_with(command)),
+        Ok(None) => Ok(Err(Refusal::BadLine)),
+        Err(refusal) => Ok(Err(refusal)),
     }
 }
 
@@ -260,6 +339,9 @@ fn read_behind(
     if is_word(word, b"create") {
         return read_create(alloc, words);
     }
+    if is_word(word, b"dump") {
+        return read_tell(alloc, Account::Dump, words);
+    }
     if is_word(word, b"destroy") {
         return read_destroy(alloc, words);
     }
@@ -273,7 +355,13 @@ fn read_copied(alloc: Global, words: &[Blob]) -> Result<Result<Words, Refusal>, 
 {
     match words {
         [] => Ok(Err(Refusal::BadLine)),
-        [word, rest @ ..] => read_behind(alloc, word.as_slice(), rest),
+        [word, rest @ ..] => {
+            if is_line_word(word.as_slice()) {
+                read_line(alloc, words)
+            } else {
+                read_behind(alloc, word.as_slice(), rest)
+            }
+        }
     }
 }
 
@@ -288,8 +376,8 @@ fn copy_words(alloc: Global, words: &[Vec<u8>]) -> Result<Vec<Blob>, MemoryOut>
 }
 
 /// What the words ask for: `admin [-ulogsize N]`, `create REALM [-P PASS] [-e ETYPE] [-ulogsize N]` or
-/// `destroy [-f]`, each with `--` as its last word or without. The realm is the word behind `create`,
-/// whatever it is. Only want of memory can refuse the reading itself.
+/// `destroy [-f]` or `dump`, each with `--` as its last word or without, or a line of master keys. The realm is the
+/// word behind `create`, whatever it is. Only want of memory can refuse the reading itself.
 ///
 /// # Errors
 ///

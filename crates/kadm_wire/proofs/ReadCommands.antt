@@ -1,6 +1,6 @@
 -- What is read is a command of the realm: its flags are known, and its values are in their ranges.
 use Rattle.std.proofs.Common.{◌≡◌, ◌≢◌, ℕ, ◌^◌, ◌<◌, ◌≤◌, ◌&&◌, Bool, true, false, cond, nat_eq, nat_le, nat_lt, Option, Some, None, option_map, IfSome, find, unwrap_or, Result, Ok, Err, List, [], ◌∷◌, length, inl, inr, refl, sym, ap, subst, ◌∙◌, arith, if◌then◌else◌}
-use Rattle.std.specs.Prelude.{IsTrue, ◌==◌}
+use Rattle.std.specs.Prelude.{IfOk, IsTrue, ◌==◌}
 use Rattle.std.specs.List.{count_by, filter_map, list_all, slice_split}
 use Rattle.std.specs.Option.{option_and_then}
 use Rattle.std.specs.Str.{bytes_eq}
@@ -31,6 +31,7 @@ use Rattle.kdb_base.specs.Etypes.{number_of}
 use Rattle.kdb_base.specs.declared.keys.Etype.{Etype}
 use Rattle.kdb_base.specs.declared.keys.Etype.TheVariants.{Aes128, Aes256, Aes128Sha2, Aes256Sha2}
 use Rattle.kdb_base.specs.declared.outcomes.Field.{Field}
+use Rattle.kdb_base.specs.declared.outcomes.Refusal.{Refusal}
 use Rattle.plain_keys.specs.Keys.{AreOnce}
 use Rattle.policy_rules.specs.Names.{is_policy_name}
 use Rattle.policy_rules.specs.Ranges.{is_min_length, is_min_classes, is_history}
@@ -41,7 +42,7 @@ use Rattle.princ_record.specs.Policies.{IsPolicy}
 use Rattle.princ_record.specs.Princs.{are_attributes}
 use Rattle.tagged_data.specs.Strings.{is_string_key, is_string_value}
 use Rattle.kadm_wire.specs.Commands.{chosen_policy, default_etypes, etypes_by, fields_given, keys_by, keys_given, lone_command, names_command, new_keys, number_given, policy_by, policy_command, princ_command, rules_changed, rules_given}
-use Rattle.kadm_wire.specs.LineReadings.{answer, command_reading, delete_reading, is_comment, line_reading, lone_reading, names_reading, policy_reading, princ_reading, reading, rename_reading, set_reading, shape_reading, split_reading, use_from_reading, use_reading, words_reading}
+use Rattle.kadm_wire.specs.LineReadings.{answer, are_short, command_reading, delete_reading, is_comment, line_reading, lone_reading, names_reading, policy_reading, princ_reading, reading, rename_reading, set_reading, shape_reading, split_reading, use_from_reading, use_reading, words_answer, words_reading}
 use Rattle.kadm_wire.specs.Lines.{longest_line}
 use Rattle.kadm_wire.specs.Reads.{activation_in, is_glob_word, unless_bad, when_good, with_name, with_value}
 use Rattle.kadm_wire.specs.Shapes.{Shape, shape_in}
@@ -515,3 +516,20 @@ answer_good realm (Refuses refusal) c good e = cc
 pub answered_command : (realm line : List ℕ) (c : Command) → reading realm line ≡ Ok (Some c) → IsCommand realm c
 unfolding reading
 answered_command realm line c e = answer_good realm (line_reading realm line) c (line_good realm line) e
+
+words_good : (realm : List ℕ) (words : List (List ℕ)) → IsGood realm (words_reading realm words)
+unfolding words_reading
+words_good realm [] = tt
+words_good realm (word ∷ words) = shape_good realm (word ∷ words) (shape_in (word ∷ words)) refl
+
+short_command : (realm : List ℕ) (words : List (List ℕ)) (short : Bool) (c : Command) → (if short then answer (words_reading realm words) else Err BadLine) ≡ Ok (Some c) → IsCommand realm c
+short_command realm words true c e = answer_good realm (words_reading realm words) c (words_good realm words) e
+short_command realm words false c e = absurd cc
+
+words_command : (realm : List ℕ) (words : List (List ℕ)) (c : Command) → words_answer realm words ≡ Ok (Some c) → IsCommand realm c
+unfolding words_answer
+words_command realm words c e = short_command realm words (are_short words) c e
+
+pub words_told : {E : Type 0} (realm : List ℕ) (words : List (List ℕ)) (r : Result (Result (Option Command) Refusal) E) (c : Command) → IfOk r (λ said. said ≡ words_answer realm words) → r ≡ Ok (Ok (Some c)) → IsCommand realm c
+words_told {E} realm words r c said e =
+    words_command realm words c (sym (subst (λ (x : Result (Result (Option Command) Refusal) E). IfOk x (λ said. said ≡ words_answer realm words)) e said))

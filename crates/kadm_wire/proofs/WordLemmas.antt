@@ -1,12 +1,14 @@
 -- Where the fault of a name's word lies, and words of a line by their places.
-use Rattle.std.proofs.Common.{◌≡◌, ℕ, zero, suc, ◌+◌, ◌-◌, ◌<◌, ◌≤◌, get_or, take, option_map, sym, subst, Result, Ok, Err, Bool, true, false, ◌==◌, ◌||◌, ◌&&◌, Option, Some, None, List, [], ◌∷◌, length, unwrap_or, if◌then◌else◌, inl, inr, refl, ap, arith, length-append}
+use Rattle.std.proofs.Common.{◌≡◌, ℕ, zero, suc, ◌+◌, ◌-◌, ◌<◌, ◌≤◌, nat_le, get_or, take, option_map, sym, subst, Result, Ok, Err, Bool, true, false, ◌==◌, ◌||◌, ◌&&◌, Option, Some, None, List, [], ◌∷◌, length, unwrap_or, if◌then◌else◌, inl, inr, refl, ap, arith, length-append}
 use Rattle.std.specs.Option.{option_and_then}
+use Rattle.std.proofs.lemmas.Bool.{and_parts, leb-true}
 use Rattle.kadm_options.specs.OptionValues.{number_within}
 use Rattle.kadm_options.specs.Options.{is_dashes}
 use Rattle.kadm_options.proofs.OptionValueLemmas.{number_spelled}
 use Rattle.kadm_words.specs.Split.{IsSplit}
 use Rattle.kadm_words.specs.Words.{AreWithin}
 use Rattle.kadm_words.proofs.ShortWords.{words_short}
+use Rattle.kadm_wire.specs.LineReadings.{are_short}
 use Rattle.kadm_wire.specs.Shapes.{others_in}
 use Rattle.princ_name.specs.Answers.{AnswersReading, IsRefusedAt}
 use Rattle.princ_name.specs.Names.{NameParts}
@@ -103,3 +105,9 @@ others_short most (word ∷ words) short = pick_short most word words (is_dashes
 pub given_within : (least most : ℕ) (r : Option (List ℕ)) (number : ℕ) → Some number ≡ option_and_then (number_within least most) r → (least ≤ number) × (number ≤ most)
 given_within least most None number e = cc
 given_within least most (Some word) number e = let s = number_spelled least most word number (sym e) in (s.from, s.to)
+
+-- words of which none is longer than a line may be
+pub short_words : (words : List (List ℕ)) → are_short words ≡ true → AreWithin 65536 words
+unfolding are_short AreWithin
+short_words [] e = tt
+short_words (word ∷ words) e = let both = and_parts (nat_le (length word) 65536) (are_short words) e in (leb-true (length word) 65536 both.0, short_words words both.1)

@@ -1,5 +1,6 @@
 -- What a line says, as a function of its bytes.
-use Rattle.std.specs.Prelude.{ℕ, Bool, false, ◌==◌, nat_lt, if◌then◌else◌, List, [], ◌∷◌, length, Option, Some, None, Result, Ok, Err}
+use Rattle.std.specs.Prelude.{ℕ, Bool, false, ◌==◌, nat_le, nat_lt, if◌then◌else◌, List, [], ◌∷◌, length, Option, Some, None, Result, Ok, Err}
+use Rattle.std.specs.List.{list_all}
 use Rattle.kadm_commands.specs.declared.commands.Command.{Command}
 use Rattle.kadm_commands.specs.declared.commands.Command.TheVariants as command
 use Rattle.kadm_options.specs.OptionValues.{first_bad_in, number_within}
@@ -115,3 +116,13 @@ answer (Refuses refusal) = Err refusal
 -- the command of a line, or none where the line is passed over, or why it is refused
 unfoldable pub reading : List ℕ → List ℕ → Result (Option Command) Refusal
 reading realm line = answer (line_reading realm line)
+
+-- ---- words that no line spells
+
+-- no word is longer than a line may be
+unfoldable pub are_short : List (List ℕ) → Bool
+are_short words = list_all (λ word. nat_le (length word) longest_line) words
+
+-- the command of such words, or none where there are none, or why they are refused
+unfoldable pub words_answer : List ℕ → List (List ℕ) → Result (Option Command) Refusal
+words_answer realm words = if are_short words then answer (words_reading realm words) else Err BadLine

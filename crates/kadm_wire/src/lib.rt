@@ -14,5 +14,5 @@ mod tests;
 pub mod values;
 pub mod verbs;
 
-pub use lines::{parse_line, read_line};
+pub use lines::{parse_line, parse_words, read_line};
 pub use readings::Reading;

@@ -6,7 +6,7 @@ ghost use Rattle.kadm_commands.specs.declared.commands.Command.{Command};
 ghost use Rattle.kdb_base.specs.declared.outcomes.Halt.{Halt};
 ghost use Rattle.kdb_base.specs.declared.outcomes.Refusal.{Refusal};
 ghost use Rattle.kadm_words.specs.Words.{AreWithin};
-ghost use Rattle.kadm_wire.specs.LineReadings.{is_comment, line_reading, reading, shape_reading, split_reading, whole_reading, words_reading};
+ghost use Rattle.kadm_wire.specs.LineReadings.{is_comment, line_reading, reading, shape_reading, split_reading, whole_reading, words_answer, words_reading, are_short};
 ghost use Rattle.kadm_words.specs.Splitting.{words_in};
 ghost use Rattle.kadm_wire.specs.Lines.{IsReading};
 ghost use Rattle.kadm_wire.specs.Shapes.{others_in, shape_behind};
@@ -158,4 +158,46 @@ pub fn parse_line(alloc: Global, line: &[u8], realm: &[u8]) -> Result<Option<Com
         Ok(Reading::Refuses(refusal)) => Err(Stop::Refused(refusal)),
         Err(MemoryOut) => Err(Stop::Halt(Halt::MemoryOut)),
     }
+}
+
+// Whether no word is longer than a line may be.
+#[tactic(auto, unfolding(crate::specs::LineReadings::are_short))]
+fn are_short(words: &[Blob]) -> bool
+    ensures { result ≡ are_short words.now }
+{
+    words
+        .iter()
+        .all(|word| word.as_slice().len() <= LONGEST_LINE)
+}
+
+#[tactic(auto, unfolding(crate::specs::LineReadings::words_answer))]
+fn words_answer(
+    alloc: Global,
+    words: &[Blob],
+    realm: &[u8],
+) -> Result<Result<Option<Command>, Refusal>, MemoryOut>
+    ensures { IfOk result (λ said. said ≡ words_answer realm.now words.now) }
+{
+    if !are_short(words) {
+        return Ok(Err(Refusal::BadLine));
+    }
+    match read_words(alloc, words, realm)? {
+        Reading::Skipped => Ok(Ok(None)),
+        Reading::Says(command) => Ok(Ok(Some(command))),
+        Reading::Refuses(refusal) => Ok(Err(refusal)),
+    }
+}
+
+/// The command that words spell which come one by one, as a program is given them, in a database of this realm. No words
+/// have none. The first of these causes refuses them: a word has more than 65536 bytes or they are not of the grammar, a
+/// name is bad, a value is unreadable. Only want of memory halts.
+pub fn parse_words(
+    alloc: Global,
+    words: &[Blob],
+    realm: &[u8],
+) -> Result<Result<Option<Command>, Refusal>, MemoryOut>
+    ensures value { IfOk result (λ said. said ≡ words_answer realm.now words.now) }
+    ensures valid { (command : Command) → result ≡ Ok (Ok (Some command)) → IsCommand realm.now command }
+{
+    words_answer(alloc, words, realm)
 }

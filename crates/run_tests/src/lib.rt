@@ -13,6 +13,8 @@ mod keys;
 #[cfg(test)]
 mod lines;
 #[cfg(test)]
+mod masters;
+#[cfg(test)]
 mod rim;
 #[cfg(test)]
 mod rules;

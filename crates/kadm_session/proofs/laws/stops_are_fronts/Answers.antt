@@ -67,13 +67,13 @@ in_reply taken asked commands draws at out first others part first_is none =
     }
 
 in_others : (taken : List ℕ) (asked : Asked) (commands : List Asked) (draws : Draws) (at : Seen) (out : Option (List ℕ)) (first : Place) (others : List Place)
-    → HasStoppedAfter (taken ++ text_to asked draws at) commands (draws_after asked draws) (seen_after asked draws at) out first others
+    → HasStoppedAfter (taken ++ text_to asked draws at) commands (draws_after asked draws at) (seen_after asked draws at) out first others
     → HasStoppedAfter taken (asked ∷ commands) draws at out first others
 unfolding said places_made
 in_others taken asked commands draws at out first others rest =
     let text = text_to asked draws at in
     let made = places_by asked draws at in
-    let before = places_made (take rest.answered commands) (draws_after asked draws) (seen_after asked draws at) in
+    let before = places_made (take rest.answered commands) (draws_after asked draws at) (seen_after asked draws at) in
     record {
       answered = suc rest.answered;
       done = suc rest.done;
@@ -96,7 +96,7 @@ stopped_after taken (asked ∷ commands) draws at out first others (inl (inl h))
 stopped_after taken (asked ∷ commands) draws at out first others (inl (inr h)) = in_reply taken asked commands draws at out first others h.0 h.1 h.2
 stopped_after taken (asked ∷ commands) draws at out first others (inr h) =
     in_others taken asked commands draws at out first others
-    (stopped_after (taken ++ text_to asked draws at) commands (draws_after asked draws) (seen_after asked draws at) out first others h)
+    (stopped_after (taken ++ text_to asked draws at) commands (draws_after asked draws at) (seen_after asked draws at) out first others h)
 
 pub returns : goal.returns
 returns c = stopped_after

@@ -3,6 +3,10 @@ use Rattle.kdb_histories.specs.Seen.{seen}
 use Rattle.primary_core.specs.Opened.{place_of}
 use Rattle.kadm_session.specs.Draws.{told_draws}
 use Rattle.kadm_session.proofs.Going.{decides_nothing, decides_refused}
+use Rattle.kadm_session.specs.declared.halts.SessionHalt.TheVariants.{MemoryOut, DrawFault}
+use Rattle.kadm_session.specs.declared.intake.Asked.TheVariants.{Rekeys}
+use Rattle.kadm_session.proofs.Lines.{halfway_as, halfway_still}
+use Rattle.kadm_session.proofs.Turning.{err_on}
 use Rattle.kadm_session.proofs.Making.{safe_still}
 use Rattle.kadm_session.proofs.session.decide.Goals as goal
 
@@ -28,3 +32,30 @@ pub returns-in-Err-clause-safe : goal.returns-in-Err-clause-safe
 returns-in-Err-clause-safe g c = λ s has.
     safe_still g.D.Disk c.args.disk.now c.args.disk.now c.args.asked.now (told_draws (g.C.Clock.moments c.args.clock.now) (g.E.Entropy.stream c.args.entropy.now)) (seen (place_of c.args.primary.now) s) refl
     (λ told. c.what_is_kept_is_recovered.ensures c.args.primary.now.kept (c.requires.on told))
+
+pub returns-in-Err-clause-memory : goal.returns-in-Err-clause-memory
+returns-in-Err-clause-memory g c = λ s has is.
+    halfway_still g.D.Disk c.args.disk.now c.args.disk.now c.args.asked.now (told_draws (g.C.Clock.moments c.args.clock.now) (g.E.Entropy.stream c.args.entropy.now)) (seen (place_of c.args.primary.now) s) refl
+    (λ told. c.what_is_kept_is_recovered.ensures c.args.primary.now.kept (c.requires.on told))
+
+pub returns-in-Err-perform-clause-memory : goal.returns-in-Err-perform-clause-memory
+returns-in-Err-perform-clause-memory g c = λ s has is.
+    let same = c.perform.ensures.memory (err_on c.perform.result _ _ c.in-Err-perform.halt MemoryOut c.in-Err-perform.is refl refl is) in
+    halfway_still g.D.Disk c.args.disk.now c.perform.new.disk c.args.asked.now (told_draws (g.C.Clock.moments c.args.clock.now) (g.E.Entropy.stream c.args.entropy.now)) (seen (place_of c.args.primary.now) s) same.0
+    (λ told. c.what_is_kept_is_recovered.ensures c.args.primary.now.kept (c.requires.on told))
+
+pub returns-in-Err-rekey-clause-memory : goal.returns-in-Err-rekey-clause-memory
+returns-in-Err-rekey-clause-memory g c = λ s has is.
+    halfway_as g.D.Disk c.rekey.new.disk c.args.asked.now (Rekeys c.in-Rekeys.glob) (told_draws (g.C.Clock.moments c.args.clock.now) (g.E.Entropy.stream c.args.entropy.now)) (seen (place_of c.args.primary.now) s) c.in-Rekeys.is
+    (c.rekey.ensures.memory s has (err_on c.rekey.result _ _ c.in-Err-rekey.halt MemoryOut c.in-Err-rekey.is refl refl is))
+
+pub returns-in-Err-perform-clause-drawn : goal.returns-in-Err-perform-clause-drawn
+returns-in-Err-perform-clause-drawn g c = λ s has is.
+    let same = c.perform.ensures.drawn (err_on c.perform.result _ _ c.in-Err-perform.halt DrawFault c.in-Err-perform.is refl refl is) in
+    halfway_still g.D.Disk c.args.disk.now c.perform.new.disk c.args.asked.now (told_draws (g.C.Clock.moments c.args.clock.now) (g.E.Entropy.stream c.args.entropy.now)) (seen (place_of c.args.primary.now) s) same.0
+    (λ told. c.what_is_kept_is_recovered.ensures c.args.primary.now.kept (c.requires.on told))
+
+pub returns-in-Err-rekey-clause-drawn : goal.returns-in-Err-rekey-clause-drawn
+returns-in-Err-rekey-clause-drawn g c = λ s has is.
+    halfway_as g.D.Disk c.rekey.new.disk c.args.asked.now (Rekeys c.in-Rekeys.glob) (told_draws (g.C.Clock.moments c.args.clock.now) (g.E.Entropy.stream c.args.entropy.now)) (seen (place_of c.args.primary.now) s) c.in-Rekeys.is
+    (c.rekey.ensures.drawn s has (err_on c.rekey.result _ _ c.in-Err-rekey.halt DrawFault c.in-Err-rekey.is refl refl is))

@@ -1,7 +1,7 @@
 use Rattle.std.proofs.Common.{◌∙◌, refl, ap, arith, Ok}
 use Rattle.kdb_disk.proofs.Runs.{then_on}
 use Rattle.kadm_session.specs.declared.halts.SessionHalt.TheVariants.{MemoryOut, DrawFault, ReadFault, InputTooLong}
-use Rattle.kadm_session.proofs.Turning.{ended_from, err_on, goes_first, goes_none, goes_on_then, goes_some, goes_with, is_refused, leaves_here, rests_from, stopped_from, was_refused}
+use Rattle.kadm_session.proofs.Turning.{ended_from, err_on, goes_first, goes_none, goes_on_then, goes_some, goes_with, is_refused, leaves_here, rests_from, rests_on, stopped_from, was_refused}
 use Rattle.kadm_session.proofs.session.serve.Goals as goal
 
 pub loop-now_refused-init : goal.loop-now_refused-init
@@ -90,15 +90,15 @@ returns-in-Err-clause-stopped g c = λ told s has.
 
 pub returns-in-Err-clause-memory : goal.returns-in-Err-clause-memory
 returns-in-Err-clause-memory g c = λ told s has is.
-    let was = c.loop-now_refused.invariant in
-    let same = c.turn.ensures.memory (err_on c.turn.result _ _ c.in-Err.halt MemoryOut c.in-Err.is refl refl is) in
-    rw (same.0, same.1) (rests_from _ _ _ _ _ _ _ (was.goes s has) (c.what_is_kept_is_recovered-in-loop-now_refused.ensures _ (was.on told)))
+    let before = c.loop-now_refused.invariant.goes s has in
+    rests_on _ _ _ _ _ _ _ _ before
+    (c.turn.ensures.memory told before.state c.loop-now_refused.refused before.has (err_on c.turn.result _ _ c.in-Err.halt MemoryOut c.in-Err.is refl refl is))
 
 pub returns-in-Err-clause-drawn : goal.returns-in-Err-clause-drawn
 returns-in-Err-clause-drawn g c = λ told s has is.
-    let was = c.loop-now_refused.invariant in
-    let same = c.turn.ensures.drawn (err_on c.turn.result _ _ c.in-Err.halt DrawFault c.in-Err.is refl refl is) in
-    rw (same.0, same.1) (rests_from _ _ _ _ _ _ _ (was.goes s has) (c.what_is_kept_is_recovered-in-loop-now_refused.ensures _ (was.on told)))
+    let before = c.loop-now_refused.invariant.goes s has in
+    rests_on _ _ _ _ _ _ _ _ before
+    (c.turn.ensures.drawn told before.state c.loop-now_refused.refused before.has (err_on c.turn.result _ _ c.in-Err.halt DrawFault c.in-Err.is refl refl is))
 
 pub returns-in-Err-clause-read : goal.returns-in-Err-clause-read
 returns-in-Err-clause-read g c = λ told s has is.

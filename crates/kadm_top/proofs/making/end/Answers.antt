@@ -9,11 +9,11 @@ use Rattle.kdb_control.specs.Force.{in_force}
 
 pub returns-in-Ok-say_ended-clause-run : goal.returns-in-Ok-say_ended-clause-run
 returns-in-Ok-say_ended-clause-run g c = λ told left draws.
-    end_done (in_force ((g.D.Disk.view c.args.disk.now).seen 0)) (c.in-Ok.ensures.answer told) (c.destroy_files.ensures.crash.told told) (c.in-Ok.ensures.none told) c.in-Ok-say_ended.ensures.ok refl
+    end_done (in_force ((g.D.Disk.view c.args.disk.now).seen 0)) (c.in-Ok.ensures.answer told) (c.destroy_files.ensures.crash.told told) (record { none = c.in-Ok.ensures.none told; empty = c.in-Ok.ensures.empty told }) c.in-Ok-say_ended.ensures.ok refl
 
 pub returns-in-Err-clause-run : goal.returns-in-Err-clause-run
 returns-in-Err-clause-run g c = λ told left draws.
-    end_cut (in_force ((g.D.Disk.view c.args.disk.now).seen 0)) _ (c.in-Ok.ensures.answer told) (c.destroy_files.ensures.crash.told told) (c.in-Ok.ensures.none told) c.in-Err.ensures.err (λ no. no)
+    end_cut (in_force ((g.D.Disk.view c.args.disk.now).seen 0)) _ (c.in-Ok.ensures.answer told) (c.destroy_files.ensures.crash.told told) (record { none = c.in-Ok.ensures.none told; empty = c.in-Ok.ensures.empty told }) c.in-Err.ensures.err (λ no. no)
 
 pub returns-in-Ok-refuse-clause-run : goal.returns-in-Ok-refuse-clause-run
 returns-in-Ok-refuse-clause-run g c = λ told left draws.

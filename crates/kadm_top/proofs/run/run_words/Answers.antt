@@ -2,8 +2,10 @@ use Rattle.std.proofs.Common.{◌∙◌, ap, refl, subst, sym, true}
 use Rattle.std.specs.Prelude.{Ok, Err}
 use Rattle.std.proofs.lemmas.Result.{on_ok_weaker}
 use Rattle.kadm_session.specs.Draws.{told_draws}
+use Rattle.kadm_top.proofs.Accounts.{for_tell, tell_has}
 use Rattle.kadm_top.proofs.ByStatus.{said_causes}
-use Rattle.kadm_top.proofs.Openings.{admin_has, any_ok, create_has, destroy_has, for_admin, for_create, for_destroy, for_refusal, refusal_has}
+use Rattle.kadm_top.proofs.Worded.{line_asked}
+use Rattle.kadm_top.proofs.Openings.{admin_has, any_ok, create_has, destroy_has, for_admin, for_create, for_destroy, for_line, for_refusal, line_has, refusal_has}
 use Rattle.kadm_top.proofs.Running.{cut_refusal_run, refused_run}
 use Rattle.kadm_top.proofs.run.run_words.Goals as goal
 use Rattle.kadm_top.specs.Openings.{NoDraw, Opening}
@@ -12,11 +14,11 @@ use Rattle.kdb_disk.proofs.Runs.{kept}
 
 pub returns-in-Ok-Admin-clause-run : goal.returns-in-Ok-Admin-clause-run
 returns-in-Ok-Admin-clause-run g c = λ tells o opening.
-    c.admin.ensures.run tells o (for_admin (g.D.Disk.view c.args.disk.now).seen (told_draws (g.C.Clock.moments c.args.clock.now) (g.E.Entropy.stream c.args.entropy.now)) o c.args.words c.in-Ok-Admin.size (c.in-Ok-Admin.is ∙ ap Ok c.in-Ok-Admin.field-0-is) opening)
+    c.ask.ensures.run tells o (for_admin (g.D.Disk.view c.args.disk.now).seen (told_draws (g.C.Clock.moments c.args.clock.now) (g.E.Entropy.stream c.args.entropy.now)) o c.args.words c.in-Ok-Admin.size (c.in-Ok-Admin.is ∙ ap Ok c.in-Ok-Admin.field-0-is) opening)
 
 pub returns-in-Ok-Admin-clause-unread : goal.returns-in-Ok-Admin-clause-unread
 returns-in-Ok-Admin-clause-unread g c = λ tells o opening not.
-    c.admin.ensures.unread tells o (for_admin (g.D.Disk.view c.args.disk.now).seen (told_draws (g.C.Clock.moments c.args.clock.now) (g.E.Entropy.stream c.args.entropy.now)) o c.args.words c.in-Ok-Admin.size (c.in-Ok-Admin.is ∙ ap Ok c.in-Ok-Admin.field-0-is) opening) not
+    c.ask.ensures.unread tells o (for_admin (g.D.Disk.view c.args.disk.now).seen (told_draws (g.C.Clock.moments c.args.clock.now) (g.E.Entropy.stream c.args.entropy.now)) o c.args.words c.in-Ok-Admin.size (c.in-Ok-Admin.is ∙ ap Ok c.in-Ok-Admin.field-0-is) opening) not
 
 pub returns-in-Ok-Create-clause-run : goal.returns-in-Ok-Create-clause-run
 returns-in-Ok-Create-clause-run g c = λ tells o opening.
@@ -55,9 +57,9 @@ returns-in-Err-refuse-clause-causes g c = said_causes c.in-Err-refuse.halt c.ref
 
 pub returns-in-Ok-Admin-clause-opening : goal.returns-in-Ok-Admin-clause-opening
 returns-in-Ok-Admin-clause-opening g c = λ tells draws is.
-    on_ok_weaker c.admin.result
+    on_ok_weaker c.ask.result
     (admin_has (g.D.Disk.view c.args.disk.now).seen (told_draws (g.C.Clock.moments c.args.clock.now) (g.E.Entropy.stream c.args.entropy.now)) c.args.words c.in-Ok-Admin.size (c.in-Ok-Admin.is ∙ ap Ok c.in-Ok-Admin.field-0-is))
-    (c.admin.ensures.opening tells draws is)
+    (c.ask.ensures.opening tells draws is)
 
 pub returns-in-Ok-Create-clause-opening : goal.returns-in-Ok-Create-clause-opening
 returns-in-Ok-Create-clause-opening g c = λ tells draws is.
@@ -69,3 +71,32 @@ returns-in-Ok-Destroy-clause-opening g c = λ tells draws is.
 
 pub returns-in-Ok-clause-opening : goal.returns-in-Ok-clause-opening
 returns-in-Ok-clause-opening g c = λ tells draws is. refusal_has (g.D.Disk.view c.args.disk.now).seen _ c.args.words c.in-Err.refusal c.in-Err.is
+
+pub returns-in-Ok-Line-clause-run : goal.returns-in-Ok-Line-clause-run
+returns-in-Ok-Line-clause-run g c = λ tells o opening.
+    c.ask-in-Ok-Line.ensures.run tells o (for_line (g.D.Disk.view c.args.disk.now).seen (told_draws (g.C.Clock.moments c.args.clock.now) (g.E.Entropy.stream c.args.entropy.now)) o c.args.words c.in-Ok-Line.command (c.in-Ok-Line.is ∙ ap Ok c.in-Ok-Line.field-0-is) opening)
+
+pub returns-in-Ok-Line-clause-unread : goal.returns-in-Ok-Line-clause-unread
+returns-in-Ok-Line-clause-unread g c = λ tells o opening not. c.ask-in-Ok-Line.ensures.alone (λ input. input)
+
+pub returns-in-Ok-Line-clause-opening : goal.returns-in-Ok-Line-clause-opening
+returns-in-Ok-Line-clause-opening g c = λ tells draws is.
+    on_ok_weaker c.ask-in-Ok-Line.result
+    (line_has (g.D.Disk.view c.args.disk.now).seen (told_draws (g.C.Clock.moments c.args.clock.now) (g.E.Entropy.stream c.args.entropy.now)) c.args.words c.in-Ok-Line.command (c.in-Ok-Line.is ∙ ap Ok c.in-Ok-Line.field-0-is))
+    (c.ask-in-Ok-Line.ensures.opening tells draws is)
+
+pub ask-requires-in-Ok-Line-clause-asked : goal.ask-requires-in-Ok-Line-clause-asked
+ask-requires-in-Ok-Line-clause-asked g c = λ realm. line_asked c.args.words c.in-Ok-Line.command (c.in-Ok-Line.is ∙ ap Ok c.in-Ok-Line.field-0-is) c.requires realm
+
+pub returns-in-Ok-Tell-clause-run : goal.returns-in-Ok-Tell-clause-run
+returns-in-Ok-Tell-clause-run g c = λ tells o opening.
+    let stream = g.E.Entropy.stream c.args.entropy.now in
+    subst (λ (x : Opening). HasRun x (g.D.Disk.view c.args.disk.now) (g.D.Disk.view c.tell.new.disk)
+    (told (g.K.Sink.taken c.args.sink.now) (g.S.Source.left c.args.source.now) (told_draws (g.C.Clock.moments c.args.clock.now) stream))
+    (told (g.K.Sink.taken c.tell.new.sink) (g.S.Source.left c.args.source.now) (told_draws (g.C.Clock.moments c.tell.new.clock) stream)) c.tell.result)
+    (sym (for_tell (g.D.Disk.view c.args.disk.now).seen (told_draws (g.C.Clock.moments c.args.clock.now) stream) o c.args.words c.in-Ok-Tell.account (c.in-Ok-Tell.is ∙ ap Ok c.in-Ok-Tell.field-0-is) opening))
+    (c.tell.ensures.run tells (g.S.Source.left c.args.source.now) stream)
+
+pub returns-in-Ok-Tell-clause-opening : goal.returns-in-Ok-Tell-clause-opening
+returns-in-Ok-Tell-clause-opening g c = λ tells draws is.
+    any_ok c.tell.result _ (tell_has (g.D.Disk.view c.args.disk.now).seen _ c.args.words c.in-Ok-Tell.account (c.in-Ok-Tell.is ∙ ap Ok c.in-Ok-Tell.field-0-is))

@@ -1,6 +1,6 @@
 use Rattle.std.proofs.Common.{refl}
 use Rattle.kadm_top.proofs.Running.{idle_run}
-use Rattle.kadm_top.proofs.run.admin.Goals as goal
+use Rattle.kadm_top.proofs.run.ask.Goals as goal
 use Rattle.kdb_disk.proofs.Runs.{kept}
 
 pub returns-in-Err-clause-run : goal.returns-in-Err-clause-run

@@ -4,7 +4,7 @@ use Rattle.kdb_histories.specs.Stages.{places}
 use Rattle.primary_core.specs.Opened.{place_of}
 use Rattle.kadm_session.specs.Steps.{ask_at}
 use Rattle.kadm_session.proofs.Making.{crash_still}
-use Rattle.kadm_session.proofs.commands.perform_at.Goals as goal
+use Rattle.kadm_session.proofs.commands.perform_judged.Goals as goal
 
 pub returns-in-Err-clause-crash : goal.returns-in-Err-clause-crash
 returns-in-Err-clause-crash g c = λ s has.
