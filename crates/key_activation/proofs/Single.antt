@@ -198,6 +198,7 @@ pub numbered_without : (version : ℕ) (xs : List Activation) → AreNumbered xs
 unfolding without_activation
 numbered_without version xs h = All-filter (λ (a : Activation). not (eqb a.version version)) (λ (a : Activation). 1 ≤ a.version) xs h
 
-pub numbered_after : (r : Result (Unit {0}) MemoryOut) (version secs : ℕ) (old new : List Activation) → 1 ≤ version → OnOk r (new ≡ with_activation version secs old) → OnOk r (AreNumbered old → AreNumbered new)
-numbered_after (Ok done) version secs old new here is = λ h. rw is (numbered_with version secs old here h)
-numbered_after (Err e) version secs old new here is = tt
+pub numbered_after : (r : Result (Unit {0}) MemoryOut) (version secs : ℕ) (old new : List Activation) → OnOk r (new ≡ with_activation version secs old)
+    → OnOk r (1 ≤ version → AreNumbered old → AreNumbered new)
+numbered_after (Ok done) version secs old new is = λ here h. rw is (numbered_with version secs old here h)
+numbered_after (Err e) version secs old new is = tt

@@ -53,12 +53,12 @@ fn put(items: &mut Vec<Activation>, activation: Activation) -> Result<(), Memory
 }
 
 /// Sets from when on the version may be active, in seconds since 1970. It replaces an earlier setting
-/// of the same version. Versions count from 1. Where memory runs out, the list stays as it is.
+/// of the same version. Where memory runs out, the list stays as it is.
 #[tactic(auto, using(crate::proofs::Order::empty_rises))]
 pub fn set(alloc: Global, list: &mut Activations, version: u16, secs: u32) -> Result<(), MemoryOut>
-    requires { 1 ≤ version }
     ensures is { OnOk result (list.new ≡ with_activation version secs list.old) }
-    ensures numbered { OnOk result (AreNumbered list.old → AreNumbered list.new) }
+    // Versions that count from 1 do so still, where this one does.
+    ensures numbered { OnOk result (1 ≤ version → AreNumbered list.old → AreNumbered list.new) }
     ensures own { OnOk result (activation_of version list.new ≡ Some secs) }
     ensures others { OnOk result ((v : ℕ) → v ≢ version → activation_of v list.new ≡ activation_of v list.old) }
     ensures err { OnErr result (list.new ≡ list.old) }

@@ -46,6 +46,7 @@ pub record Unseals (u : KeyUse) (blob : List ℕ) (result : Result (List ℕ) Un
   pub bad_tag : result ≡ Err fault.BadTag → IsMistagged u.key u.usage blob
   pub after_seal : (plain : List ℕ) → IsSealed u.key u.usage blob plain → MatchResult result (λ text. text ≡ plain) (λ f. f ≡ fault.MemoryOut)
   pub wrong_tag : IsMistagged u.key u.usage blob → MatchResult result (λ _. ⊥) (λ f. f ≢ fault.Short)
+  pub bad_tag_sha2 : is_sha2 u.key.etype ≡ true → IsMistagged u.key u.usage blob → result ≡ Err fault.BadTag
 
 pub unseals_1 : (u v : KeyUse) (blob : List ℕ) (result : Result (List ℕ) UnsealFault) → is_sha2 u.key.etype ≡ false → u ≡ v →
     IfOk result (λ plain. Sha1.IsSealed u.key u.usage blob plain) → (result ≡ Err fault.Short) ↔ (length blob < 16 + tag_len u.key.etype) →
@@ -59,6 +60,7 @@ unseals_1 u v blob result other same ok short bad_tag after_seal wrong_tag =
       bad_tag = λ e. mistagged_sha1 u.key u.usage blob other (bad_tag e);
       after_seal = λ plain s. after_seal plain (to_sha1 u.key u.usage blob plain other s);
       wrong_tag = λ m. wrong_tag (m.sha1 other);
+      bad_tag_sha2 = λ kind m. absurd cc;
     })
 
 not_short : (result : Result (List ℕ) UnsealFault) → result ≡ Err fault.BadTag → MatchResult result (λ _. ⊥) (λ f. f ≢ fault.Short)
@@ -76,4 +78,5 @@ unseals_2 u v blob result kind same ok short bad_tag after_seal =
       bad_tag = λ e. mistagged_sha2 u.key u.usage blob kind (bad_tag.0 e);
       after_seal = λ plain s. after_seal plain (to_sha2 u.key u.usage blob plain kind s);
       wrong_tag = λ m. not_short result (bad_tag.1 (m.sha2 kind));
+      bad_tag_sha2 = λ _ m. bad_tag.1 (m.sha2 kind);
     })

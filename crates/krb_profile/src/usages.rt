@@ -1,8 +1,9 @@
 //! Texts that are sealed under a key for a usage (RFC 3961, section 5.3; RFC 8009, section 5).
 
-ghost use Rattle.std.specs.Prelude.{◌≡◌, ◌≢◌, ℕ, ◌+◌, ◌<◌, ◌↔◌, List, length, IfOk, MatchResult};
+ghost use Rattle.std.specs.Prelude.{◌≡◌, ◌≢◌, ℕ, ◌+◌, ◌<◌, ◌↔◌, List, length, true, IfOk, MatchResult};
 ghost use Rattle.kdb_base.specs.Etypes.{tag_len};
 ghost use Rattle.krb_profile.specs.Profile.{IsMistagged, IsSealed, sealed};
+ghost use Rattle.sha2_profile.specs.Sha2.{is_sha2};
 
 use crate::sha1_keys::Sha1Keys;
 use kdb_base::{Blob, Etype, MemoryOut, PlainKey};
@@ -73,7 +74,7 @@ impl UsageKeys {
     /// # Errors
     ///
     /// `Short` exactly where the blob is shorter than a confounder and a tag, `BadTag` where its tag is not that of
-    /// what it holds, and `MemoryOut` where memory is wanted and not given.
+    /// what it holds (under the types 19 and 20 exactly there), and `MemoryOut` where memory is wanted and not given.
     pub fn unseal(&self, alloc: Global, blob: &[u8]) -> Result<Blob, UnsealFault>
         ensures ok { IfOk result (λ plain. IsSealed self.now.key self.now.usage blob.now plain) }
         ensures short { (result ≡ Err UnsealFault.Short) ↔ (length blob.now < 16 + tag_len self.now.key.etype) }
@@ -82,6 +83,9 @@ impl UsageKeys {
         // What was sealed is given back, and what has a wrong tag is not.
         ensures after_seal { (plain : List ℕ) → IsSealed self.now.key self.now.usage blob.now plain → MatchResult result (λ text. text ≡ plain) (λ fault. fault ≡ UnsealFault.MemoryOut) }
         ensures wrong_tag { IsMistagged self.now.key self.now.usage blob.now → MatchResult result (λ _. ⊥) (λ fault. fault ≢ UnsealFault.Short) }
+        // Under the types 19 and 20 the tag is judged before memory is asked for.
+        ensures bad_tag_sha2 { is_sha2 self.now.key.etype ≡ true → IsMistagged self.now.key self.now.usage blob.now
+            → result ≡ Err UnsealFault.BadTag }
     {
         match &self.kept {
             Kept::Sha1(keys) => keys.unseal(alloc, blob),
@@ -114,7 +118,7 @@ pub fn seal(
 /// # Errors
 ///
 /// `Short` exactly where the blob is shorter than a confounder and a tag, `BadTag` where its tag is not that of what
-/// it holds, and `MemoryOut` where memory is wanted and not given.
+/// it holds (under the types 19 and 20 exactly there), and `MemoryOut` where memory is wanted and not given.
 pub fn unseal(alloc: Global, key: &PlainKey, usage: u32, blob: &[u8]) -> Result<Blob, UnsealFault>
     ensures ok { IfOk result (λ plain. IsSealed key.now usage blob.now plain) }
     ensures short { (result ≡ Err UnsealFault.Short) ↔ (length blob.now < 16 + tag_len key.now.etype) }
@@ -123,6 +127,8 @@ pub fn unseal(alloc: Global, key: &PlainKey, usage: u32, blob: &[u8]) -> Result<
     // What was sealed is given back, and what has a wrong tag is not.
     ensures after_seal { (plain : List ℕ) → IsSealed key.now usage blob.now plain → MatchResult result (λ text. text ≡ plain) (λ fault. fault ≡ UnsealFault.MemoryOut) }
     ensures wrong_tag { IsMistagged key.now usage blob.now → MatchResult result (λ _. ⊥) (λ fault. fault ≢ UnsealFault.Short) }
+    // Under the types 19 and 20 the tag is judged before memory is asked for.
+    ensures bad_tag_sha2 { is_sha2 key.now.etype ≡ true → IsMistagged key.now usage blob.now → result ≡ Err UnsealFault.BadTag }
 {
     UsageKeys::new(key, usage).unseal(alloc, blob)
 }

@@ -1,6 +1,7 @@
 //! Policies, and what they ask of passwords.
 #![tactic(auto)]
 
+pub mod laws;
 pub mod numbers;
 pub mod passwords;
 pub mod policies;

@@ -4,6 +4,7 @@
 
 mod copies;
 pub mod keys;
+pub mod laws;
 pub mod measures;
 pub mod remembered;
 

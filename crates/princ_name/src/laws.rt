@@ -4,6 +4,7 @@ ghost use Rattle.std.specs.Prelude.{List, ℕ, ◌≡◌, ◌≢◌, ◌≤◌, 
 ghost use Rattle.std.specs.List.{list_all};
 ghost use Rattle.princ_name.specs.Answers.{IsRefusedAt};
 ghost use Rattle.princ_name.specs.Bytes.{can_stand};
+ghost use Rattle.princ_name.specs.Equal.{same_name};
 ghost use Rattle.princ_name.specs.Faults.{first_fault};
 ghost use Rattle.princ_name.specs.Names.{NameParts, IsName, printed, printed_parts};
 ghost use Rattle.princ_name.specs.PatternReadings.{pattern_in};
@@ -61,4 +62,9 @@ pub fn realms_print_as_they_are()
 /// A word has the pattern that it spells, and no other.
 pub fn word_has_its_pattern()
     ensures { (word given : List ℕ) (pattern : PatternShape) → (pattern_in word given ≡ Some pattern) ↔ SpellsPattern word given pattern }
+{}
+
+/// Names are equal exactly where they have one realm and the same components.
+pub fn equal_names_are_one()
+    ensures { (a b : NameParts) → (same_name a b ≡ true) ↔ (a ≡ b) }
 {}

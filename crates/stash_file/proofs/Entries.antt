@@ -2,11 +2,12 @@
 use Rattle.std.proofs.Common.{◌≡◌, ℕ, ◌+◌, ◌%◌, ◌^◌, ◌<◌, ◌≤◌, Bool, true, false, cond, eqb, List, [], ◌∷◌, ◌++◌, length, Option, Some, refl, sym, ap, subst, ◌∙◌, arith, inl, append_assoc}
 use Rattle.std.specs.Prelude.{◌&&◌, codes, map, option_map, reverse}
 use Rattle.std.specs.Option.{option_to_list}
-use Rattle.std.specs.List.{All, flat_map, list_all}
+use Rattle.std.specs.List.{All, AllByRecursion, flat_map, list_all}
 use Rattle.std.proofs.Math.Nat.{mod-lt}
 use Rattle.std.proofs.lemmas.Bool.{eqb-true, eq-eqb}
 use Rattle.std.proofs.lemmas.List.{append-nil, flat_map_more, length-append, map-append, reverse-append, reverse-reverse}
-use Rattle.std.proofs.lemmas.List.Elements.{All-append, All-from_recursion}
+use Rattle.std.proofs.lemmas.List.Elements.{All-append, All-from_recursion, recursion_from_All}
+use Rattle.std.proofs.lemmas.List.Sorted.{All-permutation, IsPermutation-reverse}
 use Rattle.kdb_base.specs.Etypes.{etype_of, key_len, number_of}
 use Rattle.kdb_base.specs.EtypeLaws.{key_fits, of_number, small_number}
 use Rattle.kdb_base.specs.declared.keys.Etype.{Etype}
@@ -18,7 +19,7 @@ use Rattle.kdb_format.specs.Readings.{big_at}
 use Rattle.kdb_format.specs.Spellings.{big}
 use Rattle.stash_file.specs.Keytabs.{with_version, has_length, Stands}
 use Rattle.stash_file.specs.Pieces.{Piece, entry_text, piece_text, told_by, unless_zero, version_from}
-use Rattle.stash_file.specs.Written.{entry_of, piece_of, stash_keys}
+use Rattle.stash_file.specs.Written.{entry_of, piece_of, stash_keys, stash_text, IsStashed}
 use Rattle.stash_file.specs.Stashes.{has_master_key, is_master, keys_by, stash_key, IsStash}
 use Rattle.stash_file.specs.declared.keys.StashKey.{StashKey}
 
@@ -153,3 +154,28 @@ pub rest_written : (realm : List ℕ) (secs : ℕ) (out : List ℕ) (masters res
 rest_written realm secs out masters rest f none =
     let whole : masters ≡ reverse f.done = f.whole ∙ ap (λ (ms : List Master). ms ++ reverse f.done) none in
     subst (IsWritten realm secs out) (sym (reverse-reverse f.done) ∙ ap reverse (sym whole)) f.written
+
+-- ---- a text that is said to be written
+
+each_stands : (realm : List ℕ) (secs : ℕ) → length realm ≤ 64 → secs < 2 ^ 32 → (masters : List Master) → AllByRecursion IsStashed masters
+    → AllByRecursion (Stands has_master_key) (map (piece_of realm secs) masters)
+each_stands realm secs short lt [] fits = tt
+each_stands realm secs short lt (m ∷ masters) fits = (written_fits realm secs m short lt fits.0.whole, each_stands realm secs short lt masters fits.1)
+
+each_told : (realm : List ℕ) (secs : ℕ) (masters : List Master) → AllByRecursion IsStashed masters → flat_map keys_by (map (piece_of realm secs) masters) ≡ map stashed masters
+each_told realm secs [] fits = refl
+each_told realm secs (m ∷ masters) fits =
+    ap (λ (ks : List StashKey). ks ++ flat_map keys_by (map (piece_of realm secs) masters)) (written_key realm secs m fits.0.version)
+    ∙ ap (λ (ks : List StashKey). stashed m ∷ ks) (each_told realm secs masters fits.1)
+
+pub stash_written : (realm : List ℕ) (secs : ℕ) (masters : List Master) → length realm ≤ 64 → secs < 2 ^ 32 → All IsStashed masters
+    → IsStash (stash_text realm secs masters) (stash_keys masters)
+unfolding stash_text
+stash_written realm secs masters short lt fits =
+    let turned : AllByRecursion IsStashed (reverse masters) =
+    recursion_from_All IsStashed (reverse masters) (All-permutation IsStashed masters (reverse masters) (IsPermutation-reverse masters) fits) in
+    all_written realm secs (stash_text realm secs masters) masters (record {
+      text = refl;
+      each = All-from_recursion (Stands has_master_key) _ (each_stands realm secs short lt (reverse masters) turned);
+      told = each_told realm secs (reverse masters) turned;
+    })

@@ -8,7 +8,8 @@ use Rattle.std.proofs.lemmas.Slice.Eq.{bytes_eq-Decides}
 use Rattle.std.proofs.lemmas.List.Elements.{All-append, All-from_recursion}
 use Rattle.kdb_format.specs.Fields.{IsBytes, IsBytes-back}
 use Rattle.kdb_format.specs.Spellings.{zeros}
-use Rattle.stash_file.specs.Keytabs.{with_version, IsBadText, IsEnd, IsText, NoPiece, Stands}
+use Rattle.stash_file.specs.Keytabs.{with_version, has_key, IsBadText, IsEnd, IsJudgedKeytab, IsText, NoPiece, Stands}
+use Rattle.stash_file.specs.Keytabs.IsJudgedKeytab.{Keytab, NoKeytab}
 use Rattle.stash_file.specs.Parsing.{piece_at}
 use Rattle.stash_file.specs.Pieces.{Piece, Told, piece_text, told_by}
 use Rattle.stash_file.specs.Stashes.{has_master_key, keys_by, IsJudged}
@@ -123,4 +124,11 @@ each_judged text fits =
     elim (judged has_master_key text fits) [
       | Whole pieces is ↦ Good (flat_map keys_by pieces) (record { pieces = pieces; is = is; told = refl })
       | Broken place bad ↦ Bad place bad
+    ]
+
+pub each_keytab_judged : (text : List ℕ) → IsBytes text → IsJudgedKeytab text
+each_keytab_judged text fits =
+    elim (judged has_key text fits) [
+      | Whole pieces is ↦ Keytab (flat_map told_by pieces) (record { pieces = pieces; is = is; told = refl })
+      | Broken place bad ↦ NoKeytab place bad
     ]

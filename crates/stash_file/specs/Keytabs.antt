@@ -75,3 +75,8 @@ pub record IsKeytab (text : List ℕ) (entries : List Told) : Type 0 where
 
 abbrev pub IsBadKeytab : List ℕ → ℕ → Type 0
 IsBadKeytab text place = IsBadText has_key text place
+
+-- A text is a keytab, or it is bad somewhere.
+pub data IsJudgedKeytab (text : List ℕ) : Type 0 where
+  Keytab : (entries : List Told) → IsKeytab text entries → IsJudgedKeytab text
+  NoKeytab : (place : ℕ) → IsBadKeytab text place → IsJudgedKeytab text

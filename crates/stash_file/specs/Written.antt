@@ -1,7 +1,7 @@
 -- The stash of master keys, as it is written.
-use Rattle.std.specs.Prelude.{ℕ, ◌%◌, List, [], ◌∷◌, map, codes, reverse}
+use Rattle.std.specs.Prelude.{◌≡◌, ℕ, ◌%◌, ◌^◌, ◌<◌, List, [], ◌∷◌, length, map, codes, reverse}
 use Rattle.std.specs.List.{flat_map}
-use Rattle.kdb_base.specs.Etypes.{number_of}
+use Rattle.kdb_base.specs.Etypes.{key_len, number_of}
 use Rattle.kdb_base.specs.declared.versions.Master.{Master}
 use Rattle.kdb_format.specs.Spellings.{big}
 use Rattle.stash_file.specs.Pieces.{Entry, Piece, piece_text}
@@ -31,3 +31,8 @@ stash_text realm secs masters = with_version (flat_map piece_text (map (piece_of
 
 unfoldable pub stash_keys : List Master → List StashKey
 stash_keys masters = map (λ m. record { version = m.version; key = m.key }) (reverse masters)
+
+-- a master key as long as keys of its type are, with a version of 32 bits
+pub record IsStashed (m : Master) : Type 0 where
+  pub whole : length m.key.bytes ≡ key_len m.key.etype
+  pub version : m.version < 2 ^ 32

@@ -16,4 +16,4 @@ returns-clause-others c =
 pub returns-clause-numbered : goal.returns-clause-numbered
 returns-clause-numbered c =
     let is : OnOk c.put-done.result (c.from_vec.result ≡ with_activation c.args.version c.args.secs c.args.list.now) = search rules in
-    numbered_after c.put-done.result c.args.version c.args.secs c.args.list.now c.from_vec.result c.requires is
+    numbered_after c.put-done.result c.args.version c.args.secs c.args.list.now c.from_vec.result is

@@ -83,3 +83,19 @@ returns-in-Sha2-clause-wrong_tag c =
     let same : u ≡ c.args.self.now = sym (ap use_of c.in-Sha2.is) ∙ c.self.view_is in
     (unseals_2 u c.args.self.now c.args.blob.now c.unseal-in-Sha2.result kind same
     c.unseal-in-Sha2.ensures.ok c.unseal-in-Sha2.ensures.short c.unseal-in-Sha2.ensures.bad_tag c.unseal-in-Sha2.ensures.after_seal).wrong_tag
+
+pub returns-in-Sha1-clause-bad_tag_sha2 : goal.returns-in-Sha1-clause-bad_tag_sha2
+returns-in-Sha1-clause-bad_tag_sha2 c =
+    let u = c.in-Sha1.keys in
+    let kind = subst (λ (k : Kept). IsKept k) c.in-Sha1.is c.self.invariant in
+    let same : u ≡ c.args.self.now = sym (ap use_of c.in-Sha1.is) ∙ c.self.view_is in
+    (unseals_1 u c.args.self.now c.args.blob.now c.unseal.result kind same
+    c.unseal.ensures.ok c.unseal.ensures.short c.unseal.ensures.bad_tag c.unseal.ensures.after_seal c.unseal.ensures.wrong_tag).bad_tag_sha2
+
+pub returns-in-Sha2-clause-bad_tag_sha2 : goal.returns-in-Sha2-clause-bad_tag_sha2
+returns-in-Sha2-clause-bad_tag_sha2 c =
+    let u = c.in-Sha2.keys in
+    let kind = subst (λ (k : Kept). IsKept k) c.in-Sha2.is c.self.invariant in
+    let same : u ≡ c.args.self.now = sym (ap use_of c.in-Sha2.is) ∙ c.self.view_is in
+    (unseals_2 u c.args.self.now c.args.blob.now c.unseal-in-Sha2.result kind same
+    c.unseal-in-Sha2.ensures.ok c.unseal-in-Sha2.ensures.short c.unseal-in-Sha2.ensures.bad_tag c.unseal-in-Sha2.ensures.after_seal).bad_tag_sha2
