@@ -1,5 +1,5 @@
 -- A change behind a log that is begun anew.
-use Rattle.std.proofs.Common.{◌≡◌, ◌≢◌, ℕ, ◌+◌, ◌*◌, ◌≤◌, inl, inr, ⊎_elim, List, [], ◌∷◌, length, map, Option, Some, refl, sym, ap, subst, ◌∙◌, arith}
+use Rattle.std.proofs.Common.{◌≡◌, ℕ, ◌≤◌, inl, inr, ⊎_elim, List, [], ◌∷◌, map, Option, Some, refl, sym, ap, subst, ◌∙◌}
 use Rattle.std.specs.Prelude.{Result, Ok, Err, OnOk, OnErr}
 use Rattle.std.proofs.lemmas.Result.{on_ok_weaker}
 use Rattle.kdb_base.specs.Moment.{Moment}
@@ -9,7 +9,6 @@ use Rattle.kdb_disk.specs.View.{View}
 use Rattle.kdb_disk.specs.Moments.{LeavesOnly}
 use Rattle.kdb_disk.proofs.Runs.{started, weaken, then_on}
 use Rattle.kdb_control.specs.Choice.{Choice}
-use Rattle.kdb_control.specs.declared.force.Force.{Force}
 use Rattle.kdb_control.specs.declared.force.Force.TheVariants.{Is}
 use Rattle.kdb_control.specs.Moments.{HasInForce}
 use Rattle.princ_entries.specs.declared.entries.Entry.{Entry}
@@ -19,7 +18,6 @@ use Rattle.princ_rows.specs.Rows.{RowLists}
 use Rattle.princ_rows.specs.Effects.{effect}
 use Rattle.update_log.specs.Logs.{Journal, ComesNext, begun, marker_of, with_prepared, log_committed, entry_of}
 use Rattle.update_log.specs.Moments.{HasLog, IsDurable}
-use Rattle.update_log.proofs.Spelled.{follows}
 use Rattle.kdb_cells.specs.CellFiles.{CellFile}
 use Rattle.kdb_cells.specs.FileCells.{IsFileOf}
 use Rattle.kdb_places.specs.Places.{Place, base_marker, change, last_point, next_point, last_entries, committed, log_anew}

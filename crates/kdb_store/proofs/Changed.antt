@@ -58,7 +58,13 @@ given_alike key i {old} {new} same given = record {
   from = given.from;
   within = subst (λ (n : ℕ). i ≤ n) (sym same.next_is) given.within;
   own = λ j is. given.own j (ap (λ (f : List ℕ → Option ℕ). f key) (sym same.of_is) ∙ is);
-  new = λ none k leads. given.new (ap (λ (f : List ℕ → Option ℕ). f key) (sym same.of_is) ∙ none) k (ap (λ (f : List ℕ → Option ℕ). f k) (sym same.of_is) ∙ leads);
+  new = λ none.
+      let least = given.new (ap (λ (f : List ℕ → Option ℕ). f key) (sym same.of_is) ∙ none) in
+      record {
+        first = least.first;
+        free = λ k leads. least.free k (ap (λ (f : List ℕ → Option ℕ). f k) (sym same.of_is) ∙ leads);
+        least = λ j from before free. least.least j from before (λ k leads. free k (ap (λ (f : List ℕ → Option ℕ). f k) same.of_is ∙ leads));
+      };
 }
 
 plan_alike : (w : UnitWrite) (op : Op) (rows : RowLists) {old new : CellFile} → LeadsAlike old new → IsPlan w op (units old) rows

@@ -17,6 +17,7 @@ use Rattle.store_files.specs.Kept.{Kept, IsKept, IsOnDisk, place_kept, with_part
 use Rattle.store_files.specs.Recovery.{LeavesPart}
 use Rattle.store_files.proofs.Placed.{last_held}
 use Rattle.kdb_store.specs.Parts.{StandsOn}
+use Rattle.kdb_store.specs.Writes.{HasEntered}
 
 kept_point : (k : Kept) (d : Logged) → 0 < length k.log.held → point_of (place_kept k) ≡ (get_or k.log.held (length k.log.held - 1) d).entry.point
 kept_point k d some = last_held no_point k.log.held d some
@@ -72,3 +73,8 @@ pub crash_told : {late new : View} (k old : Kept) (op : Op) (point : Point) (tim
 crash_told {late} {new} k old op point time is same run =
     subst (λ (x : Kept). LeavesOnly late new (LeavesPart (place_kept x) (committed op time (place_kept x) ∷ []))) is
     (subst (λ (t : Moment). LeavesOnly late new (LeavesPart (place_kept k) (committed op t (place_kept k) ∷ []))) same run)
+
+-- the entry that was made, of what is kept
+pub entered_at : (k now : Kept) (op : Op) (p q : Point) (log : Journal) → k ≡ now → p ≡ q → HasEntered op p k.log log k.cells k.rows → HasEntered op q now.log log now.cells now.rows
+entered_at k now op p q log is at entered =
+    subst (λ (x : Kept). HasEntered op q x.log log x.cells x.rows) is (subst (λ (x : Point). HasEntered op x k.log log k.cells k.rows) at entered)

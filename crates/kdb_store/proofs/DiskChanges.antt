@@ -1,10 +1,11 @@
 -- A change on the disk: the unit is written behind the entry.
-use Rattle.std.proofs.Common.{◌≡◌, ◌≢◌, ℕ, ◌*◌, inr, ⊎_elim, List, Option, sym, ap, subst, ◌∙◌}
+use Rattle.std.proofs.Common.{◌≡◌, ◌≢◌, ℕ, zero, suc, ◌*◌, refl, inr, ⊎_elim, List, Option, sym, ap, subst, ◌∙◌}
 use Rattle.std.specs.Prelude.{Ok}
 use Rattle.std.proofs.lemmas.Bool.{cases_eq}
 use Rattle.kdb_disk.specs.Files.{Files}
 use Rattle.kdb_disk.specs.View.{View}
 use Rattle.kdb_disk.specs.Moments.{LeavesOnly, LeavesTorn}
+use Rattle.kdb_disk.proofs.Puts.{written-other}
 use Rattle.kdb_disk.proofs.Runs.{started, then_on}
 use Rattle.princ_entries.specs.declared.entries.Logged.{Logged}
 use Rattle.update_log.specs.Logs.{Journal, with_prepared}
@@ -95,3 +96,11 @@ noted_commit {log} {cells} {l} {o} {v} noted p is may = record {
 -- what is written in format 2 is written in the format of the file
 pub writes_there : (cells : CellFile) (w : UnitWrite) (left : Cell) → cells.format ≡ 2 → Writes w left → WritesIn cells.format w left
 writes_there cells w left newer writes = subst (λ (f : ℕ). WritesIn f w left) (sym newer) writes
+
+-- no file is written but the log and the file of cells
+pub others_stay : {D : Type 0} (view : D → View) (old mid new : D) (log image at n : ℕ) → ReadsOthers log (view old) (view mid) → (n ≡ 0 → new ≡ mid) → (n ≢ 0 → IsWritten image at (view mid) (view new))
+    → (g : ℕ) → g ≢ log → g ≢ image → (view new).seen g ≡ (view old).seen g
+others_stay view old mid new log image at zero entry none unit g apart other = ap (λ d. (view d).seen g) (none refl) ∙ entry g apart
+others_stay view old mid new log image at (suc n) entry none unit g apart other =
+    let written = unit (λ e. cc) in
+    ap (λ (f : Files). f g) written.seen ∙ written-other image g at written.bytes (view mid).seen other ∙ entry g apart

@@ -1,12 +1,11 @@
 -- A change behind a log that is begun anew.
-use Rattle.std.specs.Prelude.{◌≡◌, ◌+◌, ◌∷◌, [], ℕ, Some}
+use Rattle.std.specs.Prelude.{◌≡◌, ◌+◌, Some}
 use Rattle.kdb_base.specs.Moment.{Moment}
 use Rattle.kdb_base.specs.declared.moments.Point.{Point}
 use Rattle.kdb_disk.specs.View.{View}
 use Rattle.kdb_control.specs.Choice.{Choice}
 use Rattle.princ_entries.specs.Entries.{IsOp}
 use Rattle.princ_entries.specs.declared.entries.Entry.{Entry}
-use Rattle.princ_entries.specs.declared.entries.Logged.{Logged}
 use Rattle.princ_entries.specs.declared.entries.Op.{Op}
 use Rattle.princ_rows.specs.Rows.{AreRows}
 use Rattle.princ_rows.specs.Effects.{effect, IsRoom}

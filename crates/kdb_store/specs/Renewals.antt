@@ -5,6 +5,7 @@ use Rattle.kdb_control.specs.Choice.{Choice}
 use Rattle.princ_rows.specs.Rows.{RowLists}
 use Rattle.update_log.specs.Logs.{Journal, begun}
 use Rattle.kdb_cells.specs.CellFiles.{CellFile}
+use Rattle.cell_files.specs.NewFiles.{file_text}
 use Rattle.store_files.specs.Kept.{AreIndexed}
 use Rattle.store_switches.specs.Renewed.{renewed_choice, HasRows}
 use Rattle.kdb_store.specs.declared.replacing.Renewal.{Renewal}
@@ -13,6 +14,7 @@ use Rattle.kdb_store.specs.declared.replacing.Renewal.{Renewal}
 pub record IsPlanned (next : Choice) (realm : List ℕ) (rows : RowLists) (plan : Renewal) : Type 0 where
   pub file_is : plan.image.cells.file ≡ next.image
   pub has_rows : HasRows realm rows plan.image
+  pub content : plan.image.content ≡ file_text 2 realm next.base rows
   pub log_is : plan.log ≡ begun next.log next.base next.size next.block
 
 -- The choice is the one that comes next, the log is begun at its base, and the index of its file of cells leads to these

@@ -1,13 +1,17 @@
 -- What a change writes into its unit.
-use Rattle.std.specs.Prelude.{◌≡◌, ◌≢◌, ◌≤◌, Some}
+use Rattle.std.specs.Prelude.{◌≡◌, ◌≢◌, ◌≤◌, ℕ, [], ◌∷◌, ◌++◌, Some}
 use Rattle.std.specs.List.{All}
 use Rattle.princ_rows.specs.Rows.{RowLists}
 use Rattle.princ_entries.specs.declared.entries.Op.{Op}
 use Rattle.princ_entries.specs.declared.entries.Op.TheVariants.{PutPrinc, DropPrinc, Rename, PutPolicy, DropPolicy}
+use Rattle.kdb_base.specs.declared.moments.Point.{Point}
 use Rattle.kdb_cells.specs.Cells.{Cell}
+use Rattle.kdb_cells.specs.CellFiles.{CellFile, units}
 use Rattle.kdb_cells.specs.Changes.{cell_after}
 use Rattle.princ_entries.specs.Entries.{key_of}
+use Rattle.kdb_places.specs.Places.{change}
 use Rattle.store_files.specs.Standing.{IsGivenFor}
+use Rattle.update_log.specs.Logs.{Journal, newest}
 use Rattle.kdb_cells.specs.Sheets.{last_unit}
 use Rattle.kdb_cells.specs.Leads.{Units}
 use Rattle.store_opening.specs.declared.unit_writes.UnitWrite.{UnitWrite}
@@ -25,6 +29,17 @@ HasNoRow (DropPrinc name) rows = All (λ q. q.name ≡ name → ⊥) rows.princs
 HasNoRow (Rename old p) rows = ⊥
 HasNoRow (PutPolicy p) rows = ⊥
 HasNoRow (DropPolicy name) rows = All (λ q. q.name ≡ name → ⊥) rows.policies
+
+-- An entry's unit: the one that is given for its key, or none, which is the number 0, where it drops what is not there.
+pub record HasUnit (op : Op) (cell : ℕ) (u : Units) (rows : RowLists) : Type 0 where
+  pub given : cell ≢ 0 → IsGivenFor (key_of (Some op)) cell u
+  pub none : cell ≡ 0 → HasNoRow op rows
+
+-- The log holds one entry more, that of the change at this point in its unit, and of the others the last ones.
+pub record HasEntered (op : Op) (point : Point) (old new : Journal) (cells : CellFile) (rows : RowLists) : Type 0 where
+  pub cell : ℕ
+  pub unit : HasUnit op cell (units cells) rows
+  pub held : new.held ≡ newest old.size (old.held ++ record { entry = change op point; cell = cell } ∷ [])
 
 -- What is written for a change: into the unit that is given for its key, or nothing where it drops what is not there.
 pub record IsPlan (w : UnitWrite) (op : Op) (u : Units) (rows : RowLists) : Type 0 where

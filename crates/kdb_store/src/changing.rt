@@ -22,7 +22,7 @@ ghost use Rattle.store_files.specs.Kept.{Kept, AreIndexed, IsOnDisk, place_kept,
 ghost use Rattle.store_files.specs.Recovery.{LeavesPart};
 ghost use Rattle.store_files.specs.Standing.{Holds, IsUnderWay, after};
 ghost use Rattle.kdb_store.specs.Parts.{LeadsAlike, HoldsAlike, MayCommit, SameNumbers, StandsOn};
-ghost use Rattle.kdb_store.specs.Writes.{number_of, Writes, IsGivenTo, MayWrite, HoldsCells, IsPlan};
+ghost use Rattle.kdb_store.specs.Writes.{number_of, Writes, IsGivenTo, MayWrite, HasEntered, HoldsCells, IsPlan};
 
 use crate::disk_changes::write_change;
 use crate::writing::plan;
@@ -115,6 +115,7 @@ fn write_begun<D: Disk>(
         → OnOk result (Holds (after (record { entry = entry; cell = number_of write }) o) (D.view disk.new)) }
     ensures file { D.tells → (o : Found) → MayCommit log.old cells.old (record { entry = entry; cell = number_of write }) o (D.view disk.old)
         → OnOk result (IsFileOf cells.new (after (record { entry = entry; cell = number_of write }) o).sheet ((D.view disk.new).seen cells.old.file)) }
+    ensures others { D.tells → OnOk result ((g : ℕ) → g ≢ log.old.file → g ≢ cells.old.file → (D.view disk.new).seen g ≡ (D.view disk.old).seen g) }
     ensures log { D.tells → OnOk result (HasLog log.new (D.view disk.new)) }
     ensures durable { D.tells → OnOk result (IsDurable log.new.file (D.view disk.new)) }
     ensures held { OnOk result (log.new ≡ log_committed (with_prepared (Some (record { entry = entry; cell = number_of write })) log.old)) }
@@ -166,6 +167,7 @@ pub(crate) fn change<D: Disk>(
     ensures back { OnErr result (rows.new ≡ rows.old) }
     ensures indexed { AreIndexed cells.new rows.new }
     ensures held { OnOk result (map entry_of log.new.held ≡ last_entries log.old.size (map entry_of log.old.held ++ record { point = point; op = Some op } ∷ [])) }
+    ensures entered { OnOk result (HasEntered op point log.old log.new cells.old rows.old) }
     ensures alike { SameNumbers log.old log.new }
     ensures kept { OnErr result (HoldsAlike log.old log.new) }
     ensures number { cells.new.file ≡ cells.old.file }
@@ -174,6 +176,7 @@ pub(crate) fn change<D: Disk>(
         → LeavesOnly (D.view disk.old) (D.view disk.new) (LeavesPart (place_kept (with_parts log.old cells.old rows.old k)) (committed op point.time (place_kept (with_parts log.old cells.old rows.old k)) ∷ [])) }
     ensures on { D.tells → (k : Kept) → StandsOn log.old cells.old rows.old k point (D.view disk.old)
         → OnOk result (IsOnDisk (with_parts log.new cells.new rows.new k) (D.view disk.new)) }
+    ensures others { D.tells → OnOk result ((g : ℕ) → g ≢ log.old.file → g ≢ cells.old.file → (D.view disk.new).seen g ≡ (D.view disk.old).seen g) }
     ensures still { D.tells → (k : Kept) → StandsOn log.old cells.old rows.old k point (D.view disk.old)
         → result ≡ Err IsMemoryOut → IsOnDisk (with_parts log.new cells.new rows.new k) (D.view disk.new) }
     ensures memory { result ≡ Err IsMemoryOut → disk.new ≡ disk.old }

@@ -1,5 +1,5 @@
 //! A change of a database.
-ghost use Rattle.std.specs.Prelude.{◌≡◌, ◌≢◌, ◌≤◌, ◌<◌, ◌-◌, ◌+◌, ◌∷◌, [], true, false, Some, Err, IfOk, OnOk, OnErr, length, slice_index_or};
+ghost use Rattle.std.specs.Prelude.{◌≡◌, ◌≢◌, ◌≤◌, ◌<◌, ◌-◌, ◌+◌, ◌∷◌, [], ℕ, true, false, Some, Err, IfOk, OnOk, OnErr, length, slice_index_or};
 ghost use Rattle.kdb_base.specs.Moments.{micros};
 ghost use Rattle.kdb_base.specs.declared.outcomes.Halt.TheVariants.{MemoryOut as IsMemoryOut, DiskFault as IsDiskFault};
 ghost use Rattle.kdb_disk.specs.View.{View};
@@ -12,6 +12,7 @@ ghost use Rattle.kdb_places.specs.Applying.{may_apply};
 ghost use Rattle.kdb_places.specs.Places.{point_of, next_point, committed};
 ghost use Rattle.store_files.specs.Kept.{IsOnDisk, place_kept};
 ghost use Rattle.store_files.specs.Recovery.{LeavesPart};
+ghost use Rattle.kdb_store.specs.Writes.{HasEntered};
 
 use crate::changing::change;
 use crate::database::Database;
@@ -69,7 +70,11 @@ impl Database {
         ensures point { IfOk result (λ point. point ≡ next_point time (place_kept self.old)) }
         ensures place { OnOk result (place_kept self.new ≡ committed op time (place_kept self.old)) }
         ensures control { self.new.control ≡ self.old.control }
+        // The entry names the unit of its row: the one that the row has, the least free one for a new row, or none.
+        ensures entered { OnOk result (HasEntered op (next_point time (place_kept self.old)) self.old.log self.new.log self.old.cells self.old.rows) }
         ensures on { D.tells → OnOk result (IsOnDisk self.new (D.view disk.new)) }
+        // No file is written but the log and the file of cells that are in force.
+        ensures others { D.tells → OnOk result ((g : ℕ) → g ≢ self.old.control.log → g ≢ self.old.control.image → (D.view disk.new).seen g ≡ (D.view disk.old).seen g) }
         ensures crash { IsCrashSafe D.Disk disk.old disk.new (LeavesPart (place_kept self.old) (committed op time (place_kept self.old) ∷ [])) }
         ensures err { OnErr result (place_kept self.new ≡ place_kept self.old) }
         ensures memory { result ≡ Err IsMemoryOut → disk.new ≡ disk.old }

@@ -1,5 +1,5 @@
 //! A change on the disk: its entry in the log, and then its unit.
-ghost use Rattle.std.specs.Prelude.{◌≡◌, ◌≢◌, ◌≤◌, ◌-◌, ◌*◌, List, Some, Err, OnOk, OnErr, IsErr, length};
+ghost use Rattle.std.specs.Prelude.{◌≡◌, ◌≢◌, ◌≤◌, ◌-◌, ◌*◌, ℕ, List, Some, Err, OnOk, OnErr, IsErr, length};
 ghost use Rattle.kdb_base.specs.declared.outcomes.Halt.TheVariants.{MemoryOut as IsMemoryOut, DiskFault as IsDiskFault};
 ghost use Rattle.kdb_disk.specs.View.{View};
 ghost use Rattle.kdb_disk.specs.Frames.{IsCall};
@@ -51,6 +51,7 @@ pub(crate) fn write_prepared<D: Disk>(
         → OnOk result (Holds (after (record { entry = entry.now; cell = number_of write }) o) (D.view disk.new)) }
     ensures file { D.tells → (o : Found) → MayCommit log.old cells.old (record { entry = entry.now; cell = number_of write }) o (D.view disk.old)
         → OnOk result (IsFileOf cells.new (after (record { entry = entry.now; cell = number_of write }) o).sheet ((D.view disk.new).seen cells.old.file)) }
+    ensures others { D.tells → OnOk result ((g : ℕ) → g ≢ log.old.file → g ≢ cells.old.file → (D.view disk.new).seen g ≡ (D.view disk.old).seen g) }
     ensures log { D.tells → OnOk result (HasLog log.new (D.view disk.new)) }
     ensures durable { D.tells → OnOk result (IsDurable log.new.file (D.view disk.new)) }
     ensures held { OnOk result (log.new ≡ log_committed log.old) }
@@ -104,6 +105,7 @@ pub(crate) fn write_change<D: Disk>(
         → OnOk result (Holds (after (record { entry = entry.now; cell = number_of write }) o) (D.view disk.new)) }
     ensures file { D.tells → (o : Found) → MayCommit log.old cells.old (record { entry = entry.now; cell = number_of write }) o (D.view disk.old)
         → OnOk result (IsFileOf cells.new (after (record { entry = entry.now; cell = number_of write }) o).sheet ((D.view disk.new).seen cells.old.file)) }
+    ensures others { D.tells → OnOk result ((g : ℕ) → g ≢ log.old.file → g ≢ cells.old.file → (D.view disk.new).seen g ≡ (D.view disk.old).seen g) }
     ensures log { D.tells → OnOk result (HasLog log.new (D.view disk.new)) }
     ensures durable { D.tells → OnOk result (IsDurable log.new.file (D.view disk.new)) }
     ensures held { OnOk result (log.new ≡ log_committed (with_prepared (Some (record { entry = entry.now; cell = number_of write })) log.old)) }

@@ -1,5 +1,5 @@
 //! A database made anew.
-ghost use Rattle.std.specs.Prelude.{◌≡◌, ◌≢◌, ◌&&◌, true, false, nat_le, Err, IfOk, option_map};
+ghost use Rattle.std.specs.Prelude.{◌≡◌, ◌≢◌, ◌&&◌, true, false, nat_le, Err, IfOk, OnOk, option_map};
 ghost use Rattle.std.specs.List.{All};
 ghost use Rattle.kdb_base.specs.declared.outcomes.Halt.TheVariants.{MemoryOut as IsMemoryOut, DiskFault as IsDiskFault};
 ghost use Rattle.kdb_base.specs.declared.outcomes.Refusal.{Refusal as Refuses};
@@ -10,12 +10,15 @@ ghost use Rattle.kdb_disk.specs.View.{View};
 ghost use Rattle.kdb_control.specs.declared.force.Force.TheVariants.{Nothing};
 ghost use Rattle.kdb_control.specs.Force.{in_force};
 ghost use Rattle.princ_name.specs.Realms.{IsRealm};
+ghost use Rattle.cell_files.specs.NewFiles.{file_text};
 ghost use Rattle.kdb_cells.specs.Cells.{IsRowOf};
 ghost use Rattle.kdb_cells.specs.CellFiles.{is_format};
 ghost use Rattle.kdb_places.specs.Places.{created};
 ghost use Rattle.store_files.specs.Kept.{IsKept, IsOnDisk, place_kept};
 ghost use Rattle.store_files.specs.Recovery.{Creates};
-ghost use Rattle.store_opening.specs.Made.{AnswersMade};
+ghost use Rattle.store_files.specs.Switches.{first_choice};
+ghost use Rattle.store_opening.specs.Made.{AnswersMade, first_stash};
+ghost use Rattle.store_opening.specs.Moments.{HasFile};
 ghost use Rattle.store_opening.specs.Parts.{kept_of};
 
 use crate::database::Database;
@@ -68,6 +71,10 @@ impl Database {
         ensures answer { D.tells → AnswersMade result (in_force ((D.view disk.old).seen 0)) }
         ensures place { IfOk result (λ d. place_kept d ≡ created realm.now rows base size block (option_map (λ s. s.now) stash.entry) format) }
         ensures whole { IfOk result (λ d. d.broken ≡ false) }
+        // The files are the first of each kind, and so is the turn of the slot.
+        ensures control { IfOk result (λ d. d.control ≡ first_choice format (first_stash (option_map (λ s. s.now) stash.entry)) base size block) }
+        // The rows stand one behind the other from the first unit on, in their order, whatever a crash leaves.
+        ensures written { D.tells → OnOk result (HasFile 1 (file_text format realm.now base rows) (D.view disk.new)) }
         ensures on { D.tells → IfOk result (λ d. IsOnDisk d (D.view disk.new)) }
         ensures moments { D.tells → LeavesOnly (D.view disk.old) (D.view disk.new) (Creates (D.view disk.old) (created realm.now rows base size block (option_map (λ s. s.now) stash.entry) format)) }
         ensures refused { D.tells → (refusal : Refuses) → result ≡ Err (Refused refusal) → Keeps (D.view disk.old) (D.view disk.new) }

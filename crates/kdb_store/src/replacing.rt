@@ -8,6 +8,7 @@ ghost use Rattle.kdb_control.specs.declared.force.Force.TheVariants.{Is};
 ghost use Rattle.kdb_control.specs.Moments.{HasInForce};
 ghost use Rattle.princ_rows.specs.Rows.{RowLists};
 ghost use Rattle.update_log.specs.Logs.{begun};
+ghost use Rattle.cell_files.specs.NewFiles.{file_text};
 ghost use Rattle.kdb_cells.specs.CellFiles.{is_image};
 ghost use Rattle.kdb_places.specs.Places.{log_anew, replaced};
 ghost use Rattle.store_files.specs.Kept.{Kept, IsOnDisk, place_kept};
@@ -79,6 +80,7 @@ fn put_renewal<D: Disk>(
         → LeavesOnly (D.view disk.old) (D.view disk.new) (LeavesPart (place_kept k) (place_renewed next.now.base next.now.size next.now.block realm rows (place_kept k) ∷ [])) }
     ensures on { D.tells → (k : Kept) → (realm : List ℕ) → (rows : RowLists) → IsUnder now.now k (D.view disk.old) → HasRows realm rows plan.image
         → OnOk result (IsOnDisk (renewed next.now log.new cells.new realm rows k) (D.view disk.new)) }
+    ensures written { D.tells → OnOk result ((D.view disk.new).seen next.now.image ≡ plan.image.content) }
     ensures call { IsCall D.Disk disk.old disk.new (IsErr result) }
 {
     let mut plan = plan;
@@ -117,6 +119,7 @@ fn renew_parts<D: Disk>(
         → LeavesOnly (D.view disk.old) (D.view disk.new) (LeavesPart (place_kept k) (place_renewed base size block realm.now rows.now (place_kept k) ∷ [])) }
     ensures on { D.tells → (k : Kept) → IsUnder control.old k (D.view disk.old)
         → OnOk result (IsOnDisk (renewed control.new log.new cells.new realm.now rows.now k) (D.view disk.new)) }
+    ensures written { D.tells → OnOk result ((D.view disk.new).seen control.new.image ≡ file_text 2 realm.now base rows.now) }
     ensures memory { result ≡ Err IsMemoryOut → disk.new ≡ disk.old }
     ensures call { IsCall D.Disk disk.old disk.new (result ≡ Err IsDiskFault) }
 {
@@ -159,6 +162,7 @@ fn replace_parts<D: Disk>(
         → LeavesOnly (D.view disk.old) (D.view disk.new) (LeavesPart (place_kept k) (place_renewed base control.old.size control.old.block new_realm new (place_kept k) ∷ [])) }
     ensures on { D.tells → (k : Kept) → IsUnder control.old k (D.view disk.old)
         → OnOk result (IsOnDisk (renewed control.new log.new cells.new realm.new rows.new k) (D.view disk.new)) }
+    ensures written { D.tells → OnOk result ((D.view disk.new).seen control.new.image ≡ file_text 2 new_realm base new) }
     ensures memory { result ≡ Err IsMemoryOut → disk.new ≡ disk.old }
     ensures call { IsCall D.Disk disk.old disk.new (result ≡ Err IsDiskFault) }
 {
@@ -198,6 +202,8 @@ impl Database {
         requires block { (2048 ≤ block) × (block ≤ 16384) }
         ensures place { OnOk result (place_kept self.new ≡ log_anew base size block (place_kept self.old)) }
         ensures on { D.tells → OnOk result (IsOnDisk self.new (D.view disk.new)) }
+        // The rows stand one behind the other from the first unit on, in their order.
+        ensures written { D.tells → OnOk result ((D.view disk.new).seen self.new.control.image ≡ file_text 2 self.old.realm base self.old.rows) }
         ensures crash { IsCrashSafe D.Disk disk.old disk.new (LeavesPart (place_kept self.old) (log_anew base size block (place_kept self.old) ∷ [])) }
         ensures err { OnErr result (place_kept self.new ≡ place_kept self.old) }
         ensures memory { result ≡ Err IsMemoryOut → disk.new ≡ disk.old }
@@ -247,6 +253,8 @@ impl Database {
         requires whole { self.old.broken ≡ false }
         ensures place { OnOk result (place_kept self.new ≡ replaced realm rows base (place_kept self.old)) }
         ensures on { D.tells → OnOk result (IsOnDisk self.new (D.view disk.new)) }
+        // The rows stand one behind the other from the first unit on, in their order.
+        ensures written { D.tells → OnOk result ((D.view disk.new).seen self.new.control.image ≡ file_text 2 realm base rows) }
         ensures crash { IsCrashSafe D.Disk disk.old disk.new (LeavesPart (place_kept self.old) (replaced realm rows base (place_kept self.old) ∷ [])) }
         ensures err { OnErr result (place_kept self.new ≡ place_kept self.old) }
         ensures memory { result ≡ Err IsMemoryOut → disk.new ≡ disk.old }

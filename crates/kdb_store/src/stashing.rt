@@ -30,6 +30,7 @@ fn restash_parts<D: Disk>(
 ) -> Result<(), Halt>
     requires force { D.tells → HasInForce (Is control.old) (D.view disk.old) }
     ensures control { OnOk result (control.new ≡ stash_choice control.new.stash control.old) }
+    ensures first { OnOk result (control.old.stash ≡ 0 → control.new.stash ≡ 5) }
     ensures stash { OnOk result (stash.new ≡ Some bytes.now) }
     ensures same_control { OnErr result (control.new ≡ control.old) }
     ensures same_stash { OnErr result (stash.new ≡ stash.old) }
@@ -68,6 +69,8 @@ impl Database {
         requires on { D.tells → IsOnDisk self.old (D.view disk.old) }
         requires whole { self.old.broken ≡ false }
         ensures place { OnOk result (place_kept self.new ≡ restashed bytes.now (place_kept self.old)) }
+        // The first stash of a database without one stands in the first of the two files.
+        ensures first { OnOk result (self.old.control.stash ≡ 0 → self.new.control.stash ≡ 5) }
         ensures on { D.tells → OnOk result (IsOnDisk self.new (D.view disk.new)) }
         ensures crash { IsCrashSafe D.Disk disk.old disk.new (LeavesPart (place_kept self.old) (restashed bytes.now (place_kept self.old) ∷ [])) }
         ensures err { OnErr result (place_kept self.new ≡ place_kept self.old) }

@@ -50,7 +50,7 @@ key_there key c r is has = subst (HasKey key) is has
 
 own_old : (u : Units) (cells : List Cell) (rows : RowLists) (op : Op) (i : ℕ) (r : StoredRow) (o : Option ℕ) → AreRowCells u cells rows
     → IsOp (Some op) → IsGivenFor (key_of (Some op)) i u → u.of (key_of (Some op)) ≡ o → cell_no i cells ≡ Some r → has_old op (Some r) ≡ true
-own_old u cells rows op i r None is fits given leads here = absurd (given.new leads (name_of r) (is.are.found i r here))
+own_old u cells rows op i r None is fits given leads here = absurd ((given.new leads).free (name_of r) (is.are.found i r here))
 own_old u cells rows op i r (Some j) is fits given leads here =
     let same = given.own j leads in
     key_old u cells rows op i r is fits here

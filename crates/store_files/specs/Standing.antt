@@ -18,7 +18,7 @@ use Rattle.kdb_cells.specs.Cells.{Cell}
 use Rattle.kdb_cells.specs.Sheets.{Sheet, count_of, sheet_in}
 use Rattle.kdb_cells.specs.Changes.{rows_of, cell_no}
 use Rattle.kdb_cells.specs.FileCells.{AreCellsOf, MayStand}
-use Rattle.kdb_cells.specs.Leads.{Units, IsFree}
+use Rattle.kdb_cells.specs.Leads.{Units, IsLeastFree}
 use Rattle.kdb_cells.specs.Scanning.{skipping}
 use Rattle.store_files.specs.Found.{Found, unit_changed, left_by, with_unit, redone, last_of, stash_in, found_in}
 
@@ -117,12 +117,12 @@ pub record IsUnitFor (op : Op) (unit : Option ℕ) (cells : List Cell) : Type 0 
   pub others : (j : ℕ) → unit ≢ Some j → has_old op (cell_no j cells) ≡ false
   pub own : (i : ℕ) (r : StoredRow) → unit ≡ Some i → cell_no i cells ≡ Some r → has_old op (Some r) ≡ true
 
--- The unit that is given for a key: its own, or one to which no key leads, in the file or the next one.
+-- The unit that is given for a key: its own, or the least one to which no key leads, in the file or the next one.
 pub record IsGivenFor (key : List ℕ) (i : ℕ) (u : Units) : Type 0 where
   pub from : 1 ≤ i
   pub within : i ≤ u.next
   pub own : (j : ℕ) → u.of key ≡ Some j → i ≡ j
-  pub new : u.of key ≡ None → IsFree i u
+  pub new : u.of key ≡ None → IsLeastFree i u
 
 -- The rows in memory are those of the cells to which the index leads.
 pub record AreRowCells (u : Units) (cells : List Cell) (rows : RowLists) : Type 0 where

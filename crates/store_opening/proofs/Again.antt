@@ -1,12 +1,11 @@
 -- What the last entry leaves, and what is planned for it.
-use Rattle.std.proofs.Common.{◌≡◌, ℕ, suc, ◌+◌, ◌-◌, ◌*◌, ◌<◌, ◌≤◌, ⊎_elim, Bool, true, false, not, ◌||◌, ◌&&◌, List, [], ◌∷◌, length, get_or, Option, Some, None, refl, sym, ap, subst, ◌∙◌, arith}
-use Rattle.std.specs.Prelude.{nat_eq, nat_lt}
+use Rattle.std.proofs.Common.{◌≡◌, ℕ, ◌+◌, ◌-◌, ◌<◌, ◌≤◌, ⊎_elim, Bool, true, false, not, ◌||◌, List, length, Option, Some, None, refl, sym, ap, subst, ◌∙◌, arith}
+use Rattle.std.specs.Prelude.{nat_eq}
 use Rattle.std.specs.List.{AllByRecursion}
 use Rattle.std.specs.Str.{bytes_eq}
-use Rattle.std.proofs.lemmas.Bool.{cases_eq, and_parts, eq-eqb, ltb-true, le-ltb, true≢false}
+use Rattle.std.proofs.lemmas.Bool.{cases_eq, eq-eqb, le-ltb, true≢false}
 use Rattle.std.proofs.lemmas.List.Elements.{All-get_or}
 use Rattle.kdb_base.specs.Limits.{most_rows}
-use Rattle.kdb_base.specs.declared.moments.Point.{Point}
 use Rattle.kdb_control.specs.Choice.{Choice}
 use Rattle.policy_rules.specs.Rules.{Rules}
 use Rattle.princ_record.specs.RowLimits.{IsRow, is_row_1}
@@ -14,11 +13,10 @@ use Rattle.princ_record.specs.RowLaws.{row_1_from}
 use Rattle.princ_record.specs.declared.princs.Princ.{Princ as Principal}
 use Rattle.princ_rows.specs.Rows.{RowLists, princ_keys, policy_keys}
 use Rattle.princ_entries.specs.Entries.{IsOp}
-use Rattle.princ_entries.specs.declared.entries.Entry.{Entry}
 use Rattle.princ_entries.specs.declared.entries.Logged.{Logged}
 use Rattle.princ_entries.specs.declared.entries.Op.{Op}
 use Rattle.princ_entries.specs.declared.entries.Op.TheVariants.{PutPrinc, DropPrinc, Rename, PutPolicy, DropPolicy}
-use Rattle.update_log.specs.Logs.{Journal, IsMarked, marker_of}
+use Rattle.update_log.specs.Logs.{Journal, marker_of}
 use Rattle.update_log.specs.Runs.{stands_in, stands_in_1}
 use Rattle.update_log.specs.Slots.{IsSpelled}
 use Rattle.kdb_cells.specs.declared.units.StoredRow.{StoredRow}
@@ -27,22 +25,18 @@ use Rattle.kdb_cells.specs.declared.files.Scanned.{Scanned}
 use Rattle.kdb_cells.specs.Cells.{Cell, IsCell, IsRowOf, name_of}
 use Rattle.kdb_cells.specs.CellFiles.{CellFile, units, count}
 use Rattle.kdb_cells.specs.Changes.{rows_of, cell_no}
-use Rattle.kdb_cells.specs.FileCells.{AreCellsOf, MayStand}
-use Rattle.kdb_cells.specs.Leads.{Units}
 use Rattle.kdb_cells.specs.Scanning.{IsGathered, princs_of, policies_of}
-use Rattle.kdb_cells.specs.Sheets.{clash, clashes, taken, taken_by, last_unit, is_too_far}
+use Rattle.kdb_cells.specs.Sheets.{clash, taken, taken_by, last_unit, is_too_far}
 use Rattle.kdb_cells.proofs.Apart.{princ_alone, policy_alone, taken_rows}
-use Rattle.store_files.specs.Found.{unit_numbered, unit_changed, left_by, with_unit, redone, is_placed, last_of}
-use Rattle.store_files.specs.Standing.{HasFiles, MayChange}
-use Rattle.store_files.proofs.Finding.{numbered}
+use Rattle.store_files.specs.Found.{unit_numbered, unit_changed, left_by, with_unit, redone, is_placed}
+use Rattle.store_files.specs.Standing.{MayChange}
 use Rattle.store_files.proofs.Units.{clash_turned, numbered_none, numbered_some}
 use Rattle.store_opening.specs.declared.looking.Again.{Again}
-use Rattle.store_opening.specs.declared.parts.Parts.{Parts}
 use Rattle.store_opening.specs.declared.unit_writes.UnitWrite.{UnitWrite}
 use Rattle.store_opening.specs.declared.unit_writes.UnitWrite.TheVariants.{Nothing, Put, Free}
 use Rattle.store_opening.specs.Looking.{last_read, IsHeaded, IsFitting, IsLeft, IsAgain}
 use Rattle.store_opening.specs.Redoing.{AreUnits, IsHeld, MayJoin, MayHold}
-use Rattle.store_opening.specs.Writes.{number_of, IsGivenTo, MayPut, MayWrite}
+use Rattle.store_opening.specs.Writes.{number_of, IsGivenTo, MayWrite}
 use Rattle.store_opening.proofs.Placing.{no_clash_at, held_from}
 
 -- ---- what an entry leaves

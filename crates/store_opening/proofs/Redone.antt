@@ -12,7 +12,7 @@ use Rattle.kdb_cells.specs.Scanning.{skipping}
 use Rattle.kdb_cells.specs.Sheets.{sheet_in}
 use Rattle.kdb_cells.proofs.UnitPuts.{place_within}
 use Rattle.update_log.specs.Logs.{Journal, Holds}
-use Rattle.update_log.specs.Moments.{HasLog, IsDurable}
+use Rattle.update_log.specs.Moments.{HasLog}
 use Rattle.store_files.specs.Found.{Found, unit_numbered, unit_changed, left_by, with_unit, redone, found_in}
 use Rattle.store_files.specs.Kept.{Kept, IsKept, IsOnDisk}
 use Rattle.store_files.specs.Recovery.{IsLike}

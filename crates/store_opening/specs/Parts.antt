@@ -3,7 +3,7 @@ use Rattle.std.specs.Prelude.{◌≡◌, ◌≤◌, ℕ, List, Option, false}
 use Rattle.update_log.specs.Logs.{begun, Journal}
 use Rattle.kdb_control.specs.Choice.{Choice}
 use Rattle.kdb_cells.specs.FileCells.{IsFileOf}
-use Rattle.cell_files.specs.NewFiles.{NewCells, sheet_for}
+use Rattle.cell_files.specs.NewFiles.{NewCells, file_text, sheet_for}
 use Rattle.store_files.specs.Kept.{Kept}
 use Rattle.kdb_cells.specs.CellFiles.{CellFile}
 use Rattle.princ_rows.specs.Rows.{AreRows}
@@ -32,6 +32,7 @@ kept_made m cells = record { control = made_choice m; log = begun 3 m.base m.siz
 -- The plan is to make a database of these rows, and to keep them.
 pub record IsPlan (m : Making) (plan : Plan) : Type 0 where
   pub made : IsToBeMade m plan.control plan.image plan.log m.stash
+  pub content : plan.image.content ≡ file_text m.format m.realm m.base m.rows
   pub rows_are : plan.rows ≡ m.rows
   pub in_order : AreRows m.rows
   pub realm_is : plan.realm ≡ m.realm

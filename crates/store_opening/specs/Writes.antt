@@ -6,7 +6,7 @@ use Rattle.kdb_cells.specs.Cells.{Cell, IsRowText}
 use Rattle.kdb_cells.specs.CellFiles.{CellFile, units, count}
 use Rattle.kdb_cells.specs.FileCells.{AreCellsOf}
 use Rattle.kdb_cells.specs.Sheets.{Sheet, taken}
-use Rattle.kdb_cells.specs.Leads.{Units, IsFree}
+use Rattle.kdb_cells.specs.Leads.{IsFree}
 use Rattle.store_files.specs.Found.{unit_numbered, with_unit}
 use Rattle.kdb_disk.specs.Files.{Files, written}
 use Rattle.kdb_disk.specs.View.{View}

@@ -11,6 +11,7 @@ ghost use Rattle.kdb_control.specs.declared.force.Force.TheVariants.{Nothing};
 ghost use Rattle.kdb_control.specs.Force.{in_force};
 ghost use Rattle.princ_name.specs.Realms.{IsRealm};
 ghost use Rattle.princ_rows.specs.Rows.{AreRows};
+ghost use Rattle.cell_files.specs.NewFiles.{file_text};
 ghost use Rattle.kdb_cells.specs.Cells.{IsRowOf};
 ghost use Rattle.kdb_cells.specs.CellFiles.{is_format};
 ghost use Rattle.kdb_places.specs.Places.{created};
@@ -18,6 +19,7 @@ ghost use Rattle.store_files.specs.Found.{place_of};
 ghost use Rattle.store_files.specs.Kept.{IsKept, IsOnDisk, place_kept};
 ghost use Rattle.store_files.specs.Recovery.{Creates};
 ghost use Rattle.store_files.specs.Standing.{Holds};
+ghost use Rattle.store_files.specs.Switches.{first_choice};
 ghost use Rattle.update_log.specs.Moments.{HasLog, IsDurable};
 ghost use Rattle.store_opening.specs.Made.{Making, first_stash, made_choice, made_found, AnswersMade};
 ghost use Rattle.store_opening.specs.Moments.{HasFile};
@@ -187,6 +189,7 @@ fn make_plan<D: Disk>(disk: &mut D, plan: Plan, stash: Option<&[u8]>) -> Result<
     ensures answer { D.tells → AnswersMade result (in_force ((D.view disk.old).seen 0)) }
     ensures kept { (m : Making) → IsPlan m plan → IfOk result (λ p. kept_of p ≡ kept_made m plan.image.cells) }
     ensures on { D.tells → (m : Making) → IsPlan m plan → m.stash ≡ option_map (λ s. s.now) stash.entry → OnOk result (IsOnDisk (kept_made m plan.image.cells) (D.view disk.new)) }
+    ensures written { D.tells → OnOk result (HasFile 1 plan.image.content (D.view disk.new)) }
     ensures moments { D.tells → (m : Making) → IsPlan m plan → m.stash ≡ option_map (λ s. s.now) stash.entry → LeavesOnly (D.view disk.old) (D.view disk.new) (Creates (D.view disk.old) (place_of (made_found m))) }
     ensures refused { D.tells → (refusal : Refuses) → result ≡ Err (Refused refusal) → Keeps (D.view disk.old) (D.view disk.new) }
     ensures there { D.tells → in_force ((D.view disk.old).seen 0) ≢ Nothing → Keeps (D.view disk.old) (D.view disk.new) }
@@ -233,8 +236,12 @@ pub fn create_parts<D: Disk>(
     requires rows { All (IsRowOf format) rows.princs }
     ensures answer { D.tells → AnswersMade result (in_force ((D.view disk.old).seen 0)) }
     ensures place { IfOk result (λ p. place_kept (kept_of p) ≡ created realm.now rows base size block (option_map (λ s. s.now) stash.entry) format) }
+    // The files are the first of each kind, and so is the turn of the slot.
+    ensures control { IfOk result (λ p. p.control ≡ first_choice format (first_stash (option_map (λ s. s.now) stash.entry)) base size block) }
     ensures kept { IfOk result (λ p. IsKept (kept_of p)) }
     ensures on { D.tells → IfOk result (λ p. IsOnDisk (kept_of p) (D.view disk.new)) }
+    // The rows stand one behind the other from the first unit on, in their order, whatever a crash leaves.
+    ensures written { D.tells → OnOk result (HasFile 1 (file_text format realm.now base rows) (D.view disk.new)) }
     ensures moments { D.tells → LeavesOnly (D.view disk.old) (D.view disk.new) (Creates (D.view disk.old) (created realm.now rows base size block (option_map (λ s. s.now) stash.entry) format)) }
     ensures refused { D.tells → (refusal : Refuses) → result ≡ Err (Refused refusal) → Keeps (D.view disk.old) (D.view disk.new) }
     ensures there { D.tells → in_force ((D.view disk.old).seen 0) ≢ Nothing → Keeps (D.view disk.old) (D.view disk.new) }

@@ -185,3 +185,11 @@ renewal_on {now} {next} {image} {log} {old} {mid} {late} {new} k realm rows unde
     (subst (λ (c : Choice). IsInForce (Is c) late new) next_is set) in
     subst (λ (c : Choice). IsOnDisk (renewed c log image.cells realm rows k) new) (sym next_is)
     (subst (λ (j : Journal). IsOnDisk (renewed choice j image.cells realm rows k) new) (sym to.log_is) made)
+
+-- the file of cells then reads as it was written
+pub image_stays : {now next : Choice} {image : NewCells} {log : Journal} {old mid late new : View} → IsToRenew now next image log
+    → Replaced image.cells.file image.content old mid → ReadsOthers log.file mid late → IsInForce (Is next) late new → new.seen next.image ≡ image.content
+image_stays {next = next} {image = image} {log = log} {mid = mid} {late = late} to written others set =
+    set.others next.image to.renewal.image.control
+    ∙ subst (λ (f : ℕ). ReadsOthers f mid late) (log_file to) others next.image (turned to.renewal.apart)
+    ∙ ap mid.seen (sym to.file_is) ∙ content_read written

@@ -42,6 +42,7 @@ fn spare_stash(file: u8) -> u8
     ensures low { 5 ≤ result }
     ensures high { result ≤ 6 }
     ensures other { file ≡ result → ⊥ }
+    ensures first { file ≡ 0 → result ≡ 5 }
 {
     if file == 5 { 6 } else { 5 }
 }
@@ -50,6 +51,8 @@ fn spare_stash(file: u8) -> u8
 pub fn stash_control(now: &Control) -> Control
     ensures value { result ≡ stash_choice result.stash now.now }
     ensures spare { IsSpareFor now.now result.stash }
+    // The first stash of a database without one stands in the first of the two files.
+    ensures first { now.now.stash ≡ 0 → result.stash ≡ 5 }
     ensures file { (5 ≤ result.stash) × (result.stash ≤ 6) }
 {
     Control {

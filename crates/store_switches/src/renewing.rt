@@ -73,6 +73,7 @@ pub fn renew_files<D: Disk>(
         → LeavesOnly (D.view disk.old) (D.view disk.new) (LeavesPart (place_kept k) (place_renewed next.now.base next.now.size next.now.block realm rows (place_kept k) ∷ [])) }
     ensures on { D.tells → (k : Kept) → (realm : List ℕ) → (rows : RowLists) → IsUnder now.now k (D.view disk.old) → HasRows realm rows image.old
         → OnOk result (IsOnDisk (renewed next.now log.now image.old.cells realm rows k) (D.view disk.new)) }
+    ensures written { D.tells → OnOk result ((D.view disk.new).seen next.now.image ≡ image.old.content) }
     ensures stays { image.new ≡ image.old }
     ensures call { IsCall D.Disk disk.old disk.new (IsErr result) }
 {

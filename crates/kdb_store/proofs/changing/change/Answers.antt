@@ -1,11 +1,11 @@
 use Rattle.std.proofs.Common.{◌≡◌, Some, ap, subst, ◌∙◌}
-use Rattle.std.specs.Prelude.{OnOk}
+use Rattle.std.specs.Prelude.{OnOk, [], ◌∷◌, ◌++◌}
 use Rattle.std.proofs.lemmas.Result.{on_ok_weaker}
 use Rattle.kdb_disk.specs.Moments.{LeavesOnly}
 use Rattle.princ_entries.specs.declared.entries.Entry.{Entry}
 use Rattle.kdb_cells.specs.FileCells.{IsFileOf}
 use Rattle.kdb_places.specs.Places.{committed}
-use Rattle.update_log.specs.Logs.{with_prepared, log_committed}
+use Rattle.update_log.specs.Logs.{Journal, newest, with_prepared, log_committed}
 use Rattle.store_files.specs.Found.{Found}
 use Rattle.store_files.specs.Kept.{place_kept, with_parts, found_with}
 use Rattle.store_files.specs.Standing.{Holds, IsUnderWay, after}
@@ -81,3 +81,12 @@ pub returns-in-Err-clause-crash : goal.returns-in-Err-clause-crash
 returns-in-Err-clause-crash g c tells k stands =
     let kept = with_parts c.args.log.now c.args.cells.now c.args.rows.now k in
     nothing_leaves kept (committed c.args.op c.args.point.time (place_kept kept)) (g.D.Disk.view c.args.disk.now) stands.on
+
+pub returns-in-Ok-clause-entered : goal.returns-in-Ok-clause-entered
+returns-in-Ok-clause-entered g c =
+    let n = number_of c.in-Ok.field-0.write in
+    on_ok_weaker c.write_begun.result (λ is. record {
+      cell = n;
+      unit = record { given = c.in-Ok.ensures.plan.given; none = c.in-Ok.ensures.plan.none };
+      held = ap (λ (j : Journal). j.held) is ∙ ap (λ (e : Entry). newest c.args.log.now.size (c.args.log.now.held ++ record { entry = e; cell = n } ∷ [])) c.in-Ok.ensures.entry;
+    }) c.write_begun.ensures.held

@@ -1,4 +1,4 @@
-use Rattle.std.proofs.Common.{◌≢◌, ◌*◌, ℕ, sym, subst, ◌∙◌, ap}
+use Rattle.std.proofs.Common.{◌*◌, ℕ, sym, subst, ap}
 use Rattle.kdb_disk.specs.Moments.{LeavesOnly}
 use Rattle.kdb_cells.specs.Cells.{unit_size}
 use Rattle.princ_entries.specs.declared.entries.Logged.{Logged}
@@ -9,7 +9,7 @@ use Rattle.store_files.specs.Found.{left_by}
 use Rattle.store_files.specs.Standing.{IsChange, IsUnderWay}
 use Rattle.kdb_store.specs.Parts.{ArePending}
 use Rattle.kdb_store.specs.Writes.{number_of}
-use Rattle.kdb_store.proofs.DiskChanges.{change_crash, change_stands, change_durable, tie_kept, writes_there}
+use Rattle.kdb_store.proofs.DiskChanges.{change_crash, change_stands, change_durable, others_stay, tie_kept, writes_there}
 use Rattle.kdb_store.proofs.disk_changes.write_prepared.Goals as goal
 
 pub returns-in-Ok-write_unit-clause-crash : goal.returns-in-Ok-write_unit-clause-crash
@@ -63,3 +63,8 @@ write_unit-requires-clause-writes g c = (left_by c.args.entry.now.op, writes_the
 pub returns-in-Ok-write_unit-clause-leads : goal.returns-in-Ok-write_unit-clause-leads
 returns-in-Ok-write_unit-clause-leads g c held holds within =
     c.in-Ok-write_unit.ensures.leads (left_by c.args.entry.now.op) held (writes_there c.args.cells.now c.args.write (left_by c.args.entry.now.op) c.requires.format c.requires.writes) holds within
+
+pub returns-in-Ok-write_unit-clause-others : goal.returns-in-Ok-write_unit-clause-others
+returns-in-Ok-write_unit-clause-others g c tells =
+    others_stay g.D.Disk.view c.args.disk.now c.write_entry.new.disk c.write_unit.new.disk c.args.log.now.file c.args.cells.now.file (number_of c.args.write * unit_size c.args.cells.now.format) (number_of c.args.write)
+    (c.in-Ok.ensures.others tells) c.write_unit.ensures.nothing (c.in-Ok-write_unit.ensures.written tells)

@@ -1,8 +1,9 @@
-use Rattle.std.proofs.Common.{◌≡◌, refl, sym, ap, subst}
-use Rattle.std.specs.Prelude.{option_map}
+use Rattle.std.proofs.Common.{◌≡◌, ℕ, List, refl, sym, ap, subst}
+use Rattle.std.specs.Prelude.{option_map, OnOk}
 use Rattle.kdb_places.specs.Places.{created}
 use Rattle.store_files.specs.Kept.{Kept, IsKept, IsOnDisk, place_kept}
-use Rattle.store_opening.specs.Made.{Making}
+use Rattle.store_opening.specs.Made.{Making, made_choice}
+use Rattle.store_opening.specs.Moments.{HasFile}
 use Rattle.store_opening.specs.declared.parts.Parts.{Parts}
 use Rattle.store_opening.specs.Parts.{kept_of, kept_made}
 use Rattle.store_opening.proofs.Making.{is_kept, creates_made, if_ok_at, if_ok_both}
@@ -42,3 +43,14 @@ returns-in-Ok-clause-moments g c = λ tells.
     let m : Making = record { format = c.args.format; realm = c.args.realm.now; rows = c.args.rows; base = c.args.base; size = c.args.size; block = c.args.block; stash = option_map (λ s. s.now) c.args.stash } in
     let plan = c.in-Ok.ensures in
     creates_made m plan.in_order (c.make_plan.ensures.moments tells m plan refl)
+
+pub returns-in-Ok-clause-control : goal.returns-in-Ok-clause-control
+returns-in-Ok-clause-control g c =
+    let m : Making = record { format = c.args.format; realm = c.args.realm.now; rows = c.args.rows; base = c.args.base; size = c.args.size; block = c.args.block; stash = option_map (λ s. s.now) c.args.stash } in
+    let cells = c.in-Ok.plan.image.cells in
+    if_ok_at (λ (p : Parts). kept_of p ≡ kept_made m cells) (λ (p : Parts). p.control ≡ made_choice m) c.make_plan.result (λ p same. ap (λ (k : Kept). k.control) same)
+    (c.make_plan.ensures.kept m c.in-Ok.ensures)
+
+pub returns-in-Ok-clause-written : goal.returns-in-Ok-clause-written
+returns-in-Ok-clause-written g c = λ tells.
+    subst (λ (content : List ℕ). OnOk c.make_plan.result (HasFile 1 content (g.D.Disk.view c.make_plan.new.disk))) c.in-Ok.ensures.content (c.make_plan.ensures.written tells)

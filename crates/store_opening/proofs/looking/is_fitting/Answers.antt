@@ -1,4 +1,4 @@
-use Rattle.std.proofs.Common.{◌≡◌, Option, true, false, sym, ap, subst, ◌∙◌}
+use Rattle.std.proofs.Common.{Option, true, false, sym, ap, subst, ◌∙◌}
 use Rattle.princ_entries.specs.declared.entries.Entry.{Entry}
 use Rattle.princ_entries.specs.declared.entries.Op.{Op}
 use Rattle.update_log.specs.Logs.{marker_of}

@@ -1,4 +1,4 @@
-use Rattle.std.proofs.Common.{◌≡◌, Option, sym, ap, subst, ◌∙◌}
+use Rattle.std.proofs.Common.{Option, sym, ap, subst}
 use Rattle.princ_entries.specs.Entries.{IsOp}
 use Rattle.princ_entries.specs.declared.entries.Entry.{Entry}
 use Rattle.princ_entries.specs.declared.entries.Op.{Op}

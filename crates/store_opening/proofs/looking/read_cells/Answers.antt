@@ -1,4 +1,3 @@
-use Rattle.std.proofs.Common.{◌≡◌, sym, ap, subst, ◌∙◌}
 use Rattle.kdb_cells.proofs.Gathered.{same_damaged}
 use Rattle.store_opening.specs.Looking.{last_read}
 use Rattle.store_opening.proofs.Again.{gathered_units}

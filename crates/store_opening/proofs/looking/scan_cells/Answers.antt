@@ -1,4 +1,4 @@
-use Rattle.std.proofs.Common.{◌≡◌, ◌≤◌, sym, ap, subst, ◌∙◌}
+use Rattle.std.proofs.Common.{◌≡◌, ◌≤◌, sym, subst}
 use Rattle.std.specs.Prelude.{IfOk}
 use Rattle.kdb_control.specs.Choice.{Choice}
 use Rattle.kdb_disk.specs.Files.{Files}

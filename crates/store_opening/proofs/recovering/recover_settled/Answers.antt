@@ -1,5 +1,4 @@
-use Rattle.std.proofs.Common.{◌≡◌, subst}
-use Rattle.std.specs.Prelude.{IfOk}
+use Rattle.std.proofs.Common.{subst}
 use Rattle.kdb_disk.specs.Files.{Files}
 use Rattle.kdb_disk.proofs.Runs.{settled_keeps}
 use Rattle.store_files.specs.Found.{found_in}

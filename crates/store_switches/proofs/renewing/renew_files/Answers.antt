@@ -1,7 +1,7 @@
 use Rattle.std.proofs.Common.{ap}
 use Rattle.std.proofs.lemmas.Result.{on_ok_weaker}
 use Rattle.kdb_control.specs.Choice.{Choice}
-use Rattle.store_switches.proofs.Renewed.{IsToRenew, image_begins, log_begins, renewal_force, renewal_leaves, renewal_on}
+use Rattle.store_switches.proofs.Renewed.{IsToRenew, image_begins, image_stays, log_begins, renewal_force, renewal_leaves, renewal_on}
 use Rattle.store_switches.proofs.renewing.renew_files.Goals as goal
 
 pub returns-in_err-write-clause-crash : goal.returns-in_err-write-clause-crash
@@ -47,3 +47,8 @@ returns-clause-on g c tells k realm rows under rows_in =
       switch = c.switch.ensures.crash.told tells;
     }) (c.in_ok-write-2.ensures.durable tells) (c.in_ok-write-2.ensures.others tells) set)
     (c.switch.ensures.ok tells)
+
+pub returns-clause-written : goal.returns-clause-written
+returns-clause-written g c tells =
+    let to : IsToRenew c.args.now.now c.args.next.now c.args.image.now c.args.log.now = record { renewal = c.requires.next; file_is = c.requires.image; log_is = c.requires.log } in
+    on_ok_weaker c.switch.result (λ set. image_stays to (c.in_ok-write.ensures.ok tells) (c.in_ok-write-2.ensures.others tells) set) (c.switch.ensures.ok tells)

@@ -1,5 +1,7 @@
 use Rattle.std.proofs.Common.{ap, ◌∙◌, Err}
-use Rattle.kdb_store.proofs.Committed.{serial_below, time_behind, next_at, log_apart, stands_on, place_changed, crash_told}
+use Rattle.kdb_places.specs.Places.{next_point}
+use Rattle.store_files.specs.Kept.{Kept, place_kept}
+use Rattle.kdb_store.proofs.Committed.{serial_below, time_behind, next_at, log_apart, stands_on, place_changed, crash_told, entered_at}
 use Rattle.kdb_store.proofs.database.Database.commit.Goals as goal
 
 pub next_in-point-requires : goal.next_in-point-requires
@@ -45,3 +47,10 @@ pub returns-in-Err-MemoryOut-clause-still : goal.returns-in-Err-MemoryOut-clause
 returns-in-Err-MemoryOut-clause-still g c tells none =
     c.change.ensures.still tells (record { control = c.self.inside.control; log = c.self.inside.log; cells = c.self.inside.cells; rows = c.self.inside.rows; realm = c.self.inside.realm; stash = c.self.inside.stash; broken = c.self.inside.broken }) (stands_on (record { control = c.self.inside.control; log = c.self.inside.log; cells = c.self.inside.cells; rows = c.self.inside.rows; realm = c.self.inside.realm; stash = c.self.inside.stash; broken = c.self.inside.broken }) c.args.self.now c.next_in-next.result (g.D.Disk.view c.args.disk.now) c.self.view_is c.self.invariant (c.requires.on tells) c.holds_journal.ensures.some c.next_in-next.ensures.sno)
     (c.in-Err-MemoryOut.is ∙ ap Err c.in-Err-MemoryOut.field-0-is)
+
+pub returns-in-Ok-clause-entered : goal.returns-in-Ok-clause-entered
+returns-in-Ok-clause-entered g c =
+    let k : Kept = record { control = c.self.inside.control; log = c.self.inside.log; cells = c.self.inside.cells; rows = c.self.inside.rows; realm = c.self.inside.realm; stash = c.self.inside.stash; broken = c.self.inside.broken } in
+    entered_at k c.args.self.now c.args.op c.next_in-next.result (next_point c.args.time (place_kept c.args.self.now)) c.change.new.log c.self.view_is
+    (next_at k c.args.self.now c.next_in-next.result c.args.time c.self.view_is c.next_in-next.ensures.time c.holds_journal.ensures.some c.next_in-next.ensures.sno)
+    c.in-Ok.ensures.entered

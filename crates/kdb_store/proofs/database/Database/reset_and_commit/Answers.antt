@@ -1,7 +1,7 @@
 use Rattle.std.proofs.Common.{ap, ◌∙◌, Err}
 use Rattle.store_files.specs.Kept.{Kept}
 use Rattle.kdb_store.proofs.Switched.{is_under}
-use Rattle.kdb_store.proofs.Anew.{anew_place, anew_told, anew_chosen}
+use Rattle.kdb_store.proofs.Anew.{anew_place, anew_told}
 use Rattle.kdb_store.proofs.database.Database.reset_and_commit.Goals as goal
 
 pub reset_change-requires-clause-on : goal.reset_change-requires-clause-on
