@@ -4,7 +4,7 @@ use Rattle.kdb_base.specs.Limits.{longest_line}
 use Rattle.kdb_ports.specs.Told.{before_told, IsSpent}
 use Rattle.kadm_lines.specs.Lines.{Seen, lines_from, seen_lines}
 use Rattle.kadm_lines.specs.Windows.{lacks_feed, Parts}
-use Rattle.kadm_lines.specs.Reader.{ReaderState, Advances, NothingComes, to_come, unread, before_lines}
+use Rattle.kadm_lines.specs.Reader.{ReaderState, NothingComes, to_come, unread, before_lines}
 use Rattle.kadm_lines.specs.Steps.{Answers, Gives, Keeps, line_seen}
 use Rattle.kadm_lines.specs.declared.readers.NextLine.{NextLine}
 use Rattle.kadm_lines.specs.declared.readers.NextLine.TheVariants.{TooLong, End}

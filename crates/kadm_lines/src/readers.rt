@@ -125,6 +125,7 @@ impl LineReader {
         ensures falls { IfSome result (λ n. work_left self.new < work_left self.old) }
         ensures same { result ≡ None → Keeps self.old self.new }
         ensures waits { result ≡ None → Waits self.new }
+        ensures held { result ≡ None → lacks_feed self.old.pending ≡ true }
         ensures over { self.new.over ≡ self.old.over }
         ensures taken { self.new.taken ≡ self.old.taken }
         ensures room { self.new.taken ≤ 4294967296 }
@@ -205,6 +206,9 @@ impl LineReader {
         ensures spent { IsTrue self.new.over → (IsTrue self.old.over → IsSpent (S.left source.old)) → IsSpent (S.left source.new) }
         ensures stays { IsTrue self.old.over → IsTrue self.new.over }
         ensures rests { IsTrue self.old.over → source.new ≡ source.old }
+        // A line that was taken whole is answered before the source is read again.
+        ensures held { lacks_feed self.old.pending ≡ false → source.new ≡ source.old }
+        ensures held_given { lacks_feed self.old.pending ≡ false → OnErr result ⊥ }
         ensures taken { option_map (λ xs. length xs + self.old.taken) (S.left source.old) ≡ option_map (λ xs. length xs + self.new.taken) (S.left source.new) }
         ensures room { self.new.taken ≤ 4294967296 }
         ensures below { IsTrue self.new.over → self.new.taken < 4294967296 }

@@ -3,3 +3,4 @@ pub mod Memory
 pub mod ChaCha
 pub mod Adapters
 pub mod Parts
+pub mod Links

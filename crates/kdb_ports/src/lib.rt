@@ -6,6 +6,7 @@
 pub mod chacha;
 pub mod clocks;
 pub mod entropies;
+pub mod links;
 pub mod sinks;
 pub mod sources;
 #[cfg(test)]
@@ -15,6 +16,7 @@ pub mod writing;
 pub use chacha::{ChaChaEntropy, SeededEntropy};
 pub use clocks::{Clock, MemoryClock, SystemClock};
 pub use entropies::{DrawFailed, Entropy, ZeroEntropy};
+pub use links::{Link, LinkFailed, MemoryLink};
 pub use sinks::{MemorySink, Sink, WriteFailed, WriterSink};
 pub use sources::{MemorySource, ReadFailed, ReaderSource, Source};
 pub use writing::write_whole;

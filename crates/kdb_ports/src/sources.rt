@@ -33,7 +33,7 @@ pub trait Source {
 }
 
 /// Puts the bytes at the front of `into`.
-fn copy_front(bytes: &[u8], into: &mut [u8])
+pub(crate) fn copy_front(bytes: &[u8], into: &mut [u8])
     requires { length bytes.now ≤ length into.old }
     ensures { take (length bytes.now) into.new ≡ bytes.now }
 {

@@ -1,6 +1,6 @@
 -- What was decided and carried out, as a call of the primary.
 use Rattle.std.proofs.Common.{◌≡◌, ◌≢◌, Bool, true, false, List, Option, Some, None, Result, Ok, Err, inl, refl, sym, ap, subst, ◌∙◌}
-use Rattle.std.specs.Prelude.{IfOk, OnErr, OnOk}
+use Rattle.std.specs.Prelude.{[], ◌∷◌, IfOk, OnErr, OnOk, if◌then◌else◌}
 use Rattle.iprop_truths.specs.Parts.{IsPart, end_of}
 use Rattle.kadm_commands.specs.declared.replies.Reply.{Reply}
 use Rattle.kadm_commands.specs.declared.replies.Reply.TheVariants.{Refused}
@@ -13,13 +13,14 @@ use Rattle.kdb_histories.specs.Asks.{Answer as Answered, Ask, Replied, clock_of}
 use Rattle.kdb_histories.specs.Calls.{Perform, Performs}
 use Rattle.kdb_histories.specs.Leaving.{Does, MayReach}
 use Rattle.kdb_histories.specs.Moves.{IsLeft}
-use Rattle.kdb_histories.specs.Seen.{Seen, after_ask, entry_point, seen}
-use Rattle.kdb_histories.specs.Stages.{places}
-use Rattle.kdb_places.specs.Places.{Place}
+use Rattle.kdb_histories.specs.Seen.{Seen, after_ask, changed, did, entry_point, is_due, moment_at, reset_for, reset_point, seen}
+use Rattle.kdb_histories.specs.Stages.{Anew, Stage, places, stage}
+use Rattle.kdb_places.specs.Places.{Place, committed}
 use Rattle.kdb_plain.specs.declared.states.State.{State}
 use Rattle.performed_plans.proofs.ChangedPlaces.{places_changed}
 use Rattle.primary_core.proofs.Asking.{kept, left, mastered}
 use Rattle.primary_core.proofs.Called.{call_does, call_reaches, left_at}
+use Rattle.princ_entries.specs.declared.entries.Op.{Op}
 use Rattle.primary_core.specs.Deciding.{change_of, places_decided, reply_of}
 use Rattle.primary_core.specs.Opened.{HasState, IsDecided, MayLeave, MayMake, Opened, made_for, masters_behind, place_of}
 use Rattle.primary_core.specs.declared.decided.Decided.{Decided}
@@ -31,6 +32,20 @@ use Rattle.store_files.specs.Recovery.{LeavesPart}
 places_are : (ask : Ask) (change : Option DecidedChange) (p : Place) → places (made_for ask change p) ≡ places_decided (clock_of ask) change p
 places_are ask None p = refl
 places_are ask (Some change) p = places_changed ask change.op p
+
+-- a change makes a place
+changed_some : (ask : Ask) (op : Op) (p : Place) → changed ask op p ≢ []
+changed_some ask op p = made_some (is_due op p)
+  where
+    made_some : (due : Bool) → (if due then stage (reset_for (clock_of ask) op p) Anew ∷ did ask true op p (committed op (reset_point (clock_of ask) p).time (reset_for (clock_of ask) op p)) ∷ []
+        else did ask false op p (committed op (moment_at (clock_of ask) p) p) ∷ []) ≢ []
+    made_some true = λ none. cc
+    made_some false = λ none. cc
+
+-- so where none is made, no change was decided
+pub none_decided : (ask : Ask) (change : Option DecidedChange) (p : Place) (made : List Stage) → made_for ask change p ≡ made → made ≡ [] → change ≡ None
+none_decided ask None p made is nothing = refl
+none_decided ask (Some change) p made is nothing = absurd (changed_some ask change.op p (is ∙ nothing))
 
 -- whatever is answered
 module _ (o : Opened) (ask : Ask) (answer : Answered) (change : Option DecidedChange) (s : State) (makes : Performs (place_of o) s ask answer (made_for ask change (place_of o))) where

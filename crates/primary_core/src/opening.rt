@@ -106,6 +106,7 @@ fn begin_anew<D: Disk>(
     ensures place { OnOk result (place_kept database.new ≡ log_anew base size (place_kept database.old).block (place_kept database.old)) }
     ensures on { D.tells → OnOk result (IsOnDisk database.new (D.view disk.new)) }
     ensures crash { IsCrashSafe D.Disk disk.old disk.new (LeavesPart (place_kept database.old) (log_anew base size (place_kept database.old).block (place_kept database.old) ∷ [])) }
+    ensures memory { result ≡ Err IsMemoryOut → disk.new ≡ disk.old }
     ensures whole { OnOk result (database.new.broken ≡ false) }
     ensures call { IsCall D.Disk disk.old disk.new (result ≡ Err IsDiskFault) }
 {
@@ -133,6 +134,7 @@ fn renew<D: Disk>(
     ensures late_keeps { (why : Refuses) → EndsTime size now (place_kept database.old) why → disk.new ≡ disk.old }
     ensures on { D.tells → OnOk result (IsOnDisk database.new (D.view disk.new)) }
     ensures crash { IsCrashSafe D.Disk disk.old disk.new (LeavesPart (place_kept database.old) (places (resized size now (place_kept database.old)))) }
+    ensures memory { result ≡ Err (Halts IsMemoryOut) → disk.new ≡ disk.old }
     ensures whole { OnOk result (database.new.broken ≡ false) }
     ensures call { IsCall D.Disk disk.old disk.new (result ≡ Err (Halts IsDiskFault)) }
 {
@@ -186,6 +188,7 @@ fn open_as<D: Disk>(
     ensures whole { IfOk result (λ o. o.kept.broken ≡ false) }
     ensures on { D.tells → IfOk result (λ o. IsOnDisk o.kept (D.view disk.new)) }
     ensures crash { IsCrashSafe D.Disk disk.old disk.new (LeavesPart (place_kept database) (places (resized size now (place_kept database)))) }
+    ensures memory { result ≡ Err (Halts IsMemoryOut) → disk.new ≡ disk.old }
     ensures call { IsCall D.Disk disk.old disk.new (result ≡ Err (Halts IsDiskFault)) }
 {
     valid_later();
@@ -225,6 +228,8 @@ impl Primary {
         ensures whole { IfOk result (λ o. o.kept.broken ≡ false) }
         ensures on { D.tells → IfOk result (λ o. IsOnDisk o.kept (D.view disk.new)) }
         ensures moments { D.tells → LeavesOnly (D.view disk.old) (D.view disk.new) (MayOpen (D.view disk.old) (found_in (D.view disk.old).seen) size now) }
+        // Want of memory begins no log anew.
+        ensures memory { D.tells → result ≡ Err (Halts IsMemoryOut) → LeavesOnly (D.view disk.old) (D.view disk.new) (IsLike (D.view disk.old)) }
         ensures refusals { D.tells → (why : Refuses) → OpeningRefused (found_in (D.view disk.old).seen) size now why → LeavesOnly (D.view disk.old) (D.view disk.new) (IsLike (D.view disk.old)) }
         ensures call { IsCall D.Disk disk.old disk.new (result ≡ Err (Halts IsDiskFault)) }
     {

@@ -1,6 +1,6 @@
 //! Commands: what each comes to is made.
 
-ghost use Rattle.std.specs.Prelude.{◌≡◌, ◌≢◌, true, false, Err, Ok, IfErr, IfOk, None, OnErr, OnOk, Some, length, option_map};
+ghost use Rattle.std.specs.Prelude.{◌≡◌, ◌≢◌, [], true, false, Err, Ok, IfErr, IfOk, None, OnErr, OnOk, Some, length, option_map};
 ghost use Rattle.iprop_truths.specs.Parts.{IsPart, end_of};
 ghost use Rattle.kadm_commands.specs.Commands.{IsCommand};
 ghost use Rattle.kadm_commands.specs.declared.replies.Reply.TheVariants.{Refused};
@@ -11,7 +11,7 @@ ghost use Rattle.kdb_histories.specs.Asks.{Replied};
 ghost use Rattle.kdb_histories.specs.Calls.{Perform};
 ghost use Rattle.kdb_histories.specs.Leaving.{Does, MayReach};
 ghost use Rattle.kdb_histories.specs.Moves.{IsLeft};
-ghost use Rattle.kdb_histories.specs.Seen.{after_ask, entry_point, seen};
+ghost use Rattle.kdb_histories.specs.Seen.{after_ask, entry_point, made_at, seen};
 ghost use Rattle.kdb_plain.specs.declared.states.State.{State};
 ghost use Rattle.performed_plans.specs.Ready.{change_places};
 ghost use Rattle.primary_core.specs.Deciding.{change_of, is_judged, places_decided, reply_of};
@@ -143,6 +143,10 @@ impl Primary {
         ensures state { (s : State) → self.old.kept.broken ≡ false → HasState self.old s → OnOk result (HasState self.new (after_ask (command_ask client.now (option_map (λ acl. acl.now) acl.entry) ready.now.command now random.now) (seen (place_of self.old) s)).state) }
         ensures closed { self.old.kept.broken ≡ true → result ≡ Ok (Refused Closed) }
         ensures closed_keeps { self.old.kept.broken ≡ true → (self.new ≡ self.old) × (disk.new ≡ disk.old) }
+        // A command that makes no place, as one that is refused or that reads, changes nothing.
+        ensures keeps { (s : State) → self.old.kept.broken ≡ false → HasState self.old s
+            → made_at (command_ask client.now (option_map (λ acl. acl.now) acl.entry) ready.now.command now random.now) (seen (place_of self.old) s) ≡ []
+            → (self.new ≡ self.old) × (disk.new ≡ disk.old) }
         ensures crash { (s : State) → self.old.kept.broken ≡ false → HasState self.old s → IsCrashSafe D.Disk disk.old disk.new (MayLeave (place_of self.old) s (Perform (command_ask client.now (option_map (λ acl. acl.now) acl.entry) ready.now.command now random.now))) }
         ensures reach { (s : State) → HasState self.old s → OnErr result (MayReach (place_of self.old) s (Perform (command_ask client.now (option_map (λ acl. acl.now) acl.entry) ready.now.command now random.now)) (place_of self.new)) }
         ensures rows { OnErr result ((place_of self.new).rows ≡ (place_of self.old).rows) }

@@ -6,7 +6,7 @@ use Rattle.kadm_commands.specs.declared.replies.Reply.TheVariants.{Refused}
 use Rattle.kdb_base.specs.declared.outcomes.Halt.{Halt}
 use Rattle.kdb_base.specs.declared.outcomes.Refusal.TheVariants.{Closed}
 use Rattle.kdb_disk.proofs.Runs.{started, weaken}
-use Rattle.primary_core.proofs.Carried.{answers_none, closed_is, decided_at_ok, does_if, leaves, may_by, never_both, never_fault, reach_by, reaches, state_if, stays, whole_at_err, whole_by}
+use Rattle.primary_core.proofs.Carried.{answers_none, closed_is, decided_at_ok, does_if, leaves, may_by, never_both, never_fault, none_decided, reach_by, reaches, state_if, stays, whole_at_err, whole_by}
 use Rattle.primary_core.proofs.primary.Primary.perform.Goals as goal
 use Rattle.primary_core.specs.Deciding.{change_of, reply_of}
 use Rattle.primary_core.specs.Opened.{command_ask, place_of}
@@ -36,6 +36,13 @@ returns-in-Ok-clause-closed g c = λ b.
 pub returns-in-Ok-clause-closed_keeps : goal.returns-in-Ok-clause-closed_keeps
 returns-in-Ok-clause-closed_keeps g c = λ b.
     let kept = (c.carry_out.ensures.keeps (answers_none c.in-Ok.decided (Refused Closed) (closed_is c.decide.result c.in-Ok.decided c.in-Ok.is (c.decide.ensures.closed b)))) in
+    (kept.1, kept.2)
+
+pub returns-in-Ok-clause-keeps : goal.returns-in-Ok-clause-keeps
+returns-in-Ok-clause-keeps g c = λ s whole has nothing.
+    let asked = command_ask c.args.client.now (option_map (λ acl. acl.now) c.args.acl) c.args.ready.now.command c.args.now c.args.random.now in
+    let decided = decided_at_ok c.args.self.now asked c.decide.result c.in-Ok.decided c.in-Ok.is (c.decide.ensures.decided whole) in
+    let kept = c.carry_out.ensures.keeps (none_decided asked (change_of c.in-Ok.decided) (place_of c.args.self.now) _ (decided.performs s has).is nothing) in
     (kept.1, kept.2)
 
 pub returns-in-Ok-clause-crash : goal.returns-in-Ok-clause-crash
