@@ -1,10 +1,12 @@
 //! An open replica.
 
 ghost use Rattle.std.specs.Prelude.{◌≡◌, false, option_map};
+ghost use Rattle.iprop_wire.specs.declared.messages.Message.TheVariants.{Poll};
 ghost use Rattle.replica_core.specs.Opened.{HasSize, IsOpened, is_broken, place_in, place_of};
 ghost use Rattle.replica_steps.specs.Judging.{point_in};
 ghost use Rattle.store_files.specs.Kept.{Kept};
 
+use iprop_wire::Message;
 use kdb_base::{Point, Time};
 use kdb_store::Database;
 use std::marker::Model;
@@ -69,6 +71,13 @@ impl Replica {
         ensures { result ≡ point_in (place_of self.now) }
     {
         point_in(&self.database)
+    }
+
+    /// The poll for what came after the point of the last change.
+    pub fn poll_message(&self) -> Message
+        ensures { result ≡ Poll (point_in (place_of self.now)) }
+    {
+        Message::Poll(self.point())
     }
 
     /// The log size with which the replica was opened.

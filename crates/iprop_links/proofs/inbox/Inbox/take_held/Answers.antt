@@ -1,0 +1,34 @@
+use Rattle.std.proofs.Common.{Option, Ok, Err, option_map, ap, sym, subst, ◌∙◌}
+use Rattle.iprop_links.specs.Arriving.{Arrives, Holds, InboxState, coming}
+use Rattle.iprop_links.specs.declared.inbox.Arrival.TheVariants as arrival
+use Rattle.iprop_wire.specs.Decoding.{fed}
+use Rattle.kdb_ports.specs.Links.{Wire}
+use Rattle.iprop_links.proofs.Steps.{bad_here, fits, held, none_left}
+use Rattle.iprop_links.proofs.inbox.Inbox.take_held.Goals.{in-Some, in-None}
+use Rattle.iprop_links.proofs.inbox.Inbox.take_held.Goals as goal
+
+pub pass-requires : goal.pass-requires
+pass-requires c = fits c.self.inside.decoder _ _ _ c.waiting.ensures c.in-Ok.ensures.ok.count_is
+
+pub returns-in-Err-BadFrame-clause-holds : goal.returns-in-Err-BadFrame-clause-holds
+returns-in-Err-BadFrame-clause-holds c =
+    subst (λ (i : InboxState). (told : Option Wire) → Arrives arrival.Bad i.state (coming i.pending told) (coming c.self.inside.piece told)) c.self.view_is
+    (λ told. bad_here c.self.inside.decoder c.self.inside.piece told _
+    (ap (fed c.self.inside.decoder) (sym c.waiting.ensures) ∙ c.feed.ensures.bad (c.in-Err-BadFrame.is ∙ ap Err c.in-Err-BadFrame.field-0-is)))
+
+pub returns-clause-holds : goal.returns-clause-holds
+returns-clause-holds c =
+    subst (λ (i : InboxState). (told : Option Wire) → Holds c.match-next.result i.state (coming i.pending told) c.next.new.self (coming c.pass.new.self told)) c.self.view_is
+    (held c.self.inside.decoder _ c.self.inside.piece _ _ c.feed.new.self _ _ c.waiting.ensures c.in-Ok.ensures.ok c.pass.ensures c.next.ensures.left
+    (elim c.match-next.branch [
+      | in-Some w ↦ w.result-is ∙ ap (λ o. Ok (option_map (λ m. arrival.Came m) o)) (sym w.in-Some.is ∙ c.next.ensures.message)
+      | in-None w ↦ w.result-is ∙ ap (λ o. Ok (option_map (λ m. arrival.Came m) o)) (sym w.in-None.is ∙ c.next.ensures.message)
+    ]))
+
+pub returns-clause-none : goal.returns-clause-none
+returns-clause-none c =
+    none_left c.self.inside.decoder _ c.self.inside.piece _ _ c.feed.new.self _ c.waiting.ensures c.in-Ok.ensures.ok c.pass.ensures
+    (elim c.match-next.branch [
+      | in-Some w ↦ w.result-is ∙ ap (λ o. Ok (option_map (λ m. arrival.Came m) o)) (sym w.in-Some.is ∙ c.next.ensures.message)
+      | in-None w ↦ w.result-is ∙ ap (λ o. Ok (option_map (λ m. arrival.Came m) o)) (sym w.in-None.is ∙ c.next.ensures.message)
+    ])

@@ -1,0 +1,3 @@
+pub mod Words
+pub mod Hearing
+pub mod Rounds
