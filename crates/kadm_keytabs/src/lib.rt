@@ -1,0 +1,12 @@
+//! Keytabs that are read from an input, changed and written: the runs of `ktremove` and `ktadd`.
+#![tactic(auto)]
+
+pub mod adding;
+pub mod answers;
+pub mod inputs;
+pub mod removing;
+
+pub use adding::ktadd_standing;
+pub use answers::Answer;
+pub use inputs::{read_input, read_keytab_input};
+pub use removing::ktremove;
