@@ -20,14 +20,15 @@ use Rattle.kdb_ports.specs.Told.{after_told}
 use Rattle.primary_core.specs.Opened.{HasState, Opened, place_of}
 use Rattle.store_files.specs.Found.{recovers}
 use Rattle.store_files.specs.Recovery.{LeavesPart, RecoversTo}
-use Rattle.kadm_session.specs.Courses.{AnsweredWhole, Course, Follows, GoesOnFrom, IsStopped, Leaves, MayStop, RecoversToOne, Rests, Stops, course, ending}
+use Rattle.kadm_session.specs.Courses.{AnsweredBetween, AnsweredWhole, Course, Follows, GoesOnFrom, IsStopped, Leaves, MayStop, RecoversToOne, Rests, RestsBetween, Stops, course, ending}
 use Rattle.kadm_session.specs.Deciding.{AreMade, Answers, Decides, IsLineSafe}
 use Rattle.kadm_session.specs.Draws.{Draws}
 use Rattle.kadm_session.specs.Replies.{text_of}
 use Rattle.kadm_session.specs.Steps.{draws_after, is_refusal, places_by, places_made, reply_to, said, seen_after, text_to}
 use Rattle.kadm_session.specs.declared.intake.Asked.{Asked}
-use Rattle.kadm_session.specs.declared.intake.Asked.TheVariants.{Nothing, Refused, Does, Rekeys}
+use Rattle.kadm_session.specs.declared.intake.Asked.TheVariants.{Nothing, Refused, Does, Rekeys, ResetsLog}
 use Rattle.kadm_session.proofs.Lines.{line_ends}
+use Rattle.kadm_session.proofs.Renewed.{reset_ends}
 
 -- ---- lines that do nothing
 
@@ -92,6 +93,7 @@ after_is_last Nothing draws at = refl
 after_is_last (Refused refusal) draws at = refl
 after_is_last (Does command) draws at = refl
 after_is_last (Rekeys glob) draws at = line_ends glob draws at
+after_is_last ResetsLog draws at = reset_ends (draws.moments 0) at
 
 -- ---- what follows a line
 
@@ -101,6 +103,17 @@ answered_more : (taken out : Option (List ℕ)) (asked : Asked) (more : List Ask
     → AnsweredWhole taken (asked ∷ more) draws at out later
 unfolding said
 answered_more taken out asked more draws at later rest = record {
+  count = suc rest.count;
+  within = omega (arith, rest.within);
+  out_is = rest.out_is ∙ after_told-append taken (text_to asked draws at) (said (take rest.count more) (draws_after asked draws at) (seen_after asked draws at)).bytes;
+  place_is = rest.place_is;
+}
+
+between_more : (taken out : Option (List ℕ)) (asked : Asked) (more : List Asked) (draws : Draws) (at : Seen) (later : Place)
+    → AnsweredBetween (after_told taken (text_to asked draws at)) more (draws_after asked draws at) (seen_after asked draws at) out later
+    → AnsweredBetween taken (asked ∷ more) draws at out later
+unfolding said
+between_more taken out asked more draws at later rest = record {
   count = suc rest.count;
   within = omega (arith, rest.within);
   out_is = rest.out_is ∙ after_told-append taken (text_to asked draws at) (said (take rest.count more) (draws_after asked draws at) (seen_after asked draws at)).bytes;
@@ -118,7 +131,7 @@ leaves_more asked more draws at c one =
 follows_told : (taken : Option (List ℕ)) (refused : Bool) (asked : Asked) (more : List Asked) (draws : Draws) (at : Seen)
     → Follows (course taken refused (Some (asked ∷ more)) (Some draws) at)
     (course (after_told taken (text_to asked draws at)) (refused || is_refusal (reply_to asked draws at)) (Some more) (Some (draws_after asked draws at)) (seen_after asked draws at))
-unfolding ending said Stops MayStop Rests Leaves
+unfolding ending said Stops MayStop RestsBetween Rests Leaves
 follows_told taken refused asked more draws at =
     let later = said more (draws_after asked draws at) (seen_after asked draws at) in
     record {
@@ -129,6 +142,7 @@ follows_told taken refused asked more draws at =
         draws = later.draws;
       });
       stops = λ out first others h. inr h;
+      between = λ out place h. between_more taken out asked more draws at place h;
       rests = λ out place h. answered_more taken out asked more draws at place h;
       leaves = λ c h. leaves_more asked more draws at c h;
     }
@@ -136,10 +150,11 @@ follows_told taken refused asked more draws at =
 -- where nothing is told of the clock or the random bytes
 follows_untold : (taken taken' : Option (List ℕ)) (refused refused' : Bool) (commands commands' : List Asked) (at later : Seen)
     → Follows (course taken refused (Some commands) None at) (course taken' refused' (Some commands') None later)
-unfolding ending Stops Rests Leaves
+unfolding ending Stops RestsBetween Rests Leaves
 follows_untold taken taken' refused refused' commands commands' at later = record {
   ends = refl;
   stops = λ out first others h. tt;
+  between = λ out place h. tt;
   rests = λ out place h. tt;
   leaves = λ c h. tt;
 }

@@ -4,6 +4,7 @@ pub mod Naming
 pub mod Making
 pub mod Moving
 pub mod Lines
+pub mod Renewed
 pub mod Going
 pub mod Turning
 pub mod StashAsked

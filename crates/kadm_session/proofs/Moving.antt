@@ -94,7 +94,7 @@ end_among : (p : Place) (made more : List Place) → Contains (p ∷ made ++ mor
 end_among p [] more = (0, omega arith, refl)
 end_among p (q ∷ made) more = let later = end_among q made more in (suc later.0, omega (arith, later.1), later.2)
 
-part_leaves : (p : Place) (made : List Place) (q : Place) (c : Files) → IsPart p made q → recovers c ≡ Ok q → LeavesPart p made c
+pub part_leaves : (p : Place) (made : List Place) (q : Place) (c : Files) → IsPart p made q → recovers c ≡ Ok q → LeavesPart p made c
 unfolding LeavesPart
 part_leaves p [] q c is found = found ∙ ap (λ (x : Place). Ok x) is
 part_leaves p (n ∷ others) q c (inl is) found = inl (found ∙ ap (λ (x : Place). Ok x) is)

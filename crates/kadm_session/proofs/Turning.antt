@@ -2,7 +2,7 @@
 use Rattle.std.proofs.Common.{◌≡◌, ◌∙◌, ℕ, List, [], ◌∷◌, ◌||◌, Bool, true, false, refl, ap, sym, subst, inl, arith}
 use Rattle.std.proofs.Math.Bool.{or-false}
 use Rattle.std.proofs.lemmas.Option.{same_Some}
-use Rattle.std.specs.Prelude.{Option, Some, None, Result, Ok, Err, IfOk}
+use Rattle.std.specs.Prelude.{Option, Some, None, Result, Ok, Err, IfOk, drop, take}
 use Rattle.kadm_lines.specs.Reader.{ReaderState}
 use Rattle.std.specs.List.{Contains}
 use Rattle.kdb_disk.proofs.Runs.{started, weaken}
@@ -16,7 +16,7 @@ use Rattle.kdb_plain.specs.declared.states.State.{State}
 use Rattle.kdb_ports.proofs.Told.{after_told-nil}
 use Rattle.primary_core.specs.Opened.{HasState, Opened, place_of}
 use Rattle.store_files.specs.Recovery.{LeavesPart, RecoversTo}
-use Rattle.kadm_session.specs.Courses.{AnsweredWhole, Course, Ending, EndsAs, Follows, GoesOnFrom, IsAtRest, IsStopped, Leaves, MayStop, Rests, Stage, Stops, course, end_with, ending, rests_before}
+use Rattle.kadm_session.specs.Courses.{AnsweredBetween, AnsweredWhole, Course, Ending, EndsAs, Follows, GoesOnFrom, IsAtRest, IsBetweenLines, IsStopped, Leaves, MayStop, Rests, RestsBetween, Stage, Stops, course, end_with, ending, rests_before, rests_between_by, rests_by}
 use Rattle.kadm_session.specs.Deciding.{IsHalfway, MayRest}
 use Rattle.kadm_session.specs.Draws.{Draws}
 use Rattle.kadm_session.specs.Intake.{Comes, NoCommand, before_commands, coming}
@@ -41,10 +41,11 @@ comes_first answer asked read realm realm' old new told left is same stays comes
 
 follows_unknown : (taken taken' : Option (List ℕ)) (refused refused' : Bool) (told left : Option Draws) (at later : Seen)
     → Follows (course taken refused None told at) (course taken' refused' None left later)
-unfolding ending Stops Rests Leaves
+unfolding ending Stops RestsBetween Rests Leaves
 follows_unknown taken taken' refused refused' told left at later = record {
   ends = refl;
   stops = λ out first others h. tt;
+  between = λ out place h. tt;
   rests = λ out place h. tt;
   leaves = λ c h. tt;
 }
@@ -116,16 +117,39 @@ here_rests : (commands : List Asked) (draws : Draws) (at : Seen) → Contains (r
 here_rests [] draws at = (0, omega arith, refl)
 here_rests (asked ∷ commands) draws at = (0, omega arith, refl)
 
-none_answered : (taken : Option (List ℕ)) (commands : List Asked) (draws : Draws) (at : Seen) → AnsweredWhole taken commands draws at taken at.place
+none_answered : (taken : Option (List ℕ)) (commands : List Asked) (draws : Draws) (at : Seen) → AnsweredBetween taken commands draws at taken at.place
 unfolding said
-none_answered taken commands draws at = record { count = 0; within = omega arith; out_is = sym (after_told-nil taken); place_is = here_rests commands draws at }
+none_answered taken commands draws at = record { count = 0; within = omega arith; out_is = sym (after_told-nil taken); place_is = refl }
 
-may_rest_here : (taken : Option (List ℕ)) (refused : Bool) (commands : Option (List Asked)) (told : Option Draws) (at : Seen)
-    → Rests (course taken refused commands told at) taken at.place
-unfolding Rests
-may_rest_here taken refused None told at = tt
-may_rest_here taken refused (Some commands) None at = tt
-may_rest_here taken refused (Some commands) (Some draws) at = none_answered taken commands draws at
+between_here : (taken : Option (List ℕ)) (refused : Bool) (commands : Option (List Asked)) (told : Option Draws) (at : Seen)
+    → RestsBetween (course taken refused commands told at) taken at.place
+unfolding RestsBetween
+between_here taken refused None told at = tt
+between_here taken refused (Some commands) None at = tt
+between_here taken refused (Some commands) (Some draws) at = none_answered taken commands draws at
+
+-- between two lines it rests
+answered_between : (taken out : Option (List ℕ)) (commands : List Asked) (draws : Draws) (at : Seen) (later : Place) → AnsweredBetween taken commands draws at out later → AnsweredWhole taken commands draws at out later
+answered_between taken out commands draws at later between =
+    let so_far = said (take between.count commands) draws at in
+    record {
+      count = between.count;
+      within = between.within;
+      out_is = between.out_is;
+      place_is = subst (λ (p : Place). Contains (rests_before (drop between.count commands) so_far.draws so_far.at) p) (sym between.place_is) (here_rests (drop between.count commands) so_far.draws so_far.at);
+    }
+
+rests_by_between : (c : Course) (out : Option (List ℕ)) (place : Place) → RestsBetween c out place → Rests c out place
+unfolding RestsBetween Rests
+rests_by_between c out place between = by c.commands c.draws between
+  where
+    by : (commands : Option (List Asked)) (told : Option Draws) → rests_between_by c.taken commands told c.at out place → rests_by c.taken commands told c.at out place
+    by None told h = tt
+    by (Some commands) None h = tt
+    by (Some commands) (Some draws) h = answered_between c.taken out commands draws c.at place h
+
+pub between_rests : (c : Course) (out : Option (List ℕ)) (now : View) → IsBetweenLines c out now → IsAtRest c out now
+between_rests c out now between = record { place = between.place; may = rests_by_between c out between.place between.may; stands = between.stands }
 
 leaves_where_it_is : (taken : Option (List ℕ)) (refused : Bool) (commands : Option (List Asked)) (told : Option Draws) (at : Seen) (c : Files)
     → LeavesPart at.place [] c → Leaves (course taken refused commands told at) c
@@ -143,12 +167,13 @@ leaves_here taken refused commands told at now recovered =
 -- ---- the whole session, by what follows
 
 pub follows_itself : (c : Course) → Follows c c
-follows_itself c = record { ends = refl; stops = λ out first others h. h; rests = λ out place h. h; leaves = λ files h. h }
+follows_itself c = record { ends = refl; stops = λ out first others h. h; between = λ out place h. h; rests = λ out place h. h; leaves = λ files h. h }
 
 pub follows_then : (a b c : Course) → Follows a b → Follows b c → Follows a c
 follows_then a b c one two = record {
   ends = one.ends ∙ two.ends;
   stops = λ out first others h. one.stops out first others (two.stops out first others h);
+  between = λ out place h. one.between out place (two.between out place h);
   rests = λ out place h. one.rests out place (two.rests out place h);
   leaves = λ files h. one.leaves files (two.leaves files h);
 }
@@ -176,13 +201,17 @@ stopped_from c o taken refused commands told out now was stopped = record {
 }
 
 -- it rests where it is
-pub rests_from : (c : Course) (o : Opened) (taken : Option (List ℕ)) (refused : Bool) (commands : Option (List Asked)) (told : Option Draws) (now : View)
-    → GoesOnFrom c o taken refused commands told → RecoversTo (place_of o) now → IsAtRest c taken now
-rests_from c o taken refused commands told now was recovered = record {
+pub between_from : (c : Course) (o : Opened) (taken : Option (List ℕ)) (refused : Bool) (commands : Option (List Asked)) (told : Option Draws) (now : View)
+    → GoesOnFrom c o taken refused commands told → RecoversTo (place_of o) now → IsBetweenLines c taken now
+between_from c o taken refused commands told now was recovered = record {
   place = place_of o;
-  may = was.follows.rests taken (place_of o) (may_rest_here taken refused commands told (seen (place_of o) was.state));
+  may = was.follows.between taken (place_of o) (between_here taken refused commands told (seen (place_of o) was.state));
   stands = recovered;
 }
+
+pub rests_from : (c : Course) (o : Opened) (taken : Option (List ℕ)) (refused : Bool) (commands : Option (List Asked)) (told : Option Draws) (now : View)
+    → GoesOnFrom c o taken refused commands told → RecoversTo (place_of o) now → IsAtRest c taken now
+rests_from c o taken refused commands told now was recovered = between_rests c taken now (between_from c o taken refused commands told now was recovered)
 
 -- it rests where a later course may rest
 pub rests_on : (c : Course) (o : Opened) (taken : Option (List ℕ)) (refused : Bool) (commands : Option (List Asked)) (told : Option Draws) (out : Option (List ℕ)) (now : View)

@@ -93,6 +93,30 @@ pub record IsStopped (stage : Stage) (out : Option (List ℕ)) (now : View) : Ty
   pub may : stage out first others
   pub stands : StandsPart first others now
 
+-- ---- where it rests between two lines
+
+-- So many of the commands were done, and the replies to them are written in full. Of the next one nothing was done.
+pub record AnsweredBetween (taken : Option (List ℕ)) (commands : List Asked) (draws : Draws) (at : Seen) (out : Option (List ℕ)) (later : Place) : Type 0 where
+  pub count : ℕ
+  pub within : count ≤ length commands
+  pub out_is : out ≡ after_told taken (said (take count commands) draws at).bytes
+  pub place_is : later ≡ (said (take count commands) draws at).at.place
+
+abbrev pub rests_between_by : Option (List ℕ) → Option (List Asked) → Option Draws → Seen → Option (List ℕ) → Place → Type 0
+rests_between_by taken None draws at out later = ⊤
+rests_between_by taken (Some commands) None at out later = ⊤
+rests_between_by taken (Some commands) (Some draws) at out later = AnsweredBetween taken commands draws at out later
+
+-- the same, where the commands, the clock and the random bytes are told
+unfoldable pub RestsBetween : Course → Option (List ℕ) → Place → Type 0
+RestsBetween c out later = rests_between_by c.taken c.commands c.draws c.at out later
+
+-- a session has stopped so, with this in its sink, and what a crash leaves of its disk is that place alone
+pub record IsBetweenLines (c : Course) (out : Option (List ℕ)) (now : View) : Type 0 where
+  pub place : Place
+  pub may : RestsBetween c out place
+  pub stands : RecoversTo place now
+
 -- ---- where it stops for want of memory
 
 -- where it may stand before the reply to the next command: as behind the one before, or where the next rekeys many, behind some of these
@@ -145,6 +169,7 @@ Leaves c files = leaves_by c.commands c.draws c.at files
 pub record Follows (earlier later : Course) : Type 0 where
   pub ends : ending earlier ≡ ending later
   pub stops : (out : Option (List ℕ)) (first : Place) (others : List Place) → Stops later out first others → Stops earlier out first others
+  pub between : (out : Option (List ℕ)) (place : Place) → RestsBetween later out place → RestsBetween earlier out place
   pub rests : (out : Option (List ℕ)) (place : Place) → Rests later out place → Rests earlier out place
   pub leaves : (c : Files) → Leaves later c → Leaves earlier c
 

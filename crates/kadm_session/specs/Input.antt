@@ -6,7 +6,7 @@ use Rattle.kadm_commands.specs.declared.commands.Command.TheVariants as command
 use Rattle.kadm_lines.specs.Lines.{Seen}
 use Rattle.primary_core.specs.Deciding.{is_judged}
 use Rattle.kadm_session.specs.declared.intake.Asked.{Asked}
-use Rattle.kadm_session.specs.declared.intake.Asked.TheVariants.{Nothing, Refused, Does, Rekeys}
+use Rattle.kadm_session.specs.declared.intake.Asked.TheVariants.{Nothing, Refused, Does, Rekeys, ResetsLog}
 use Rattle.kadm_wire.specs.LineReadings.{reading}
 use Rattle.kdb_base.specs.declared.outcomes.Refusal.{Refusal}
 use Rattle.kdb_base.specs.declared.outcomes.Refusal.TheVariants.{BadLine, LineTooLong}
@@ -63,3 +63,4 @@ IsAsked realm Nothing = Unit {0}
 IsAsked realm (Refused refusal) = Unit {0}
 IsAsked realm (Does command) = IsLineCommand realm command
 IsAsked realm (Rekeys glob) = Unit {0}
+IsAsked realm ResetsLog = Unit {0}

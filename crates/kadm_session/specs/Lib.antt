@@ -3,6 +3,7 @@ pub mod Input
 pub mod Intake
 pub mod Replies
 pub mod Rekeying
+pub mod Renewing
 pub mod Steps
 pub mod Deciding
 pub mod RekeyedNames

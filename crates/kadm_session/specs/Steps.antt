@@ -4,11 +4,12 @@ use Rattle.std.specs.Prelude.{ℕ, Bool, true, false, ◌||◌, List, [], ◌∷
 use Rattle.kadm_commands.specs.declared.commands.Command.{Command}
 use Rattle.kadm_commands.specs.declared.replies.Reply.{Reply}
 use Rattle.kadm_commands.specs.declared.replies.Reply.TheVariants as reply
-use Rattle.kadm_session.specs.Draws.{Draws, behind_command, block_in, moment_in}
+use Rattle.kadm_session.specs.Draws.{Draws, behind_command, behind_moment, block_in, moment_in}
 use Rattle.kadm_session.specs.Rekeying.{Progress, begun, rekeyed, rekeyed_reply}
+use Rattle.kadm_session.specs.Renewing.{after_reset, places_reset, reset_reply}
 use Rattle.kadm_session.specs.Replies.{text_of}
 use Rattle.kadm_session.specs.declared.intake.Asked.{Asked}
-use Rattle.kadm_session.specs.declared.intake.Asked.TheVariants.{Nothing, Refused, Does, Rekeys}
+use Rattle.kadm_session.specs.declared.intake.Asked.TheVariants.{Nothing, Refused, Does, Rekeys, ResetsLog}
 use Rattle.kdb_base.specs.Moment.{Moment}
 use Rattle.kdb_histories.specs.Asks.{Answer, Ask, Replied}
 use Rattle.kdb_histories.specs.Seen.{Seen, after_ask, answer_at, made_at}
@@ -48,6 +49,7 @@ reply_to Nothing draws at = None
 reply_to (Refused refusal) draws at = Some (reply.Refused refusal)
 reply_to (Does command) draws at = reply_in_answer (answer_at (ask_of command draws at) at)
 reply_to (Rekeys glob) draws at = Some (rekeyed_reply (rekeyed_by glob draws at))
+reply_to ResetsLog draws at = Some (reset_reply (moment_in draws) at)
 
 -- the place and the state after it
 unfoldable pub seen_after : Asked → Draws → Seen → Seen
@@ -55,13 +57,16 @@ seen_after Nothing draws at = at
 seen_after (Refused refusal) draws at = at
 seen_after (Does command) draws at = after_ask (ask_of command draws at) at
 seen_after (Rekeys glob) draws at = (rekeyed_by glob draws at).at
+seen_after ResetsLog draws at = after_reset (moment_in draws) at
 
--- the places that it makes: none, those of its change, or those of the rekeyings; a change has one, or before it that of a log begun anew
+-- the places that it makes: none, those of its change, those of the rekeyings, or that of the log begun anew on request; a change has one, or
+-- before it that of a log begun anew
 unfoldable pub places_by : Asked → Draws → Seen → List Place
 places_by Nothing draws at = []
 places_by (Refused refusal) draws at = []
 places_by (Does command) draws at = places (made_at (ask_of command draws at) at)
 places_by (Rekeys glob) draws at = (rekeyed_by glob draws at).made
+places_by ResetsLog draws at = places_reset (moment_in draws) at
 
 -- those at which it may stop for want of memory or of random bytes: rekeyings that were settled before stay
 abbrev pub halfway : Asked → Draws → Seen → List Place
@@ -69,12 +74,13 @@ halfway (Rekeys glob) draws at = places_by (Rekeys glob) draws at
 halfway other draws at = []
 
 -- A line that gives no command reads no clock and draws nothing. Of many that are rekeyed each has its own 512 bytes, up to the first that
--- is refused.
+-- is refused. A log that is begun anew on request takes a moment alone.
 unfoldable pub draws_after : Asked → Draws → Seen → Draws
 draws_after Nothing draws at = draws
 draws_after (Refused refusal) draws at = draws
 draws_after (Does command) draws at = behind_command draws
 draws_after (Rekeys glob) draws at = record { moments = later_moments draws.moments; stream = (rekeyed_by glob draws at).stream }
+draws_after ResetsLog draws at = behind_moment draws
 
 abbrev pub refuses : Reply → Bool
 refuses (reply.Refused refusal) = true

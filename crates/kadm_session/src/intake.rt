@@ -15,7 +15,7 @@ use kdb_base::{Blob, MemoryOut, Refusal, Stop};
 use kdb_ports::Source;
 use std::alloc::Global;
 
-/// What a line of the input asks for. It does not print itself: what it would print may be a password.
+/// What a session is asked for. It does not print itself: what it would print may be a password.
 #[derive(Drop)]
 pub enum Asked {
     /// The line is skipped.
@@ -26,6 +26,8 @@ pub enum Asked {
     Does(Command),
     /// The line rekeys the principals that this glob matches, or all without one, each as an event of its own.
     Rekeys(Option<Blob>),
+    /// The log is begun anew on request. No line of an input gives it.
+    ResetsLog,
 }
 
 /// What comes next of the input.

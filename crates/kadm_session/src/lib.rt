@@ -8,6 +8,7 @@ pub mod halts;
 pub mod intake;
 pub mod laws;
 mod rekeying;
+mod renewing;
 pub mod replies;
 pub mod session;
 mod stashing;

@@ -2,7 +2,7 @@
 
 ghost use Rattle.std.specs.Prelude.{◌≡◌, ◌≢◌, ◌<◌, ◌∷◌, ◌||◌, IsTrue, Bool, false, List, [], ℕ, Option, Some, None, Ok, Err, IfErr, IfOk, OnOk, OnErr};
 ghost use Rattle.kadm_lines.specs.Reader.{work_left};
-ghost use Rattle.kadm_session.specs.Courses.{Ending, EndsAs, GoesOnFrom, IsAtRest, IsStopped, Leaves, Stops, course, ending};
+ghost use Rattle.kadm_session.specs.Courses.{Ending, EndsAs, GoesOnFrom, IsAtRest, IsBetweenLines, IsStopped, Leaves, Stops, course, ending};
 ghost use Rattle.kadm_session.specs.Deciding.{Decides, IsHalfway, IsLineSafe};
 ghost use Rattle.kadm_session.specs.Draws.{told_draws};
 ghost use Rattle.kadm_session.specs.Halts.{Counts, IsAnswerHalt, IsPerformHalt};
@@ -23,6 +23,7 @@ use crate::commands::perform;
 use crate::halts::SessionHalt;
 use crate::intake::{Asked, Next, next_command};
 use crate::rekeying::rekey;
+use crate::renewing::renew;
 use crate::replies::{Printed, print, write_any};
 use kadm_commands::Reply;
 use kadm_lines::LineReader;
@@ -49,9 +50,10 @@ fn is_refusal(printed: &Option<Printed>) -> bool
     }
 }
 
-// Does what a line asks for, and gives the printed reply; none, where the line is skipped. The clock is read, and
-// random bytes are drawn, where the line gives a command. Where memory is wanted and not there, or no random bytes are
-// given, nothing was done, but that of many that are rekeyed some may be.
+// Does what is asked for, and gives the printed reply; none, where a line is skipped. The clock is read, and random
+// bytes are drawn, where a line gives a command; for a log that is begun anew on request the clock alone is read. Where
+// memory is wanted and not there, or no random bytes are given, nothing was done, but that of many that are rekeyed some
+// may be.
 fn decide<D: Disk, C: Clock, E: Entropy>(
     alloc: Global,
     primary: &mut Primary,
@@ -90,6 +92,10 @@ fn decide<D: Disk, C: Clock, E: Entropy>(
             Ok(printed) => Ok(Some(printed)),
             Err(halt) => Err(halt),
         },
+        Asked::ResetsLog => match renew(alloc, primary, disk, clock) {
+            Ok(printed) => Ok(Some(printed)),
+            Err(halt) => Err(halt),
+        },
     }
 }
 
@@ -122,6 +128,7 @@ fn answer<K: Sink, D: Disk, C: Clock, E: Entropy>(
         → IsAtRest (course (K.taken sink.old) refused (Some (asked.now ∷ more)) (told_draws (C.moments clock.old) (E.stream entropy.old)) (seen (place_of primary.old) s)) (K.taken sink.new) (D.view disk.new) }
     ensures drawn { D.tells → (s : State) (refused : Bool) (more : List Asks) → HasState primary.old s → result ≡ Err SessionHalt.DrawFault
         → IsAtRest (course (K.taken sink.old) refused (Some (asked.now ∷ more)) (told_draws (C.moments clock.old) (E.stream entropy.old)) (seen (place_of primary.old) s)) (K.taken sink.new) (D.view disk.new) }
+    ensures unsaid { IfErr result (λ halt. halt ≢ SessionHalt.WriteFault → sink.new ≡ sink.old) }
     ensures halt { IfErr result IsAnswerHalt }
     ensures call { IsCall D.Disk disk.old disk.new (result ≡ Err SessionHalt.DiskFault) }
     ensures writes { Counts (K.faults sink.old) (K.faults sink.new) (result ≡ Err SessionHalt.WriteFault) }
@@ -198,7 +205,7 @@ fn turn<S: Source, K: Sink, D: Disk, C: Clock, E: Entropy>(
 ///
 /// Each but `MemoryOut` comes only where its object's count of faults rose, `InputTooLong` where 4294967296 bytes were
 /// taken. After `MemoryOut`, `DrawFault`, `ReadFault` and `InputTooLong` so many commands were done, and the replies to
-/// them are written in full.
+/// them are written in full; after the last two nothing else was done.
 pub fn serve<S: Source, K: Sink, D: Disk, C: Clock, E: Entropy>(
     alloc: Global,
     reader: &mut LineReader,
@@ -223,17 +230,17 @@ pub fn serve<S: Source, K: Sink, D: Disk, C: Clock, E: Entropy>(
     ensures stopped { D.tells → (s : State) → HasState primary.old s → OnErr result
         (IsStopped (Stops (course (K.taken sink.old) false (coming primary.old.kept.realm reader.old (S.left source.old)) (told_draws (C.moments clock.old) (E.stream entropy.old)) (seen (place_of primary.old) s))) (K.taken sink.new) (D.view disk.new)) }
 
-    // Where it stops for want of memory, of random bytes or of input, or at the limit of the input, so many commands were
-    // done, and the replies to them are written in full: no change stands without its reply, but of many that are to be
-    // rekeyed those that were before it.
+    // Where it stops for want of memory or of random bytes, so many commands were done, and the replies to them are written
+    // in full: no change stands without its reply, but of many that are to be rekeyed those that were before it. For want
+    // of input, and at the limit of the input, it stops between two lines: there that exception is none.
     ensures memory { D.tells → (s : State) → HasState primary.old s → result ≡ Err SessionHalt.MemoryOut
         → IsAtRest (course (K.taken sink.old) false (coming primary.old.kept.realm reader.old (S.left source.old)) (told_draws (C.moments clock.old) (E.stream entropy.old)) (seen (place_of primary.old) s)) (K.taken sink.new) (D.view disk.new) }
     ensures drawn { D.tells → (s : State) → HasState primary.old s → result ≡ Err SessionHalt.DrawFault
         → IsAtRest (course (K.taken sink.old) false (coming primary.old.kept.realm reader.old (S.left source.old)) (told_draws (C.moments clock.old) (E.stream entropy.old)) (seen (place_of primary.old) s)) (K.taken sink.new) (D.view disk.new) }
     ensures read { D.tells → (s : State) → HasState primary.old s → result ≡ Err SessionHalt.ReadFault
-        → IsAtRest (course (K.taken sink.old) false (coming primary.old.kept.realm reader.old (S.left source.old)) (told_draws (C.moments clock.old) (E.stream entropy.old)) (seen (place_of primary.old) s)) (K.taken sink.new) (D.view disk.new) }
+        → IsBetweenLines (course (K.taken sink.old) false (coming primary.old.kept.realm reader.old (S.left source.old)) (told_draws (C.moments clock.old) (E.stream entropy.old)) (seen (place_of primary.old) s)) (K.taken sink.new) (D.view disk.new) }
     ensures at_limit { D.tells → (s : State) → HasState primary.old s → result ≡ Err SessionHalt.InputTooLong
-        → IsAtRest (course (K.taken sink.old) false (coming primary.old.kept.realm reader.old (S.left source.old)) (told_draws (C.moments clock.old) (E.stream entropy.old)) (seen (place_of primary.old) s)) (K.taken sink.new) (D.view disk.new) }
+        → IsBetweenLines (course (K.taken sink.old) false (coming primary.old.kept.realm reader.old (S.left source.old)) (told_draws (C.moments clock.old) (E.stream entropy.old)) (seen (place_of primary.old) s)) (K.taken sink.new) (D.view disk.new) }
 
     // A crash at any moment leaves a place of the session.
     ensures moments { D.tells → (s : State) → HasState primary.old s → LeavesOnly (D.view disk.old) (D.view disk.new)
@@ -266,8 +273,8 @@ pub fn serve<S: Source, K: Sink, D: Disk, C: Clock, E: Entropy>(
 ///
 /// # Errors
 ///
-/// As those of `serve`. After `MemoryOut` and `DrawFault` it was done and answered in full, or nothing was written and
-/// nothing was done, but that of many that are rekeyed some may be.
+/// As those of `serve`. But for `WriteFault` nothing was written, and after `MemoryOut` and `DrawFault` nothing was done,
+/// but that of many that are rekeyed some may be.
 pub fn serve_one<K: Sink, D: Disk, C: Clock, E: Entropy>(
     alloc: Global,
     primary: &mut Primary,
@@ -294,6 +301,8 @@ pub fn serve_one<K: Sink, D: Disk, C: Clock, E: Entropy>(
         → IsAtRest (course (K.taken sink.old) false (Some (asked.now ∷ [])) (told_draws (C.moments clock.old) (E.stream entropy.old)) (seen (place_of primary.old) s)) (K.taken sink.new) (D.view disk.new) }
     ensures moments { D.tells → (s : State) → HasState primary.old s → LeavesOnly (D.view disk.old) (D.view disk.new)
         (Leaves (course (K.taken sink.old) false (Some (asked.now ∷ [])) (told_draws (C.moments clock.old) (E.stream entropy.old)) (seen (place_of primary.old) s))) }
+    // But for a fault of the sink itself, an error comes with nothing written.
+    ensures unsaid { IfErr result (λ halt. halt ≢ SessionHalt.WriteFault → sink.new ≡ sink.old) }
     ensures halt { IfErr result IsAnswerHalt }
     ensures call { IsCall D.Disk disk.old disk.new (result ≡ Err SessionHalt.DiskFault) }
     ensures writes { Counts (K.faults sink.old) (K.faults sink.new) (result ≡ Err SessionHalt.WriteFault) }

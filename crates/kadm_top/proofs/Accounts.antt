@@ -1,31 +1,113 @@
 -- What is told of a database, as runs.
-use Rattle.std.proofs.Common.{◌≡◌, ℕ, List, refl, sym, subst, true, false}
-use Rattle.std.specs.Prelude.{Option, Result, Ok, Err}
+use Rattle.std.proofs.Common.{◌≡◌, ◌∙◌, ℕ, suc, ◌-◌, ◌<◌, List, [], ◌∷◌, length, map, get_or, refl, sym, ap, subst, true, false, arith}
+use Rattle.std.specs.Prelude.{Option, Some, None, Result, Ok, Err, IfOk}
+use Rattle.std.proofs.lemmas.List.{length-map}
 use Rattle.std.proofs.lemmas.Option.{same_Some}
+use Rattle.kadm_loading.specs.Halts.{SparesOutput}
+use Rattle.kadm_session.specs.Draws.{Draws, moment_in}
 use Rattle.kadm_session.specs.declared.halts.SessionHalt.{SessionHalt}
-use Rattle.kadm_top.specs.Accounts.{account_text}
-use Rattle.kadm_top.specs.Openings.{AMoment, HasOpening, IsOpening, Opening, behind, tells_of}
-use Rattle.kadm_top.specs.Run.{HasRun, RunEnd, RunEndsAs, SparesOutput, Told, refusal_line}
+use Rattle.kadm_top.specs.Accounts.{account_text, first_held, log_text, report_at, texts_of, whole_text}
+use Rattle.kadm_top.specs.Openings.{AMoment, HasOpening, IsOpening, IsToldBy, Opening, Refuses, Tells, behind}
+use Rattle.kadm_top.specs.Run.{HasRun, RunEnd, RunEndsAs, Told, refusal_line}
 use Rattle.kadm_top.specs.declared.words.Account.{Account}
+use Rattle.kadm_top.specs.declared.words.Account.TheVariants.{Dump, Log, Report}
 use Rattle.kadm_top.specs.declared.words.Words.{Words}
 use Rattle.kadm_top.specs.declared.words.Words.TheVariants as words
 use Rattle.kadm_top.proofs.Running.{cut_refusal_run, refused_run, said_nothing}
+use Rattle.kdb_base.specs.Moment.{Moment}
+use Rattle.kdb_base.specs.declared.moments.Point.{Point}
 use Rattle.kdb_base.specs.declared.outcomes.Refusal.{Refusal}
 use Rattle.kdb_disk.specs.Files.{Files}
 use Rattle.kdb_disk.specs.Moments.{LeavesOnly}
 use Rattle.kdb_disk.specs.View.{View}
-use Rattle.kdb_places.specs.Places.{Place}
+use Rattle.kdb_places.specs.Places.{Place, last_point, no_point}
 use Rattle.kdb_ports.specs.Parts.{SaidPart}
 use Rattle.kdb_ports.specs.Told.{after_told}
-use Rattle.kadm_session.specs.Draws.{Draws}
+use Rattle.princ_entries.specs.declared.entries.Entry.{Entry}
 use Rattle.store_files.specs.Found.{recovers}
+use Rattle.store_files.specs.Kept.{Kept, place_kept}
 use Rattle.store_files.specs.Recovery.{IsLike}
+use Rattle.ulog_text.specs.Ulogs.{ulog_text}
+use Rattle.update_log.specs.Logs.{Journal, entry_of}
+
+-- ---- the log's text
+
+first_is : (entries : List Entry) (d : Entry) → 0 < length entries → (get_or entries 0 d).point ≡ first_held entries
+first_is [] d some = absurd (omega (arith, some))
+first_is (e ∷ entries) d some = refl
+
+last_is : (point : Point) (entries : List Entry) (d : Entry) → 0 < length entries → (get_or entries (length entries - 1) d).point ≡ last_point point entries
+unfolding last_point
+last_is point [] d some = absurd (omega (arith, some))
+last_is point (e ∷ []) d some = refl
+last_is point (e ∷ (next ∷ entries)) d some =
+    let there : length (e ∷ (next ∷ entries)) - 1 ≡ suc (length entries) = omega arith in
+    let here : length entries ≡ length (next ∷ entries) - 1 = omega arith in
+    ap (λ (i : ℕ). (get_or (e ∷ (next ∷ entries)) i d).point) there ∙ ap (λ (i : ℕ). (get_or (next ∷ entries) i d).point) here ∙ last_is e.point (next ∷ entries) d (omega arith)
+
+no_entry : Entry
+no_entry = record { point = no_point; op = None }
+
+text_is : (k : Kept) (size block : ℕ) (text : List ℕ) → 0 < length k.log.held → size ≡ (place_kept k).size → block ≡ (place_kept k).block
+    → text ≡ ulog_text (get_or (map entry_of k.log.held) 0 no_entry).point (get_or (map entry_of k.log.held) (length k.log.held - 1) no_entry).point size block (map entry_of k.log.held)
+    → text ≡ log_text (place_kept k)
+text_is k size block text some size_is block_is is =
+    let held = map entry_of k.log.held in
+    let long : length held ≡ length k.log.held = length-map k.log.held entry_of in
+    let there : 0 < length held = omega (arith, long, some) in
+    is
+    ∙ ap (λ (p : Point). ulog_text p (get_or held (length k.log.held - 1) no_entry).point size block held) (first_is held no_entry there)
+    ∙ ap (λ (n : ℕ). ulog_text (first_held held) (get_or held (n - 1) no_entry).point size block held) (sym long)
+    ∙ ap (λ (p : Point). ulog_text (first_held held) p size block held) (last_is no_point held no_entry there)
+    ∙ ap (λ (n : ℕ). ulog_text (first_held held) (last_point no_point held) n block held) size_is
+    ∙ ap (λ (n : ℕ). ulog_text (first_held held) (last_point no_point held) (place_kept k).size n held) block_is
+
+log_with : {E : Type 0} (k : Kept) (size block : ℕ) (r : Result (List ℕ) E) → 0 < length k.log.held → size ≡ (place_kept k).size → block ≡ (place_kept k).block
+    → ((d : Entry) → IfOk r (λ text. text ≡ ulog_text (get_or (map entry_of k.log.held) 0 d).point (get_or (map entry_of k.log.held) (length k.log.held - 1) d).point size block (map entry_of k.log.held)))
+    → IfOk r (λ text. text ≡ log_text (place_kept k))
+log_with k size block (Ok text) some size_is block_is is = text_is k size block text some size_is block_is (is no_entry)
+log_with k size block (Err halt) some size_is block_is is = tt
+
+-- the log that a database has
+pub log_is : {E : Type 0} (k : Kept) (log : Journal) (size block : ℕ) (r : Result (List ℕ) E) → log ≡ k.log → 0 < length log.held → size ≡ (place_kept k).size → block ≡ (place_kept k).block
+    → ((d : Entry) → IfOk r (λ text. text ≡ ulog_text (get_or (map entry_of log.held) 0 d).point (get_or (map entry_of log.held) (length log.held - 1) d).point size block (map entry_of log.held)))
+    → IfOk r (λ text. text ≡ log_text (place_kept k))
+log_is k log size block r its some size_is block_is is =
+    log_with k size block r (subst (λ (x : Journal). 0 < length x.held) its some) size_is block_is
+    (λ d. subst (λ (x : Journal). IfOk r (λ text. text ≡ ulog_text (get_or (map entry_of x.held) 0 d).point (get_or (map entry_of x.held) (length x.held - 1) d).point size block (map entry_of x.held))) its (is d))
+
+-- ---- the text at the moment that the clock gave
+
+same_text : (f g : Place → List ℕ) → ◌≡◌ {A = Option (Place → List ℕ)} (Some f) (Some g) → (p : Place) → f p ≡ g p
+same_text f g e p = ap (λ (h : Place → List ℕ). h p) (same_Some _ _ e)
+
+pub text_then : (account : Account) (draws : Option Draws) (now : Moment) → ((told : Draws) → draws ≡ Some told → now ≡ moment_in told)
+    → (text : Place → List ℕ) → texts_of account draws ≡ Some text → (p : Place) → account_text account now.secs p ≡ text p
+text_then Dump draws now gave text is p = same_text whole_text text is p
+text_then Log draws now gave text is p = same_text log_text text is p
+text_then (Report kind) None now gave text is p = absurd cc
+text_then (Report kind) (Some told) now gave text is p =
+    ap (λ (m : Moment). report_at kind m.secs p) (gave told refl) ∙ same_text (report_at kind (moment_in told).secs) text is p
+
+-- ---- runs
+
+by_text : (P : Opening → Type 0) (text : Option (Place → List ℕ)) (found : Result Place Refusal) (o : Opening) (p : Place) (said : List ℕ) → found ≡ Ok p → IsToldBy text found o
+    → ((f : Place → List ℕ) → text ≡ Some f → said ≡ f p) → P (Tells said) → P o
+by_text P text found o p said is opens says there = for text (subst (λ (r : Result Place Refusal). IsToldBy text r o) is opens) says
+  where
+    for : (t : Option (Place → List ℕ)) → IsToldBy t (Ok p) o → ((f : Place → List ℕ) → t ≡ Some f → said ≡ f p) → P o
+    for None never other = absurd never
+    for (Some f) e other = subst P (sym e) (subst (λ (xs : List ℕ). P (Tells xs)) (other f refl) there)
+
+by_refusal : (P : Opening → Type 0) (text : Option (Place → List ℕ)) (found : Result Place Refusal) (o : Opening) (why : Refusal) → found ≡ Err why → IsToldBy text found o → P (Refuses why AMoment) → P o
+by_refusal P text found o why is opens there = subst P (sym (subst (λ (r : Result Place Refusal). IsToldBy text r o) is opens)) there
 
 -- it was told
-pub told_run : {old now : View} {before after : Told} (text : Place → List ℕ) (found : Result Place Refusal) (p : Place) → found ≡ Ok p
-    → after.taken ≡ after_told before.taken (text p) → after.draws ≡ behind AMoment before.draws → LeavesOnly old now (IsLike old)
-    → HasRun (tells_of text found) old now before after (Ok false)
-told_run {old} {now} {before} {after} text found p is said_it draws same = subst (λ (f : Result Place Refusal). HasRun (tells_of text f) old now before after (Ok false)) (sym is) (record {
+pub told_run : {old now : View} {before after : Told} (text : Option (Place → List ℕ)) (found : Result Place Refusal) (o : Opening) (p : Place) (said : List ℕ) → found ≡ Ok p → IsToldBy text found o
+    → ((f : Place → List ℕ) → text ≡ Some f → said ≡ f p)
+    → after.taken ≡ after_told before.taken said → after.draws ≡ behind AMoment before.draws → LeavesOnly old now (IsLike old)
+    → HasRun o old now before after (Ok false)
+told_run {old} {now} {before} {after} text found o p said is opens says said_it draws same = by_text (λ (x : Opening). HasRun x old now before after (Ok false)) text found o p said is opens says (record {
   ended = λ end e. subst (λ (x : RunEnd). RunEndsAs after.taken false after.draws old now x) (same_Some _ _ e)
       (record { out_is = said_it; refused_is = refl; stands = same; draws_are = draws });
   stopped = tt;
@@ -35,10 +117,11 @@ told_run {old} {now} {before} {after} text found p is said_it draws same = subst
 })
 
 -- of which not all was written
-pub cut_told_run : {old now : View} {before after : Told} (text : Place → List ℕ) (found : Result Place Refusal) (p : Place) (halt : SessionHalt) → found ≡ Ok p
-    → SaidPart (text p) before.taken after.taken → LeavesOnly old now (IsLike old)
-    → HasRun (tells_of text found) old now before after (Err halt)
-cut_told_run {old} {now} {before} {after} text found p halt is part same = subst (λ (f : Result Place Refusal). HasRun (tells_of text f) old now before after (Err halt)) (sym is) (record {
+pub cut_told_run : {old now : View} {before after : Told} (text : Option (Place → List ℕ)) (found : Result Place Refusal) (o : Opening) (p : Place) (said : List ℕ) (halt : SessionHalt) → found ≡ Ok p
+    → IsToldBy text found o → ((f : Place → List ℕ) → text ≡ Some f → said ≡ f p)
+    → SaidPart said before.taken after.taken → LeavesOnly old now (IsLike old)
+    → HasRun o old now before after (Err halt)
+cut_told_run {old} {now} {before} {after} text found o p said halt is opens says part same = by_text (λ (x : Opening). HasRun x old now before after (Err halt)) text found o p said is opens says (record {
   ended = λ end e. tt;
   stopped = (part, same);
   rests = λ spares. (part, same);
@@ -47,32 +130,55 @@ cut_told_run {old} {now} {before} {after} text found p halt is part same = subst
 })
 
 -- nothing stands there of which it could be told
-pub untold_run : {old now : View} {before after : Told} (text : Place → List ℕ) (found : Result Place Refusal) (why : Refusal) → found ≡ Err why
+pub untold_run : {old now : View} {before after : Told} (text : Option (Place → List ℕ)) (found : Result Place Refusal) (o : Opening) (why : Refusal) → found ≡ Err why → IsToldBy text found o
     → after.taken ≡ after_told before.taken (refusal_line why) → after.draws ≡ behind AMoment before.draws → LeavesOnly old now (IsLike old)
-    → HasRun (tells_of text found) old now before after (Ok true)
-untold_run {old} {now} {before} {after} text found why is said_it draws same =
-    subst (λ (f : Result Place Refusal). HasRun (tells_of text f) old now before after (Ok true)) (sym is) (refused_run why AMoment said_it draws same)
+    → HasRun o old now before after (Ok true)
+untold_run {old} {now} {before} {after} text found o why is opens said_it draws same =
+    by_refusal (λ (x : Opening). HasRun x old now before after (Ok true)) text found o why is opens (refused_run why AMoment said_it draws same)
 
-pub cut_untold_run : {old now : View} {before after : Told} (text : Place → List ℕ) (found : Result Place Refusal) (why : Refusal) (halt : SessionHalt) → found ≡ Err why
-    → SaidPart (refusal_line why) before.taken after.taken → LeavesOnly old now (IsLike old) → (SparesOutput halt → after.taken ≡ before.taken)
-    → HasRun (tells_of text found) old now before after (Err halt)
-cut_untold_run {old} {now} {before} {after} text found why halt is part same nothing =
-    subst (λ (f : Result Place Refusal). HasRun (tells_of text f) old now before after (Err halt)) (sym is) (cut_refusal_run why AMoment halt part same nothing)
+pub cut_untold_run : {old now : View} {before after : Told} (text : Option (Place → List ℕ)) (found : Result Place Refusal) (o : Opening) (why : Refusal) (halt : SessionHalt) → found ≡ Err why
+    → IsToldBy text found o → SaidPart (refusal_line why) before.taken after.taken → LeavesOnly old now (IsLike old) → (SparesOutput halt → after.taken ≡ before.taken)
+    → HasRun o old now before after (Err halt)
+cut_untold_run {old} {now} {before} {after} text found o why halt is opens part same nothing =
+    by_refusal (λ (x : Opening). HasRun x old now before after (Err halt)) text found o why is opens (cut_refusal_run why AMoment halt part same nothing)
 
 -- the opening was stopped
-pub halted_told_run : {old now : View} {before after : Told} (text : Place → List ℕ) (found : Result Place Refusal) (halt : SessionHalt)
-    → after.taken ≡ before.taken → LeavesOnly old now (IsLike old) → HasRun (tells_of text found) old now before after (Err halt)
-halted_told_run {before = before} {after = after} text (Ok p) halt nothing same = cut_told_run text (Ok p) p halt refl (said_nothing (text p) before.taken after.taken nothing) same
-halted_told_run {before = before} {after = after} text (Err why) halt nothing same =
-    cut_untold_run text (Err why) why halt refl (said_nothing (refusal_line why) before.taken after.taken nothing) same (λ spares. nothing)
+pub halted_told_run : {old now : View} {before after : Told} (text : Option (Place → List ℕ)) (found : Result Place Refusal) (o : Opening) (halt : SessionHalt) → IsToldBy text found o
+    → after.taken ≡ before.taken → LeavesOnly old now (IsLike old) → HasRun o old now before after (Err halt)
+halted_told_run text (Err why) o halt opens nothing same =
+    cut_untold_run text (Err why) o why halt refl opens (said_nothing (refusal_line why) _ _ nothing) same (λ spares. nothing)
+halted_told_run None (Ok p) o halt opens nothing same = absurd opens
+halted_told_run (Some text) (Ok p) o halt opens nothing same =
+    cut_told_run (Some text) (Ok p) o p (text p) halt refl opens (λ f e. same_text text f e p) (said_nothing (text p) _ _ nothing) same
 
 -- ---- by the words
 
-pub for_tell : (files : Files) (draws : Option Draws) (o : Opening) (found : Result Words Refusal) (account : Account) → found ≡ Ok (words.Tell account) → IsOpening found files draws o
-    → o ≡ tells_of (account_text account) (recovers files)
+pub for_tell : (left : Option (List ℕ)) (files : Files) (draws : Option Draws) (o : Opening) (found : Result Words Refusal) (account : Account) → found ≡ Ok (words.Tell account) → IsOpening found left files draws o
+    → IsToldBy (texts_of account draws) (recovers files) o
 unfolding IsOpening
-for_tell files draws o found account is opening = subst (λ (w : Result Words Refusal). IsOpening w files draws o) is opening
+for_tell left files draws o found account is opening = subst (λ (w : Result Words Refusal). IsOpening w left files draws o) is opening
 
-pub tell_has : (files : Files) (draws : Option Draws) (found : Result Words Refusal) (account : Account) → found ≡ Ok (words.Tell account) → HasOpening found files draws
+-- where the clock is told, there is a text
+record HasText (text : Option (Place → List ℕ)) : Type 0 where
+  its : Place → List ℕ
+  is : text ≡ Some its
+
+text_told : (account : Account) (draws : Draws) → HasText (texts_of account (Some draws))
+text_told Dump draws = record { its = whole_text; is = refl }
+text_told Log draws = record { its = log_text; is = refl }
+text_told (Report kind) draws = record { its = report_at kind (moment_in draws).secs; is = refl }
+
+record IsTold (text : Option (Place → List ℕ)) (found : Result Place Refusal) : Type 0 where
+  opening : Opening
+  is : IsToldBy text found opening
+
+told_by : (text : Option (Place → List ℕ)) (found : Result Place Refusal) → HasText text → IsTold text found
+told_by text (Err why) has = record { opening = Refuses why AMoment; is = refl }
+told_by text (Ok p) has = record { opening = Tells (has.its p); is = subst (λ (t : Option (Place → List ℕ)). IsToldBy t (Ok p) (Tells (has.its p))) (sym has.is) refl }
+
+pub tell_has : {left : Option (List ℕ)} (files : Files) (draws : Draws) (given : Option Draws) (found : Result Words Refusal) (account : Account) → given ≡ Some draws → found ≡ Ok (words.Tell account) → HasOpening found left files given
 unfolding IsOpening
-tell_has files draws found account is = subst (λ (w : Result Words Refusal). HasOpening w files draws) (sym is) (record { opening = tells_of (account_text account) (recovers files); is = refl })
+tell_has {left} files draws given found account told is =
+    let there = told_by (texts_of account (Some draws)) (recovers files) (text_told account draws) in
+    subst (λ (d : Option Draws). HasOpening found left files d) (sym told)
+    (subst (λ (w : Result Words Refusal). HasOpening w left files (Some draws)) (sym is) (record { opening = there.opening; is = there.is }))

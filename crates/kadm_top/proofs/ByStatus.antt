@@ -1,11 +1,12 @@
 -- From what a run comes to, to what its status says.
 use Rattle.std.proofs.Common.{◌≡◌, ◌≢◌, ◌≤◌, ◌∙◌, ◌⊎◌, ℕ, refl, sym, subst, inl, inr, Bool, true, false, arith}
 use Rattle.std.specs.Prelude.{Option, List, Result, Ok, Err, IfErr, IfOk, OnErr, OnOk}
+use Rattle.kadm_loading.specs.Halts.{SparesOutput}
 use Rattle.kadm_session.specs.declared.halts.SessionHalt.{SessionHalt}
 use Rattle.kadm_session.specs.declared.halts.SessionHalt.TheVariants as session
 use Rattle.kadm_top.specs.Openings.{Opening}
 use Rattle.kadm_top.specs.Reads.{InputIsRead}
-use Rattle.kadm_top.specs.Run.{HasRun, SparesOutput, Told}
+use Rattle.kadm_top.specs.Run.{HasRun, Told}
 use Rattle.kadm_top.specs.Statuses.{Faults, HasCauses, IsRun, IsSayHalt, OnEnd, OnRest, OnStop, StatusHasCauses, faults, status_after}
 use Rattle.kdb_base.specs.Causes.{Rose}
 use Rattle.kdb_base.specs.declared.outcomes.Status.{Status}

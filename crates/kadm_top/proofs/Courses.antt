@@ -5,6 +5,8 @@ use Rattle.std.proofs.lemmas.Option.{same_Some}
 use Rattle.std.proofs.lemmas.Result.{on_ok_weaker}
 use Rattle.kadm_lines.specs.Lines.{lines_from}
 use Rattle.kadm_lines.specs.Reader.{ReaderState, to_come}
+use Rattle.kadm_loading.specs.Halts.{SparesOutput}
+use Rattle.kadm_loading.specs.Inputs.{IsReadWhole, WereTaken}
 use Rattle.kadm_session.specs.Courses.{Course, Ending, EndsAs, IsAtRest, IsStopped, Leaves, Stops, course, ending}
 use Rattle.kadm_session.specs.Draws.{Draws}
 use Rattle.kadm_session.specs.Halts.{IsAnswerHalt}
@@ -12,8 +14,8 @@ use Rattle.kadm_session.specs.Intake.{HasTaken, coming}
 use Rattle.kadm_session.specs.declared.halts.SessionHalt.{SessionHalt}
 use Rattle.kadm_session.specs.declared.halts.SessionHalt.TheVariants as session
 use Rattle.kadm_session.specs.declared.intake.Asked.{Asked}
-use Rattle.kadm_top.specs.Reads.{IsReadWhole, WereTaken, fresh}
-use Rattle.kadm_top.specs.Run.{HasCourse, RunEndsAs, Told, SparesOutput, course_from, end_opened, input_commands, told}
+use Rattle.kadm_top.specs.Reads.{fresh}
+use Rattle.kadm_top.specs.Run.{HasCourse, RunEndsAs, Told, course_from, end_opened, input_commands, told}
 use Rattle.kdb_disk.specs.Moments.{LeavesOnly}
 use Rattle.kdb_disk.specs.View.{View}
 use Rattle.kdb_histories.specs.Seen.{Seen}

@@ -5,4 +5,5 @@ pub mod Accounts
 pub mod Worded
 pub mod Openings
 pub mod Creating
+pub mod Loads
 pub mod ByStatus

@@ -3,17 +3,18 @@ use Rattle.std.proofs.Common.{◌≡◌, ◌≢◌, ◌∙◌, ℕ, List, [], �
 use Rattle.std.specs.Prelude.{Option, Some, None, Result, Ok, Err, IfOk, OnOk, if◌then◌else◌}
 use Rattle.first_rows.specs.Parts.{SpecParts}
 use Rattle.iprop_truths.specs.Parts.{end_of}
+use Rattle.kadm_loading.specs.Halts.{SparesOutput}
+use Rattle.kadm_loading.specs.Inputs.{IsReadWhole}
 use Rattle.kadm_session.specs.Draws.{Draws, moment_in}
 use Rattle.kadm_commands.specs.declared.commands.Command.{Command}
 use Rattle.kadm_session.specs.declared.halts.SessionHalt.{SessionHalt}
 use Rattle.kadm_session.specs.declared.intake.Asked.{Asked}
-use Rattle.kadm_session.specs.declared.intake.Asked.TheVariants.{Does}
-use Rattle.kadm_top.specs.Openings.{AMoment, Drawn, Ends, HasOpening, HasOpeningFor, IsInput, IsOpen, IsOpening, Makes, NoDraw, Opening, Opens, Refuses, ReadsInput, Tells, behind, create_of, destroy_of, opens_for}
-use Rattle.kadm_top.specs.Reads.{IsReadWhole}
-use Rattle.kadm_top.specs.Run.{HasCourse, HasRun, IsSame, OpensPart, Told, SparesOutput, course_behind, course_from, refusal_line, told}
+use Rattle.kadm_session.specs.declared.intake.Asked.TheVariants.{Does, ResetsLog}
+use Rattle.kadm_top.specs.Openings.{AMoment, Drawn, Ends, HasOpening, HasOpeningFor, IsInput, IsOpen, IsOpening, Loads, Makes, NoDraw, Opening, Opens, Refuses, ReadsInput, Tells, behind, create_of, destroy_of, opens_for}
+use Rattle.kadm_top.specs.Run.{HasCourse, HasRun, IsSame, OpensPart, Told, course_behind, course_from, refusal_line, told}
 use Rattle.kadm_top.proofs.Running.{cut_refusal_run, opened_run, refused_run, said_nothing, unopened_run}
 use Rattle.kadm_top.specs.declared.words.Words.{Words}
-use Rattle.kadm_top.specs.declared.words.Words.TheVariants.{Admin, Create, Destroy, Line}
+use Rattle.kadm_top.specs.declared.words.Words.TheVariants.{Admin, Create, Destroy, Line, Renew}
 use Rattle.kdb_base.specs.Moment.{Moment}
 use Rattle.kdb_base.specs.declared.outcomes.Refusal.{Refusal}
 use Rattle.kdb_base.specs.declared.outcomes.Stop.{Stop}
@@ -49,7 +50,7 @@ pub record Answers (found : Result Found Refusal) (size : Option ℕ) (clock : M
   pub refusals : (why : Refusal) → OpeningRefused found size clock why → LeavesOnly old mid (IsLike old)
 
 -- while it opens
-opening_part : {old mid : View} {found : Result Found Refusal} {size : Option ℕ} {draws : Option Draws} {begin : Place} {made : List Place} {at : Seen} (clock : Moment)
+pub opening_part : {old mid : View} {found : Result Found Refusal} {size : Option ℕ} {draws : Option Draws} {begin : Place} {made : List Place} {at : Seen} (clock : Moment)
     → (opens : IsOpen size found draws begin made at) → clock ≡ moment_in opens.told → LeavesOnly old mid (MayOpen old found size clock) → LeavesOnly old mid (OpensPart old begin made)
 opening_part {old} {mid} {found} {size} {begin = begin} {made = made} clock opens is run =
     let at_clock : LeavesOnly old mid (MayOpen old (Ok opens.files) size (moment_in opens.told)) =
@@ -58,7 +59,7 @@ opening_part {old} {mid} {found} {size} {begin = begin} {made = made} clock open
     (subst (λ (ps : List Place). LeavesOnly old mid (OpensPart old (place_found opens.files) ps)) (sym opens.made_are) at_clock)
 
 -- what is open is where the opening leads
-opened_place : {size : Option ℕ} {found : Result Found Refusal} {draws : Option Draws} {begin : Place} {made : List Place} {at : Seen} (clock : Moment) (o : Opened)
+pub opened_place : {size : Option ℕ} {found : Result Found Refusal} {draws : Option Draws} {begin : Place} {made : List Place} {at : Seen} (clock : Moment) (o : Opened)
     → (opens : IsOpen size found draws begin made at) → clock ≡ moment_in opens.told → OpensTo found size clock o → place_of o ≡ at.place
 opened_place {size} {found} {begin = begin} {made = made} {at = at} clock o opens is to =
     let files : to.found_is ≡ opens.files = same_Ok to.found_is opens.files (sym to.is ∙ opens.found_is) in
@@ -70,14 +71,14 @@ opened_place {size} {found} {begin = begin} {made = made} {at = at} clock o open
     ∙ sym opens.place_is
 
 -- the masters with which it opens, for whatever answer
-open_having : {size : Option ℕ} {found : Result Found Refusal} {draws : Option Draws} {begin : Place} {made : List Place} {at : Seen} {old mid : View} (clock : Moment) (answer : Result Opened Stop)
+pub open_having : {size : Option ℕ} {found : Result Found Refusal} {draws : Option Draws} {begin : Place} {made : List Place} {at : Seen} {old mid : View} (clock : Moment) (answer : Result Opened Stop)
     → (opens : IsOpen size found draws begin made at) → clock ≡ moment_in opens.told → Answers found size clock answer old mid → OpensHaving answer opens.masters
 open_having {size} clock answer opens is answers =
     answers.complete opens.files opens.masters opens.found_is opens.opens
     (λ anew. opens.left (subst (λ (m : Moment). resized size m (place_found opens.files) ≢ []) is anew))
 
 -- and its state
-opened_state : {size : Option ℕ} {found : Result Found Refusal} {draws : Option Draws} {begin : Place} {made : List Place} {at : Seen} (o : Opened)
+pub opened_state : {size : Option ℕ} {found : Result Found Refusal} {draws : Option Draws} {begin : Place} {made : List Place} {at : Seen} (o : Opened)
     → (opens : IsOpen size found draws begin made at) → place_of o ≡ at.place → o.masters ≡ opens.masters → HasState o at.state
 opened_state {at = at} o opens place masters = record {
   shows = subst (λ (p : Place). ShowsAt p at.state) (sym place) opens.shows;
@@ -105,6 +106,7 @@ admin_opened {size} {found} {old} {mid} {now} {before} {after} {middle} {result}
     (subst (λ (t : Told). HasCourse (course_from asked t at) mid now after result) is
     (subst (λ (p : Place). HasCourse (course_from asked middle (seen p at.state)) mid now after result) place (course at.state state))))
     (λ reads. whole (subst IsInput opens.1 reads))
+admin_opened asked clock (Loads begin made at what) primary gave opens answers is course whole = absurd opens
 admin_opened asked clock (Tells text) primary gave opens answers is course whole = absurd opens
 admin_opened asked clock (Makes spec) primary gave opens answers is course whole = absurd opens
 admin_opened asked clock Ends primary gave opens answers is course whole = absurd opens
@@ -124,6 +126,7 @@ admin_refused {old = old} {now = now} {before = before} {after = after} asked cl
     (subst (λ (d : Drawn). IsSame d old now) (sym opens.0) (answers.refusals why cause))
 admin_refused asked clock (Opens begin made at its) refusal gave opens answers said_it draws =
     absurd (open_having clock (Err (stop.Refused refusal)) opens.0 (gave opens.0.told opens.0.draws_are) answers)
+admin_refused asked clock (Loads begin made at what) refusal gave opens answers said_it draws = absurd opens
 admin_refused asked clock (Tells text) refusal gave opens answers said_it draws = absurd opens
 admin_refused asked clock (Makes spec) refusal gave opens answers said_it draws = absurd opens
 admin_refused asked clock Ends refusal gave opens answers said_it draws = absurd opens
@@ -144,6 +147,7 @@ admin_cut {old = old} {now = now} {before = before} {after = after} asked clock 
     nothing
 admin_cut asked clock (Opens begin made at its) refusal halt gave opens answers part nothing =
     absurd (open_having clock (Err (stop.Refused refusal)) opens.0 (gave opens.0.told opens.0.draws_are) answers)
+admin_cut asked clock (Loads begin made at what) refusal halt gave opens answers part nothing = absurd opens
 admin_cut asked clock (Tells text) refusal halt gave opens answers part nothing = absurd opens
 admin_cut asked clock (Makes spec) refusal halt gave opens answers part nothing = absurd opens
 admin_cut asked clock Ends refusal halt gave opens answers part nothing = absurd opens
@@ -161,6 +165,7 @@ admin_halted {old = old} {now = now} {before = before} {after = after} asked clo
     (λ _. nothing)
 admin_halted asked clock (Opens begin made at its) answer halt gave opens answers nothing =
     unopened_run begin made at its halt (opening_part clock opens.0 (gave opens.0.told opens.0.draws_are) answers.moments) nothing
+admin_halted asked clock (Loads begin made at what) answer halt gave opens answers nothing = absurd opens
 admin_halted asked clock (Tells text) answer halt gave opens answers nothing = absurd opens
 admin_halted asked clock (Makes spec) answer halt gave opens answers nothing = absurd opens
 admin_halted asked clock Ends answer halt gave opens answers nothing = absurd opens
@@ -172,31 +177,36 @@ pub opened_reads : {size : Option ℕ} {found : Result Found Refusal} {old mid :
     → opens_for size asked found draws o → Answers found size clock (Ok primary) old mid → IsInput asked → ReadsInput o
 opened_reads asked draws clock (Refuses why drawn) primary opens answers input = absurd (answers.only_refused why (opens.1 clock))
 opened_reads asked draws clock (Opens begin made at its) primary opens answers input = subst IsInput (sym opens.1) input
+opened_reads asked draws clock (Loads begin made at what) primary opens answers input = absurd opens
 opened_reads asked draws clock (Tells text) primary opens answers input = absurd opens
 opened_reads asked draws clock (Makes spec) primary opens answers input = absurd opens
 opened_reads asked draws clock Ends primary opens answers input = absurd opens
 
 -- ---- by the words
 
-pub for_admin : (files : Files) (draws : Option Draws) (o : Opening) (words : Result Words Refusal) (size : Option ℕ) → words ≡ Ok (Admin size) → IsOpening words files draws o → opens_for size None (found_in files) draws o
+pub for_admin : (left : Option (List ℕ)) (files : Files) (draws : Option Draws) (o : Opening) (words : Result Words Refusal) (size : Option ℕ) → words ≡ Ok (Admin size) → IsOpening words left files draws o → opens_for size None (found_in files) draws o
 unfolding IsOpening
-for_admin files draws o words size is opening = subst (λ (w : Result Words Refusal). IsOpening w files draws o) is opening
+for_admin left files draws o words size is opening = subst (λ (w : Result Words Refusal). IsOpening w left files draws o) is opening
 
-pub for_line : (files : Files) (draws : Option Draws) (o : Opening) (words : Result Words Refusal) (command : Command) → words ≡ Ok (Line command) → IsOpening words files draws o → opens_for None (Some (Does command)) (found_in files) draws o
+pub for_line : (left : Option (List ℕ)) (files : Files) (draws : Option Draws) (o : Opening) (words : Result Words Refusal) (command : Command) → words ≡ Ok (Line command) → IsOpening words left files draws o → opens_for None (Some (Does command)) (found_in files) draws o
 unfolding IsOpening
-for_line files draws o words command is opening = subst (λ (w : Result Words Refusal). IsOpening w files draws o) is opening
+for_line left files draws o words command is opening = subst (λ (w : Result Words Refusal). IsOpening w left files draws o) is opening
 
-pub for_create : (files : Files) (draws : Option Draws) (o : Opening) (words : Result Words Refusal) (spec : SpecParts) → words ≡ Ok (Create spec) → IsOpening words files draws o → o ≡ create_of spec (in_force (files 0))
+pub for_renew : (left : Option (List ℕ)) (files : Files) (draws : Option Draws) (o : Opening) (words : Result Words Refusal) → words ≡ Ok Renew → IsOpening words left files draws o → opens_for None (Some ResetsLog) (found_in files) draws o
 unfolding IsOpening
-for_create files draws o words spec is opening = subst (λ (w : Result Words Refusal). IsOpening w files draws o) is opening
+for_renew left files draws o words is opening = subst (λ (w : Result Words Refusal). IsOpening w left files draws o) is opening
 
-pub for_destroy : (files : Files) (draws : Option Draws) (o : Opening) (words : Result Words Refusal) → words ≡ Ok Destroy → IsOpening words files draws o → o ≡ destroy_of (in_force (files 0))
+pub for_create : (left : Option (List ℕ)) (files : Files) (draws : Option Draws) (o : Opening) (words : Result Words Refusal) (spec : SpecParts) → words ≡ Ok (Create spec) → IsOpening words left files draws o → o ≡ create_of spec (in_force (files 0))
 unfolding IsOpening
-for_destroy files draws o words is opening = subst (λ (w : Result Words Refusal). IsOpening w files draws o) is opening
+for_create left files draws o words spec is opening = subst (λ (w : Result Words Refusal). IsOpening w left files draws o) is opening
 
-pub for_refusal : (files : Files) (draws : Option Draws) (o : Opening) (words : Result Words Refusal) (refusal : Refusal) → words ≡ Err refusal → IsOpening words files draws o → o ≡ Refuses refusal NoDraw
+pub for_destroy : (left : Option (List ℕ)) (files : Files) (draws : Option Draws) (o : Opening) (words : Result Words Refusal) → words ≡ Ok Destroy → IsOpening words left files draws o → o ≡ destroy_of (in_force (files 0))
 unfolding IsOpening
-for_refusal files draws o words refusal is opening = subst (λ (w : Result Words Refusal). IsOpening w files draws o) is opening
+for_destroy left files draws o words is opening = subst (λ (w : Result Words Refusal). IsOpening w left files draws o) is opening
+
+pub for_refusal : (left : Option (List ℕ)) (files : Files) (draws : Option Draws) (o : Opening) (words : Result Words Refusal) (refusal : Refusal) → words ≡ Err refusal → IsOpening words left files draws o → o ≡ Refuses refusal NoDraw
+unfolding IsOpening
+for_refusal left files draws o words refusal is opening = subst (λ (w : Result Words Refusal). IsOpening w left files draws o) is opening
 
 -- ---- there is an opening
 
@@ -205,7 +215,7 @@ anew_either : (b : Bool) (x y : Stage) → (if b then [] else x ∷ []) ≢ [] �
 anew_either true x y anew = absurd (anew refl)
 anew_either false x y anew = λ e. absurd cc
 
-refused_always : (found : Result Found Refusal) (size : Option ℕ) (clock other : Moment) (why : Refusal) → OpeningRefused found size clock why → OpeningRefused found size other why
+pub refused_always : (found : Result Found Refusal) (size : Option ℕ) (clock other : Moment) (why : Refusal) → OpeningRefused found size clock why → OpeningRefused found size other why
 refused_always (Err refusal) size clock other why is = is
 refused_always (Ok f) size clock other why (inl cause) = inl cause
 refused_always (Ok f) size clock other why (inr late) = inr (record {
@@ -219,26 +229,27 @@ pub refused_opening : (size : Option ℕ) (asked : Option Asked) (found : Result
 refused_opening size asked found draws clock why refused = record { opening = Refuses why AMoment; is = (refl, λ other. refused_always found size clock other why refused) }
 
 -- one that went well
+unfoldable pub is_open : (size : Option ℕ) (found : Result Found Refusal) (draws : Draws) (clock : Moment) (o : Opened) → clock ≡ moment_in draws → (to : OpensTo found size clock o) → (opened : IsOpened o)
+    → IsOpen size found (Some draws) (place_found to.found_is) (places (resized size (moment_in draws) (place_found to.found_is))) (seen (place_of o) opened.state)
+is_open size found draws clock o is to opened = record {
+  told = draws;
+  draws_are = refl;
+  files = to.found_is;
+  found_is = to.is;
+  masters = o.masters;
+  opens = to.opens;
+  begin_is = refl;
+  made_are = refl;
+  left = subst (λ (m : Moment). resized size m (place_found to.found_is) ≢ [] → HasTimeLeft (place_found to.found_is)) is to.left;
+  place_is = to.place_is ∙ ap (λ (m : Moment). end_of (place_found to.found_is) (places (resized size m (place_found to.found_is)))) is;
+  shows = opened.has.shows;
+  masters_are = opened.has.masters_are;
+}
+
 pub good_opening : (size : Option ℕ) (asked : Option Asked) (found : Result Found Refusal) (draws : Draws) (clock : Moment) (o : Opened) → clock ≡ moment_in draws → OpensTo found size clock o → IsOpened o → HasOpeningFor size asked found (Some draws)
 good_opening size asked found draws clock o is to opened = record {
   opening = Opens (place_found to.found_is) (places (resized size (moment_in draws) (place_found to.found_is))) (seen (place_of o) opened.state) asked;
-  is = (
-    record {
-      told = draws;
-      draws_are = refl;
-      files = to.found_is;
-      found_is = to.is;
-      masters = o.masters;
-      opens = to.opens;
-      begin_is = refl;
-      made_are = refl;
-      left = subst (λ (m : Moment). resized size m (place_found to.found_is) ≢ [] → HasTimeLeft (place_found to.found_is)) is to.left;
-      place_is = to.place_is ∙ ap (λ (m : Moment). end_of (place_found to.found_is) (places (resized size m (place_found to.found_is)))) is;
-      shows = opened.has.shows;
-      masters_are = opened.has.masters_are;
-    },
-    refl,
-  );
+  is = (is_open size found draws clock o is to opened, refl);
 }
 
 pub any_ok : {T E : Type 0} (r : Result T E) (P : Type 0) → P → OnOk r P
@@ -246,22 +257,26 @@ any_ok (Ok x) P p = p
 any_ok (Err e) P p = tt
 
 -- by the words
-pub admin_has : (files : Files) (draws : Option Draws) (words : Result Words Refusal) (size : Option ℕ) → words ≡ Ok (Admin size) → HasOpeningFor size None (found_in files) draws → HasOpening words files draws
+pub admin_has : {left : Option (List ℕ)} (files : Files) (draws : Option Draws) (words : Result Words Refusal) (size : Option ℕ) → words ≡ Ok (Admin size) → HasOpeningFor size None (found_in files) draws → HasOpening words left files draws
 unfolding IsOpening
-admin_has files draws words size is has = subst (λ (w : Result Words Refusal). HasOpening w files draws) (sym is) (record { opening = has.opening; is = has.is })
+admin_has {left} files draws words size is has = subst (λ (w : Result Words Refusal). HasOpening w left files draws) (sym is) (record { opening = has.opening; is = has.is })
 
-pub line_has : (files : Files) (draws : Option Draws) (words : Result Words Refusal) (command : Command) → words ≡ Ok (Line command) → HasOpeningFor None (Some (Does command)) (found_in files) draws → HasOpening words files draws
+pub line_has : {left : Option (List ℕ)} (files : Files) (draws : Option Draws) (words : Result Words Refusal) (command : Command) → words ≡ Ok (Line command) → HasOpeningFor None (Some (Does command)) (found_in files) draws → HasOpening words left files draws
 unfolding IsOpening
-line_has files draws words command is has = subst (λ (w : Result Words Refusal). HasOpening w files draws) (sym is) (record { opening = has.opening; is = has.is })
+line_has {left} files draws words command is has = subst (λ (w : Result Words Refusal). HasOpening w left files draws) (sym is) (record { opening = has.opening; is = has.is })
 
-pub create_has : (files : Files) (draws : Option Draws) (words : Result Words Refusal) (spec : SpecParts) → words ≡ Ok (Create spec) → HasOpening words files draws
+pub renew_has : {left : Option (List ℕ)} (files : Files) (draws : Option Draws) (words : Result Words Refusal) → words ≡ Ok Renew → HasOpeningFor None (Some ResetsLog) (found_in files) draws → HasOpening words left files draws
 unfolding IsOpening
-create_has files draws words spec is = subst (λ (w : Result Words Refusal). HasOpening w files draws) (sym is) (record { opening = create_of spec (in_force (files 0)); is = refl })
+renew_has {left} files draws words is has = subst (λ (w : Result Words Refusal). HasOpening w left files draws) (sym is) (record { opening = has.opening; is = has.is })
 
-pub destroy_has : (files : Files) (draws : Option Draws) (words : Result Words Refusal) → words ≡ Ok Destroy → HasOpening words files draws
+pub create_has : {left : Option (List ℕ)} (files : Files) (draws : Option Draws) (words : Result Words Refusal) (spec : SpecParts) → words ≡ Ok (Create spec) → HasOpening words left files draws
 unfolding IsOpening
-destroy_has files draws words is = subst (λ (w : Result Words Refusal). HasOpening w files draws) (sym is) (record { opening = destroy_of (in_force (files 0)); is = refl })
+create_has {left} files draws words spec is = subst (λ (w : Result Words Refusal). HasOpening w left files draws) (sym is) (record { opening = create_of spec (in_force (files 0)); is = refl })
 
-pub refusal_has : (files : Files) (draws : Option Draws) (words : Result Words Refusal) (refusal : Refusal) → words ≡ Err refusal → HasOpening words files draws
+pub destroy_has : {left : Option (List ℕ)} (files : Files) (draws : Option Draws) (words : Result Words Refusal) → words ≡ Ok Destroy → HasOpening words left files draws
 unfolding IsOpening
-refusal_has files draws words refusal is = subst (λ (w : Result Words Refusal). HasOpening w files draws) (sym is) (record { opening = Refuses refusal NoDraw; is = refl })
+destroy_has {left} files draws words is = subst (λ (w : Result Words Refusal). HasOpening w left files draws) (sym is) (record { opening = destroy_of (in_force (files 0)); is = refl })
+
+pub refusal_has : {left : Option (List ℕ)} (files : Files) (draws : Option Draws) (words : Result Words Refusal) (refusal : Refusal) → words ≡ Err refusal → HasOpening words left files draws
+unfolding IsOpening
+refusal_has {left} files draws words refusal is = subst (λ (w : Result Words Refusal). HasOpening w left files draws) (sym is) (record { opening = Refuses refusal NoDraw; is = refl })

@@ -3,15 +3,16 @@ use Rattle.std.proofs.Common.{◌≡◌, ◌∙◌, ◌⊎◌, ℕ, List, refl, 
 use Rattle.std.specs.Prelude.{Option, Some, None, Result, Ok, Err, IfErr, IfOk, OnErr, OnOk, option_map}
 use Rattle.std.proofs.lemmas.Option.{same_Some}
 use Rattle.first_rows.specs.Parts.{SpecParts}
+use Rattle.kadm_loading.specs.Halts.{SparesOutput}
+use Rattle.kadm_loading.specs.Inputs.{IsReadWhole}
 use Rattle.kadm_session.specs.Courses.{Ending, ending}
 use Rattle.kadm_session.specs.Draws.{Draws}
 use Rattle.kadm_session.specs.Halts.{disk_as_session}
 use Rattle.kadm_session.specs.declared.halts.SessionHalt.{SessionHalt}
 use Rattle.kadm_session.specs.declared.intake.Asked.{Asked}
 use Rattle.kadm_session.specs.declared.halts.SessionHalt.TheVariants as session
-use Rattle.kadm_top.specs.Openings.{AMoment, ABlock, Drawn, Ends, IsInput, Makes, NoDraw, Opening, Opens, Refuses, Tells, behind}
-use Rattle.kadm_top.specs.Reads.{IsReadWhole}
-use Rattle.kadm_top.specs.Run.{HasCourse, HasRun, IfTold, IsSame, LeavesAll, MakesStop, OpensPart, RunEnd, RunEndsAs, RunLeaves, RunRests, RunStops, Told, SparesOutput, course_behind, end_opened, place_made, refusal_line}
+use Rattle.kadm_top.specs.Openings.{AMoment, ABlock, Drawn, Ends, IsInput, Loads, Makes, NoDraw, Opening, Opens, Refuses, Tells, behind}
+use Rattle.kadm_top.specs.Run.{HasCourse, HasRun, IfTold, IsSame, LeavesAll, MakesStop, OpensPart, RunEnd, RunEndsAs, RunLeaves, RunRests, RunStops, Told, course_behind, end_opened, place_made, refusal_line}
 use Rattle.kadm_top.specs.Statuses.{IsSayHalt}
 use Rattle.kdb_base.specs.declared.outcomes.Halt.{Halt}
 use Rattle.kdb_base.specs.declared.outcomes.Halt.TheVariants as disk
@@ -50,7 +51,7 @@ same_leaves ABlock same = keeps_like same
 pub said_nothing : (text : List ℕ) (old new : Option (List ℕ)) → new ≡ old → SaidPart text old new
 said_nothing text old new is = record { count = 0; part = is ∙ sym (after_told-nil old) }
 
-all_at_end : {old now : View} {P : Files → Type 0} → LeavesOnly old now P → LeavesAll P now
+pub all_at_end : {old now : View} {P : Files → Type 0} → LeavesOnly old now P → LeavesAll P now
 all_at_end run = record { each = λ c image. at_end run c image }
 
 -- of the two ends of a call of the disk, the one by which the disk did not fail is want of memory
@@ -107,6 +108,7 @@ made_like spec (Some draws) c like = inl like
 idle_stops : {old now : View} (before : Told) (o : Opening) (out : Option (List ℕ)) → Keeps old now → out ≡ before.taken → RunStops o old before out now
 idle_stops {old} {now} before (Refuses why drawn) out keeps is = (said_nothing (refusal_line why) before.taken out is, keeps_same drawn keeps)
 idle_stops before (Opens begin made at asked) out keeps is = inr (is, all_at_end (weaken (keeps_like keeps) (λ c like. inl like)))
+idle_stops before (Loads begin made at what) out keeps is = inr (is, all_at_end (weaken (keeps_like keeps) (λ c like. inl like)))
 idle_stops {old} {now} before (Tells text) out keeps is = (said_nothing text before.taken out is, keeps_like keeps)
 idle_stops {old} {now} before (Makes spec) out keeps is = made_idle spec before.draws before.taken out keeps is
 idle_stops before Ends out keeps is = inl (is, all_at_end (weaken (keeps_like keeps) (λ c like. inl like)))
@@ -114,6 +116,7 @@ idle_stops before Ends out keeps is = inl (is, all_at_end (weaken (keeps_like ke
 idle_rests : {old now : View} (before : Told) (o : Opening) (out : Option (List ℕ)) → Keeps old now → out ≡ before.taken → RunRests o old before out now
 idle_rests before (Refuses why drawn) out keeps is = (is, keeps_same drawn keeps)
 idle_rests before (Opens begin made at asked) out keeps is = inr (is, all_at_end (weaken (keeps_like keeps) (λ c like. inl like)))
+idle_rests before (Loads begin made at what) out keeps is = (is, all_at_end (weaken (keeps_like keeps) (λ c like. inl like)))
 idle_rests before (Tells text) out keeps is = (said_nothing text before.taken out is, keeps_like keeps)
 idle_rests before (Makes spec) out keeps is = (is, keeps)
 idle_rests before Ends out keeps is = (is, keeps)
@@ -121,6 +124,7 @@ idle_rests before Ends out keeps is = (is, keeps)
 idle_leaves : {old now : View} (before : Told) (o : Opening) → Keeps old now → LeavesOnly old now (RunLeaves o old before)
 idle_leaves before (Refuses why drawn) keeps = keeps_like keeps
 idle_leaves before (Opens begin made at asked) keeps = weaken (keeps_like keeps) (λ c like. inl (inl like))
+idle_leaves before (Loads begin made at what) keeps = weaken (keeps_like keeps) (λ c like. inl (inl like))
 idle_leaves before (Tells text) keeps = keeps_like keeps
 idle_leaves before (Makes spec) keeps = weaken (keeps_like keeps) (λ c like. made_like spec before.draws c like)
 idle_leaves before Ends keeps = weaken (keeps_like keeps) (λ c like. inl like)

@@ -4,15 +4,16 @@ use Rattle.first_rows.specs.Creation.{first_point}
 use Rattle.first_rows.specs.Parts.{SpecParts}
 use Rattle.kadm_commands.specs.declared.replies.Reply.TheVariants.{Done, Refused}
 use Rattle.kadm_lines.specs.Lines.{seen_lines}
+use Rattle.kadm_loading.specs.Halts.{SparesOutput}
+use Rattle.kadm_loading.specs.Inputs.{IsReadWhole}
+use Rattle.kadm_loading.specs.Loads.{LeavesSome, LoadEnd, is_refused, load_reply, load_stage, place_loaded, places_loaded}
 use Rattle.kadm_replies.specs.Replies.{reply_text}
 use Rattle.kadm_session.specs.Courses.{Course, Ending, IsAtRest, IsStopped, Leaves, Stops, course, ending}
-use Rattle.kadm_session.specs.Draws.{Draws, behind_command, block_in, moment_in}
+use Rattle.kadm_session.specs.Draws.{Draws, behind_command, behind_moment, block_in, moment_in}
 use Rattle.kadm_session.specs.Input.{commands_in}
 use Rattle.kadm_session.specs.declared.intake.Asked.{Asked}
 use Rattle.kadm_session.specs.declared.halts.SessionHalt.{SessionHalt}
-use Rattle.kadm_session.specs.declared.halts.SessionHalt.TheVariants.{WriteFault, DiskFault}
-use Rattle.kadm_top.specs.Openings.{AMoment, ABlock, Drawn, Ends, Makes, NoDraw, Opening, Opens, ReadsInput, Refuses, Tells, behind}
-use Rattle.kadm_top.specs.Reads.{IsReadWhole}
+use Rattle.kadm_top.specs.Openings.{AMoment, ABlock, Drawn, Ends, Loads, Makes, NoDraw, Opening, Opens, ReadsInput, Refuses, Tells, behind}
 use Rattle.kdb_base.specs.Moment.{Moment}
 use Rattle.kdb_base.specs.declared.outcomes.Refusal.{Refusal}
 use Rattle.kdb_disk.specs.Files.{Files}
@@ -118,10 +119,22 @@ end_opened end = record { out = end.out; refused = end.refused; disk = At end.at
 abbrev pub end_made : SpecParts → Option (List ℕ) → Draws → RunEnd
 end_made spec taken draws = record { out = after_told taken (made_line draws); refused = false; disk = At (place_made spec draws); draws = Some (behind_command draws) }
 
+-- of a load from this place, at the next of these moments
+abbrev pub load_end : Option LoadEnd → Option Draws → Place → Option (List ℕ) → Option RunEnd
+load_end None draws p taken = None
+load_end (Some end) None p taken = None
+load_end (Some end) (Some draws) p taken = Some (record {
+  out = after_told taken (reply_text (load_reply end (moment_in draws) p));
+  refused = is_refused end;
+  disk = At (place_loaded end (moment_in draws) p);
+  draws = Some (behind_moment draws);
+})
+
 -- as far as it is told
 abbrev pub run_end : Opening → Told → Option RunEnd
 run_end (Refuses why drawn) before = Some (record { out = after_told before.taken (refusal_line why); refused = true; disk = Same drawn; draws = behind drawn before.draws })
 run_end (Opens begin made at asked) before = option_map end_opened (ending (course_behind asked before at))
+run_end (Loads begin made at what) before = load_end what (behind AMoment before.draws) at.place before.taken
 run_end (Tells text) before = Some (record { out = after_told before.taken text; refused = false; disk = Same AMoment; draws = behind AMoment before.draws })
 run_end (Makes spec) before = option_map (end_made spec before.taken) before.draws
 run_end Ends before = Some (record { out = after_told before.taken ended_text; refused = false; disk = Gone; draws = before.draws })
@@ -155,19 +168,21 @@ EndsStop old taken out now =
     ((out ≡ taken) × LeavesAll (Destroys old) now)
     ⊎ (SaidPart ended_text taken out × IsErased now)
 
+-- while a database is loaded
+abbrev pub LoadStops : Option LoadEnd → Option Draws → Place → Option (List ℕ) → Option (List ℕ) → View → Type 0
+LoadStops None draws p taken out now = ⊤
+LoadStops (Some end) None p taken out now = ⊤
+LoadStops (Some end) (Some draws) p taken out now = IsStopped (load_stage end (moment_in draws) p taken) out now
+
 abbrev pub RunStops : Opening → View → Told → Option (List ℕ) → View → Type 0
 RunStops (Refuses why drawn) old before out now = SaidPart (refusal_line why) before.taken out × IsSame drawn old now
 RunStops (Opens begin made at asked) old before out now =
     IsStopped (Stops (course_behind asked before at)) out now ⊎ ((out ≡ before.taken) × LeavesAll (OpensPart old begin made) now)
+RunStops (Loads begin made at what) old before out now =
+    LoadStops what (behind AMoment before.draws) at.place before.taken out now ⊎ ((out ≡ before.taken) × LeavesAll (OpensPart old begin made) now)
 RunStops (Tells text) old before out now = SaidPart text before.taken out × IsSame AMoment old now
 RunStops (Makes spec) old before out now = IfTold before.draws (λ draws. MakesStop spec old before.taken draws out now)
 RunStops Ends old before out now = EndsStop old before.taken out now
-
--- neither the sink nor the disk failed
-abbrev pub SparesOutput : SessionHalt → Type 0
-SparesOutput WriteFault = ⊥
-SparesOutput DiskFault = ⊥
-SparesOutput other = Unit {0}
 
 -- There the first so many lines were done and are answered in full, or nothing was written, and no more was done than an opening does. Of a
 -- text that is told a front may have been written.
@@ -175,16 +190,25 @@ abbrev pub RunRests : Opening → View → Told → Option (List ℕ) → View �
 RunRests (Refuses why drawn) old before out now = (out ≡ before.taken) × IsSame drawn old now
 RunRests (Opens begin made at asked) old before out now =
     IsAtRest (course_behind asked before at) out now ⊎ ((out ≡ before.taken) × LeavesAll (OpensPart old begin made) now)
+RunRests (Loads begin made at what) old before out now = (out ≡ before.taken) × LeavesAll (OpensPart old begin made) now
 RunRests (Tells text) old before out now = SaidPart text before.taken out × IsSame AMoment old now
 RunRests (Makes spec) old before out now = (out ≡ before.taken) × Keeps old now
 RunRests Ends old before out now = (out ≡ before.taken) × Keeps old now
 
 -- ---- what a crash may leave at any moment of it
 
--- what an image of before stood for, a place of the opening or of the input's course, or nothing while a database is made or once its end has begun
+-- while a database is loaded: the place before or the loaded one, and where the input is not told, the place before or that with other rows
+abbrev pub LoadLeaves : Option LoadEnd → Option Draws → Place → Files → Type 0
+LoadLeaves None draws p c = LeavesSome p c
+LoadLeaves (Some end) None p c = LeavesSome p c
+LoadLeaves (Some end) (Some draws) p c = LeavesPart p (places_loaded end (moment_in draws) p) c
+
+-- what an image of before stood for, a place of the opening, of the input's course or of a load, or nothing while a database is made or once
+-- its end has begun
 abbrev pub RunLeaves : Opening → View → Told → Files → Type 0
 RunLeaves (Refuses why drawn) old before c = IsLike old c
 RunLeaves (Opens begin made at asked) old before c = OpensPart old begin made c ⊎ Leaves (course_behind asked before at) c
+RunLeaves (Loads begin made at what) old before c = OpensPart old begin made c ⊎ LoadLeaves what (behind AMoment before.draws) at.place c
 RunLeaves (Tells text) old before c = IsLike old c
 RunLeaves (Makes spec) old before c = IfTold before.draws (λ draws. Creates old (place_made spec draws) c)
 RunLeaves Ends old before c = Destroys old c
@@ -197,6 +221,16 @@ pub record HasCourse (c : Course) (old now : View) (after : Told) (result : Resu
   pub stopped : OnErr result (IsStopped (Stops c) after.taken now)
   pub rests : IfErr result (λ halt. SparesOutput halt → IsAtRest c after.taken now)
   pub moments : LeavesOnly old now (Leaves c)
+
+-- What a load comes to over a database that is open at this place, where these moments come.
+pub record HasLoad (what : Option LoadEnd) (draws : Option Draws) (p : Place) (old now : View) (before after : Told)
+    (result : Result Bool SessionHalt) : Type 0 where
+  pub ended : (end : RunEnd) → load_end what draws p before.taken ≡ Some end
+      → IfOk result (λ refused. RunEndsAs after.taken refused after.draws old now end)
+  pub stopped : OnErr result (LoadStops what draws p before.taken after.taken now)
+  pub rests : IfErr result (λ halt. SparesOutput halt → (after.taken ≡ before.taken) × RecoversTo p now)
+  pub moments : LeavesOnly old now (LoadLeaves what draws p)
+  pub read : OnOk result (IsReadWhole before.left after.left)
 
 -- What a run comes to from its opening on: it went through, and says whether a refusal was written, or it was stopped.
 pub record HasRun (o : Opening) (old now : View) (before after : Told) (result : Result Bool SessionHalt) : Type 0 where

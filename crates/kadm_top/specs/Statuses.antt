@@ -4,7 +4,7 @@ use Rattle.kadm_session.specs.Halts.{Counts}
 use Rattle.kadm_session.specs.declared.halts.SessionHalt.{SessionHalt}
 use Rattle.kadm_session.specs.declared.halts.SessionHalt.TheVariants as session
 use Rattle.kadm_top.specs.Openings.{Opening, ReadsInput}
-use Rattle.kadm_top.specs.Reads.{IsReadWhole}
+use Rattle.kadm_loading.specs.Inputs.{IsReadWhole}
 use Rattle.kadm_top.specs.Run.{RunEnd, RunEndsAs, RunLeaves, RunRests, RunStops, Told, run_end}
 use Rattle.kdb_base.specs.Causes.{Rose}
 use Rattle.kdb_base.specs.declared.outcomes.Status.{Status}

@@ -12,9 +12,9 @@ use Rattle.kadm_options.specs.declared.options.OptionName.TheVariants as option
 use Rattle.kadm_options.specs.declared.options.ValueKind.TheVariants.{Word, OneEtype, Number}
 use Rattle.kadm_top.specs.declared.alone.TheConstants.{USAGE, VERSION}
 use Rattle.kadm_top.specs.declared.words.Account.{Account}
-use Rattle.kadm_top.specs.declared.words.Account.TheVariants.{Dump}
+use Rattle.kadm_top.specs.declared.words.Account.TheVariants.{Dump, Log, Report}
 use Rattle.kadm_top.specs.declared.words.Words.{Words}
-use Rattle.kadm_top.specs.declared.words.Words.TheVariants.{Admin, Create, Destroy, Line, Tell}
+use Rattle.kadm_top.specs.declared.words.Words.TheVariants.{Admin, Create, Destroy, Line, Load, Renew, Tell}
 use Rattle.kadm_values.specs.EtypeWords.{etype_named}
 use Rattle.kadm_commands.specs.declared.commands.Command.{Command}
 use Rattle.kadm_commands.specs.declared.commands.Command.TheVariants as command
@@ -27,6 +27,8 @@ use Rattle.kdb_base.specs.declared.outcomes.Field.TheVariants as field
 use Rattle.kdb_base.specs.declared.outcomes.Refusal.{Refusal}
 use Rattle.kdb_base.specs.declared.outcomes.Refusal.TheVariants.{BadLine, BadValue}
 use Rattle.princ_name.specs.Realms.{is_realm}
+use Rattle.tab_reports.specs.declared.reports.ReportKind.{ReportKind}
+use Rattle.tab_reports.specs.declared.reports.ReportKind.TheVariants.{Principals, Keys, Policies, Masters}
 
 -- ---- the options
 
@@ -80,7 +82,8 @@ abbrev pub unless_bad : Option Field → Words → Result Words Refusal
 unless_bad None words = Ok words
 unless_bad (Some field) words = Err (BadValue field)
 
--- ---- the commands: `admin [-ulogsize N]`, `create REALM [-P PASS] [-e ETYPE] [-ulogsize N]`, `destroy [-f]`, `dump`, and the lines of master keys
+-- ---- the commands: `admin [-ulogsize N]`, `create REALM [-P PASS] [-e ETYPE] [-ulogsize N]`, `destroy [-f]`, `dump`, `load`, `kproplog`,
+-- `kproplog -R`, `report KIND`, and the lines of master keys
 
 abbrev pub admin_by : Option (List Given) → Result Words Refusal
 admin_by None = Err BadLine
@@ -99,6 +102,39 @@ create_in (realm ∷ words) = create_by realm (options_alone create_options word
 abbrev pub tell_by : Account → Option (List Given) → Result Words Refusal
 tell_by account None = Err BadLine
 tell_by account (Some options) = Ok (Tell account)
+
+abbrev pub load_by : Option (List Given) → Result Words Refusal
+load_by None = Err BadLine
+load_by (Some options) = Ok Load
+
+abbrev pub renew_by : Bool → Result Words Refusal
+renew_by true = Ok Renew
+renew_by false = Err BadLine
+
+-- with `-R` alone the log is begun anew, else it is told
+unfoldable pub log_in : List (List ℕ) → Result Words Refusal
+log_in [] = tell_by Log (options_alone [] [])
+log_in (word ∷ words) = if bytes_eq word (codes "-R") then renew_by (no_more words) else tell_by Log (options_alone [] (word ∷ words))
+
+-- what a report tells of
+unfoldable pub kind_named : List ℕ → Option ReportKind
+kind_named word =
+    if bytes_eq word (codes "principals") then Some Principals
+    else if bytes_eq word (codes "keys") then Some Keys
+    else if bytes_eq word (codes "policies") then Some Policies
+    else if bytes_eq word (codes "masters") then Some Masters
+    else None
+
+abbrev pub report_by : Option ReportKind → Result Words Refusal
+report_by None = Err BadLine
+report_by (Some kind) = Ok (Tell (Report kind))
+
+-- the kind alone, or behind two dashes
+unfoldable pub report_in : List (List ℕ) → Result Words Refusal
+report_in [] = Err BadLine
+report_in (kind ∷ []) = report_by (kind_named kind)
+report_in (dashes ∷ kind ∷ []) = if is_dashes dashes then report_by (kind_named kind) else Err BadLine
+report_in (_ ∷ _ ∷ _ ∷ _) = Err BadLine
 
 abbrev pub destroy_by : Option (List Given) → Result Words Refusal
 destroy_by None = Err BadLine
@@ -132,6 +168,9 @@ words_behind word words =
     if bytes_eq word (codes "admin") then admin_by (options_alone admin_options words)
     else if bytes_eq word (codes "create") then create_in words
     else if bytes_eq word (codes "dump") then tell_by Dump (options_alone [] words)
+    else if bytes_eq word (codes "load") then load_by (options_alone [] words)
+    else if bytes_eq word (codes "kproplog") then log_in words
+    else if bytes_eq word (codes "report") then report_in words
     else if bytes_eq word (codes "destroy") then destroy_by (options_alone destroy_options words)
     else Err BadLine
 

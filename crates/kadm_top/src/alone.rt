@@ -26,6 +26,12 @@ usage:
   kdb_tool purge_mkeys [-f]     deletes the master keys that do not serve
   kdb_tool stash                writes the stash anew with all master keys
   kdb_tool dump [--]            writes the whole database as text
+  kdb_tool load [--]            reads a dump from standard input and puts it in
+                                the place of all that the database has
+  kdb_tool kproplog [--]        lists the entries that the update log holds
+  kdb_tool kproplog -R [--]     begins the update log anew
+  kdb_tool report [--] KIND     writes a table of KIND: principals, keys,
+                                policies or masters
   kdb_tool destroy [-f] [--]    ends the database; -f has no effect
   kdb_tool --help               prints this
   kdb_tool --version            prints the version

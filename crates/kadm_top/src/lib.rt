@@ -3,6 +3,7 @@
 
 mod accounting;
 pub mod alone;
+mod loading;
 mod making;
 pub mod run;
 mod statuses;

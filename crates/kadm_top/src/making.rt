@@ -1,13 +1,14 @@
 //! A database made, and one ended.
 
 ghost use Rattle.std.specs.Prelude.{◌≡◌, ◌≢◌, ◌⊎◌, List, ℕ, Option, Err, IfErr, IfOk, OnOk, OnErr, length};
+ghost use Rattle.kadm_loading.specs.Halts.{SparesOutput};
 ghost use Rattle.kadm_session.specs.Draws.{Draws, told_draws};
 ghost use Rattle.kadm_session.specs.Halts.{Counts, IsAnswerHalt};
 ghost use Rattle.kadm_replies.specs.Replies.{reply_text};
 ghost use Rattle.kadm_commands.specs.declared.replies.Reply.TheVariants.{Done};
 ghost use Rattle.first_rows.specs.Creation.{first_point};
 ghost use Rattle.kadm_top.specs.Openings.{ABlock, behind, create_of, destroy_of};
-ghost use Rattle.kadm_top.specs.Run.{AreDrawn, HasRun, SparesOutput, ended_text, refusal_line, told};
+ghost use Rattle.kadm_top.specs.Run.{AreDrawn, HasRun, ended_text, refusal_line, told};
 ghost use Rattle.kadm_top.specs.Statuses.{IsMakingHalt, IsSayHalt};
 ghost use Rattle.kdb_base.specs.Causes.{HasCause};
 ghost use Rattle.kdb_base.specs.declared.outcomes.Halt.TheVariants.{DiskFault, MemoryOut};

@@ -1,15 +1,15 @@
 //! A whole run.
 
-ghost use Rattle.std.specs.Prelude.{◌≡◌, ◌≢◌, ◌≤◌, ◌⊎◌, true, false, ℕ, List, Option, Some, None, Ok, Err, map, IfErr, IfSome, OnOk};
+ghost use Rattle.std.specs.Prelude.{◌≡◌, ◌≤◌, ◌⊎◌, true, false, ℕ, List, Option, Some, None, Ok, Err, map, IfErr, IfSome, OnOk};
+ghost use Rattle.kadm_loading.specs.Inputs.{IsReadWhole, WereTaken};
 ghost use Rattle.kadm_session.specs.Draws.{Draws, told_draws};
 ghost use Rattle.kadm_session.specs.Halts.{Counts, IsAnswerHalt};
 ghost use Rattle.kadm_session.specs.Input.{IsAsked};
-ghost use Rattle.kadm_top.specs.Openings.{HasOpening, HasOpeningFor, IsInput, IsOpening, Opening, ReadsInput, opens_for};
-ghost use Rattle.kadm_top.specs.Reads.{InputIsRead, IsReadWhole, WereTaken, fresh};
+ghost use Rattle.kadm_top.specs.Openings.{HasOpening, HasOpeningFor, IsInput, IsOpening, Opening, ReadsInput, WantsInput, opens_for};
+ghost use Rattle.kadm_top.specs.Reads.{InputIsRead, fresh};
 ghost use Rattle.kadm_top.specs.Run.{HasCourse, HasRun, course_from, told};
 ghost use Rattle.kadm_top.specs.Statuses.{HasCauses, IsRun, OnEnd, StatusHasCauses, faults};
 ghost use Rattle.kadm_top.specs.Words.{AreSized, words_in};
-ghost use Rattle.kadm_top.specs.declared.words.Words.TheVariants.{Admin};
 ghost use Rattle.kdb_base.specs.declared.outcomes.Refusal.{Refusal as WhyNot};
 ghost use Rattle.kdb_disk.specs.Frames.{IsCall};
 ghost use Rattle.kdb_histories.specs.Seen.{seen};
@@ -19,6 +19,7 @@ ghost use Rattle.store_files.specs.Found.{found_in};
 ghost use Rattle.store_files.specs.Kept.{IsOnDisk};
 
 use crate::accounting::tell;
+use crate::loading::load;
 use crate::making::{create, end, refuse};
 use crate::statuses::status_after;
 use crate::words::{Words, read_words};
@@ -32,7 +33,7 @@ use std::alloc::Global;
 use store_files::laws::what_is_kept_is_recovered;
 
 /// How many dumps may be under way.
-const DUMPS: u32 = 1;
+pub(crate) const DUMPS: u32 = 1;
 
 /// Answers the input over a database that was opened.
 fn answer_input<S: Source, K: Sink, D: Disk, C: Clock, E: Entropy>(
@@ -234,17 +235,17 @@ fn run_words<S: Source, K: Sink, D: Disk, C: Clock, E: Entropy>(
 ) -> Result<bool, SessionHalt>
     requires { AreSized words }
     ensures run { D.tells → (o : Opening)
-        → IsOpening words (D.view disk.old).seen (told_draws (C.moments clock.old) (E.stream entropy.old)) o
+        → IsOpening words (S.left source.old) (D.view disk.old).seen (told_draws (C.moments clock.old) (E.stream entropy.old)) o
         → HasRun o (D.view disk.old) (D.view disk.new)
         (told (K.taken sink.old) (S.left source.old) (told_draws (C.moments clock.old) (E.stream entropy.old)))
         (told (K.taken sink.new) (S.left source.new) (told_draws (C.moments clock.new) (E.stream entropy.new))) result }
     ensures opening { D.tells → (draws : Draws) → told_draws (C.moments clock.old) (E.stream entropy.old) ≡ Some draws
-        → OnOk result (HasOpening words (D.view disk.old).seen (told_draws (C.moments clock.old) (E.stream entropy.old))) }
-    ensures input { (size : Option ℕ) → InputIsRead S.left source.old source.new ((words ≡ Ok (Admin size)) × (result ≡ Ok false)) (result ≡ Ok true) (result ≡ Err SessionHalt.InputTooLong) }
+        → OnOk result (HasOpening words (S.left source.old) (D.view disk.old).seen (told_draws (C.moments clock.old) (E.stream entropy.old))) }
+    ensures input { InputIsRead S.left source.old source.new (WantsInput words × (result ≡ Ok false)) (result ≡ Ok true) (result ≡ Err SessionHalt.InputTooLong) }
     ensures unread { D.tells → (o : Opening)
-        → IsOpening words (D.view disk.old).seen (told_draws (C.moments clock.old) (E.stream entropy.old)) o
+        → IsOpening words (S.left source.old) (D.view disk.old).seen (told_draws (C.moments clock.old) (E.stream entropy.old)) o
         → (ReadsInput o → ⊥) → source.new ≡ source.old }
-    ensures other_words { ((size : Option ℕ) → words ≢ Ok (Admin size)) → source.new ≡ source.old }
+    ensures other_words { (WantsInput words → ⊥) → source.new ≡ source.old }
     ensures no_words { (refusal : WhyNot) → words ≡ Err refusal → disk.new ≡ disk.old }
     ensures causes { HasCauses (faults (S.faults source.old) (K.faults sink.old) (D.faults disk.old) (E.faults entropy.old)) (faults (S.faults source.new) (K.faults sink.new) (D.faults disk.new) (E.faults entropy.new)) result }
 {
@@ -254,6 +255,11 @@ fn run_words<S: Source, K: Sink, D: Disk, C: Clock, E: Entropy>(
             let asked = Some(Asked::Does(command));
             ask(alloc, None, &asked, source, sink, disk, clock, entropy)
         }
+        Ok(Words::Renew) => {
+            let asked = Some(Asked::ResetsLog);
+            ask(alloc, None, &asked, source, sink, disk, clock, entropy)
+        }
+        Ok(Words::Load) => load(alloc, source, sink, disk, clock),
         Ok(Words::Tell(account)) => tell(alloc, account, sink, disk, clock),
         Ok(Words::Create(spec)) => create(alloc, &spec, sink, disk, clock, entropy),
         Ok(Words::Destroy) => end(alloc, sink, disk),
@@ -267,13 +273,13 @@ fn run_words<S: Source, K: Sink, D: Disk, C: Clock, E: Entropy>(
 /// Does all that the program does: it judges the words, makes, ends or opens the database on the disk,
 /// answers the lines of the source to the sink, and keeps the disk the way the replies say.
 ///
-/// The words are `create REALM [-P PASS] [-e ETYPE] [-ulogsize N]`, `admin [-ulogsize N]`, `destroy [-f]` or
-/// `dump`, where `--` may end the options, or a line of master keys, which is answered as in an input; other words
-/// are answered by `err 1 BadLine`, a bad realm or value by `err 13 BadValue`, and no file is touched. A
-/// creation takes a moment of the clock and 2048 random bytes, an opening a moment, a command both, and
-/// `update_princ_encryption` a moment and 512 bytes for each name that it asks. A reply is written once its change
-/// is on the disk. A crash at any moment leaves the database as it was, after some of the lines, or between two
-/// rekeyings of one; where it returns early, a crash afterwards leaves it so behind each line of which a byte was
+/// The words are `create REALM [-P PASS] [-e ETYPE] [-ulogsize N]`, `admin [-ulogsize N]`, `destroy [-f]`, `dump`,
+/// `load`, `kproplog [-R]` or `report KIND`, where `--` may end the options, or a line of master keys, which is
+/// answered as in an input; other words are answered by `err 1 BadLine`, a bad realm or value by `err 13 BadValue`,
+/// and no file is touched. A creation takes a moment of the clock and 2048 random bytes, an opening a moment, a load
+/// another, a command both, and `update_princ_encryption` a moment and 512 bytes for each name that it asks. A reply
+/// is written once its change is on the disk. A crash at any moment leaves the database as it was, loaded, after
+/// some of the lines, or between two rekeyings of one; where it returns early, a crash afterwards leaves it so behind each line of which a byte was
 /// answered, and where neither the sink nor the disk failed, so many lines are answered in full, and beyond them
 /// nothing is done but some rekeyings of the next line. When the input is read, no clause says.
 pub fn run_local<S: Source, K: Sink, D: Disk, C: Clock, E: Entropy>(
@@ -287,21 +293,21 @@ pub fn run_local<S: Source, K: Sink, D: Disk, C: Clock, E: Entropy>(
 ) -> Status
     // All is said of the opening that the words, the files, the clock and the source of random bytes give.
     ensures run { D.tells → (o : Opening)
-        → IsOpening (words_in (map (λ word. word.items) words.now)) (D.view disk.old).seen (told_draws (C.moments clock.old) (E.stream entropy.old)) o
+        → IsOpening (words_in (map (λ word. word.items) words.now)) (S.left source.old) (D.view disk.old).seen (told_draws (C.moments clock.old) (E.stream entropy.old)) o
         → IsRun o (D.view disk.old) (D.view disk.new)
         (told (K.taken sink.old) (S.left source.old) (told_draws (C.moments clock.old) (E.stream entropy.old)))
         (told (K.taken sink.new) (S.left source.new) (told_draws (C.moments clock.new) (E.stream entropy.new))) result }
 
     // A run that goes through has such an opening, where the clock and the source of random bytes are told.
     ensures opening { D.tells → (draws : Draws) → told_draws (C.moments clock.old) (E.stream entropy.old) ≡ Some draws
-        → OnEnd result (λ _. HasOpening (words_in (map (λ word. word.items) words.now)) (D.view disk.old).seen (told_draws (C.moments clock.old) (E.stream entropy.old))) }
+        → OnEnd result (λ _. HasOpening (words_in (map (λ word. word.items) words.now)) (S.left source.old) (D.view disk.old).seen (told_draws (C.moments clock.old) (E.stream entropy.old))) }
 
     // What was read of the input. None is read but where the files hold a database for it.
-    ensures input { (size : Option ℕ) → InputIsRead S.left source.old source.new ((words_in (map (λ word. word.items) words.now) ≡ Ok (Admin size)) × (result ≡ Status.Done)) (result ≡ Status.Refused) (result ≡ Status.InputTooLong) }
+    ensures input { InputIsRead S.left source.old source.new (WantsInput (words_in (map (λ word. word.items) words.now)) × (result ≡ Status.Done)) (result ≡ Status.Refused) (result ≡ Status.InputTooLong) }
     ensures unread { D.tells → (o : Opening)
-        → IsOpening (words_in (map (λ word. word.items) words.now)) (D.view disk.old).seen (told_draws (C.moments clock.old) (E.stream entropy.old)) o
+        → IsOpening (words_in (map (λ word. word.items) words.now)) (S.left source.old) (D.view disk.old).seen (told_draws (C.moments clock.old) (E.stream entropy.old)) o
         → (ReadsInput o → ⊥) → source.new ≡ source.old }
-    ensures other_words { ((size : Option ℕ) → words_in (map (λ word. word.items) words.now) ≢ Ok (Admin size)) → source.new ≡ source.old }
+    ensures other_words { (WantsInput (words_in (map (λ word. word.items) words.now)) → ⊥) → source.new ≡ source.old }
 
     // Words that are refused touch no file.
     ensures no_words { (refusal : WhyNot) → words_in (map (λ word. word.items) words.now) ≡ Err refusal → disk.new ≡ disk.old }

@@ -5,7 +5,7 @@ ghost use Rattle.std.specs.Str.{bytes_eq};
 ghost use Rattle.kadm_options.specs.OptionValues.{word_given};
 ghost use Rattle.kadm_options.specs.declared.options.OptionName.TheVariants as option;
 ghost use Rattle.kadm_commands.specs.Commands.{IsCommand};
-ghost use Rattle.kadm_top.specs.Words.{AreSized, admin_by, admin_options, create_by, create_in, create_options, destroy_by, destroy_options, etype_given, is_line, is_line_word, line_by, line_with, no_more, options_alone, size_given, spec_of, tell_by, words_behind, words_in};
+ghost use Rattle.kadm_top.specs.Words.{AreSized, admin_by, admin_options, create_by, create_in, create_options, destroy_by, destroy_options, etype_given, is_line, is_line_word, kind_named, line_by, line_with, load_by, log_in, no_more, options_alone, report_by, report_in, size_given, spec_of, tell_by, words_behind, words_in};
 ghost use Rattle.kadm_wire.specs.LineReadings.{words_answer};
 ghost use Rattle.princ_name.specs.Realms.{IsRealm};
 
@@ -20,12 +20,17 @@ use kadm_wire::parse_words;
 use kdb_base::{Blob, Etype, Field, MemoryOut, Refusal};
 use princ_name::{Realm, is_realm};
 use std::alloc::Global;
+use tab_reports::ReportKind;
 
 /// What is told of a database with no change, whatever its format, and without its stash.
 #[derive(Clone, Copy, Debug, PartialEq, Eq)]
 pub enum Account {
     /// The whole database as text.
     Dump,
+    /// The entries that its log holds, as lines.
+    Log,
+    /// A report of its rows, as a table.
+    Report(ReportKind),
 }
 
 /// What the words of a run ask for. It does not print itself: what it would print is a password.
@@ -40,6 +45,10 @@ pub enum Words {
     Destroy,
     /// This is answered over the database, as a line of the input is.
     Line(Command),
+    /// The log is begun anew.
+    Renew,
+    /// The dump that the input is takes the place of all that the database has.
+    Load,
     /// This is told of the database.
     Tell(Account),
 }
@@ -264,6 +273,65 @@ fn read_tell(
     }
 }
 
+// What a report tells of, by the word that names it.
+#[tactic(auto, unfolding(crate::specs::Words::kind_named))]
+fn kind_named(word: &[u8]) -> Option<ReportKind>
+    ensures { result ≡ kind_named word.now }
+{
+    if is_word(word, b"principals") {
+        return Some(ReportKind::Principals);
+    }
+    if is_word(word, b"keys") {
+        return Some(ReportKind::Keys);
+    }
+    if is_word(word, b"policies") {
+        return Some(ReportKind::Policies);
+    }
+    if is_word(word, b"masters") {
+        return Some(ReportKind::Masters);
+    }
+    None
+}
+
+fn report_by(kind: Option<ReportKind>) -> Result<Words, Refusal>
+    ensures value { result ≡ report_by kind }
+    ensures sized { AreSized result }
+{
+    match kind {
+        Some(kind) => Ok(Words::Tell(Account::Report(kind))),
+        None => Err(Refusal::BadLine),
+    }
+}
+
+// The kind stands alone, or behind the word that ends the options, of which there are none.
+#[tactic(auto, unfolding(crate::specs::Words::report_in))]
+fn read_report(words: &[Blob]) -> Result<Words, Refusal>
+    ensures value { result ≡ report_in words.now }
+    ensures sized { AreSized result }
+{
+    match words {
+        [kind] => report_by(kind_named(kind.as_slice())),
+        [dashes, kind] => {
+            if is_dashes(dashes.as_slice()) {
+                report_by(kind_named(kind.as_slice()))
+            } else {
+                Err(Refusal::BadLine)
+            }
+        }
+        _ => Err(Refusal::BadLine),
+    }
+}
+
+fn read_load(alloc: Global, words: &[Blob]) -> Result<Result<Words, Refusal>, MemoryOut>
+    ensures value { IfOk result (λ found. found ≡ load_by (options_alone [] words.now)) }
+    ensures sized { IfOk result AreSized }
+{
+    match read_alone(alloc, &[], words)? {
+        Some(_) => Ok(Ok(Words::Load)),
+        None => Ok(Err(Refusal::BadLine)),
+    }
+}
+
 fn read_destroy(alloc: Global, words: &[Blob]) -> Result<Result<Words, Refusal>, MemoryOut>
     ensures value { IfOk result (λ found. found ≡ destroy_by (options_alone destroy_options words.now)) }
     ensures sized { IfOk result AreSized }
@@ -324,6 +392,26 @@ fn read_line(alloc: Global, words: &[Blob]) -> Result<Result<Words, Refusal>, Me
     }
 }
 
+// What the words behind `kproplog` ask for.
+#[tactic(auto, unfolding(crate::specs::Words::log_in))]
+fn read_log(alloc: Global, words: &[Blob]) -> Result<Result<Words, Refusal>, MemoryOut>
+    ensures value { IfOk result (λ found. found ≡ log_in words.now) }
+    ensures sized { IfOk result AreSized }
+{
+    match words {
+        [] => read_tell(alloc, Account::Log, words),
+        [word, rest @ ..] => {
+            if !is_word(word.as_slice(), b"-R") {
+                read_tell(alloc, Account::Log, words)
+            } else if no_more(rest) {
+                Ok(Ok(Words::Renew))
+            } else {
+                Ok(Err(Refusal::BadLine))
+            }
+        }
+    }
+}
+
 // What the words behind the first ask for.
 fn read_behind(
     alloc: Global,
@@ -341,6 +429,15 @@ fn read_behind(
     }
     if is_word(word, b"dump") {
         return read_tell(alloc, Account::Dump, words);
+    }
+    if is_word(word, b"load") {
+        return read_load(alloc, words);
+    }
+    if is_word(word, b"kproplog") {
+        return read_log(alloc, words);
+    }
+    if is_word(word, b"report") {
+        return Ok(read_report(words));
     }
     if is_word(word, b"destroy") {
         return read_destroy(alloc, words);
@@ -375,9 +472,10 @@ fn copy_words(alloc: Global, words: &[Vec<u8>]) -> Result<Vec<Blob>, MemoryOut>
     Ok(copies)
 }
 
-/// What the words ask for: `admin [-ulogsize N]`, `create REALM [-P PASS] [-e ETYPE] [-ulogsize N]` or
-/// `destroy [-f]` or `dump`, each with `--` as its last word or without, or a line of master keys. The realm is the
-/// word behind `create`, whatever it is. Only want of memory can refuse the reading itself.
+/// What the words ask for: `admin [-ulogsize N]`, `create REALM [-P PASS] [-e ETYPE] [-ulogsize N]`,
+/// `destroy [-f]`, `dump`, `load`, `kproplog` or `kproplog -R`, each with `--` as its last word or without,
+/// `report KIND`, with `--` before the kind or without, or a line of master keys. The realm is the word behind
+/// `create`, whatever it is. Only want of memory can refuse the reading itself.
 ///
 /// # Errors
 ///

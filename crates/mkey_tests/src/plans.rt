@@ -1,135 +1,176 @@
-//! What the commands of master keys come to in rows that a creation makes.
+//! What the commands of master keys are answered.
 
-ghost use Rattle.std.specs.Prelude.{◌≡◌, ℕ, List, true};
-ghost use Rattle.kadm_commands.specs.Commands.{IsCommand};
-ghost use Rattle.mkey_admin.specs.Plans.{is_master_command};
-
-use command_plans::View;
-use first_rows::{CreateSpec, first_rows};
-use kadm_commands::{Command, Reply, UseMaster};
-use kdb_base::{Etype, Masters, Stop, Time};
-use mkey_admin::{MasterChange, MasterPlan, Told, plan};
-use princ_name::{Realm, is_realm, parse_name};
-use princ_rows::Rows;
-use serving_versions::Cause;
+use crate::databases::{
+    Asked, CREATED, LATER, Turn, check_created, check_lengths, check_turns, created,
+};
+use acl_text::Acl;
+use kdb_base::Etype;
 use std::alloc::Global;
+use std::process::Abort;
 use std::test::Fail;
 
-/// The second of the creation.
-const CREATED: u32 = 1_700_000_000;
+/// Two versions are added, and the newest is to become active an hour later.
+pub(crate) const ADDED: [Turn; 3] = [
+    (
+        Asked::Add(None),
+        CREATED,
+        "ok 2 1700000000.000000 mkvno 2\n",
+    ),
+    (
+        Asked::Add(None),
+        CREATED,
+        "ok 3 1700000000.000000 mkvno 3\n",
+    ),
+    (
+        Asked::Use(3, Some(LATER)),
+        CREATED,
+        "ok 4 1700000000.000000 mkvno 3 from 2023-11-14T23:13:20Z\n",
+    ),
+];
 
-fn realm(alloc: Global) -> Result<Realm, Fail> {
-    let text = b"EXAMPLE.ORG";
-    if !is_realm(text) {
-        return Err(Fail::from("a realm"));
+/// A version that no record is under goes, unless it is the newest.
+const LISTED: [Turn; 5] = [
+    (
+        Asked::List,
+        CREATED,
+        "- 1 aes256-cts-hmac-sha1-96 2023-11-14T22:13:20Z *\n\
+- 2 aes256-cts-hmac-sha1-96 -\n\
+- 3 aes256-cts-hmac-sha1-96 2023-11-14T23:13:20Z\nok\n",
+    ),
+    (
+        Asked::List,
+        LATER,
+        "- 1 aes256-cts-hmac-sha1-96 2023-11-14T22:13:20Z\n\
+- 2 aes256-cts-hmac-sha1-96 -\n\
+- 3 aes256-cts-hmac-sha1-96 2023-11-14T23:13:20Z *\nok\n",
+    ),
+    (Asked::Use(9, None), CREATED, "err 16 UnknownMaster 9\n"),
+    (
+        Asked::Use(1, Some(LATER)),
+        CREATED,
+        "err 17 NoActiveMaster\n",
+    ),
+    (
+        Asked::Purge,
+        CREATED,
+        "- kept 1 protects 2\n- purged 2\n- kept 3 newest\nok 5 1700000000.000000 1 purged\n",
+    ),
+];
+
+#[test]
+fn versions_are_added_used_and_listed(rt: HostRuntime) -> Result<(), Fail> {
+    let mut database = check_created(&rt, rt.alloc(), &ADDED)?;
+    check_turns(&rt, rt.alloc(), &mut database, None, &LISTED)
+}
+
+/// A version of another type is active from the second of the creation too, and is the greater one.
+const OF_TWO_TYPES: [Turn; 4] = [
+    (
+        Asked::Add(Some(Etype::Aes128Sha2)),
+        CREATED,
+        "ok 2 1700000000.000000 mkvno 2\n",
+    ),
+    (
+        Asked::List,
+        CREATED,
+        "- 1 aes256-cts-hmac-sha1-96 2023-11-14T22:13:20Z *\n\
+- 2 aes128-cts-hmac-sha256-128 -\nok\n",
+    ),
+    (
+        Asked::Use(2, None),
+        CREATED,
+        "ok 3 1700000000.000000 mkvno 2 from 2023-11-14T22:13:20Z\n",
+    ),
+    (
+        Asked::List,
+        CREATED,
+        "- 1 aes256-cts-hmac-sha1-96 2023-11-14T22:13:20Z\n\
+- 2 aes128-cts-hmac-sha256-128 2023-11-14T22:13:20Z *\nok\n",
+    ),
+];
+
+/// A wrapped key is two bytes, 16 of the confounder, the key, and the tag of the master key's type, which is 16 here.
+#[test]
+fn greater_version_is_active_at_a_tie(rt: HostRuntime) -> Result<(), Fail> {
+    let database = check_created(&rt, rt.alloc(), &OF_TWO_TYPES)?;
+    check_lengths(&rt, &database, 0, &[50, 66])
+}
+
+/// Each version serves, for each of the causes.
+const ALL_SERVE: [Turn; 6] = [
+    (Asked::Purge, CREATED, "- kept 1 protects 2\nok 0 purged\n"),
+    (
+        Asked::Add(None),
+        CREATED,
+        "ok 2 1700000000.000000 mkvno 2\n",
+    ),
+    (
+        Asked::Add(None),
+        CREATED,
+        "ok 3 1700000000.000000 mkvno 3\n",
+    ),
+    (
+        Asked::Use(2, Some(LATER)),
+        CREATED,
+        "ok 4 1700000000.000000 mkvno 2 from 2023-11-14T23:13:20Z\n",
+    ),
+    (
+        Asked::Purge,
+        CREATED,
+        "- kept 1 protects 2\n- kept 2 pending\n- kept 3 newest\nok 0 purged\n",
+    ),
+    (
+        Asked::Purge,
+        LATER,
+        "- kept 1 protects 2\n- kept 2 active\n- kept 3 newest\nok 0 purged\n",
+    ),
+];
+
+#[test]
+fn versions_that_serve_are_kept(rt: HostRuntime) -> Result<(), Fail> {
+    check_created(&rt, rt.alloc(), &ALL_SERVE)?;
+    Ok(())
+}
+
+/// A version that is not listed is told before a denial, and a denial before that none would be active.
+const DENIED: [Turn; 5] = [
+    (Asked::Use(9, None), CREATED, "err 16 UnknownMaster 9\n"),
+    (Asked::Use(1, Some(LATER)), CREATED, "err 7 Denied 1\n"),
+    (Asked::Add(None), CREATED, "err 7 Denied 1\n"),
+    (Asked::List, CREATED, "err 7 Denied 1\n"),
+    (Asked::Purge, CREATED, "err 7 Denied 1\n"),
+];
+
+/// With the privilege.
+const ALLOWED: [Turn; 2] = [
+    (
+        Asked::Use(1, Some(LATER)),
+        CREATED,
+        "err 17 NoActiveMaster\n",
+    ),
+    (
+        Asked::Use(1, Some(CREATED - 1)),
+        CREATED,
+        "ok 2 1700000000.000000 mkvno 1 from 2023-11-14T22:13:19Z\n",
+    ),
+];
+
+pub(crate) fn access(alloc: Global, text: &[u8]) -> Result<Acl, Fail> {
+    if text.len() > 100 {
+        return Err(Fail::from("a short text"));
     }
-    Ok(Realm::from_bytes(alloc, text)?)
+    Ok(Acl::read(alloc, text, b"EXAMPLE.ORG")?)
 }
 
-/// A database with K/M, kadmin/history and krbtgt, under one master key.
-fn created(alloc: Global) -> Result<(Rows, Masters), Fail> {
-    let spec = CreateSpec::new(realm(alloc)?, None, Etype::Aes256, 1000);
-    Ok(first_rows(alloc, &spec, Time::new(CREATED, 0), &[7; 2048])?)
-}
-
-/// What the command comes to at the second of the creation, without an access list.
-fn judged(alloc: Global, command: &Command) -> Result<Result<MasterPlan, Stop>, Fail>
-    requires command { (realm : List ℕ) → IsCommand realm command.now }
-    requires planned { is_master_command command.now ≡ true }
-{
-    let realm = realm(alloc)?;
-    let (rows, masters) = created(alloc)?;
-    let view = View {
-        rows: &rows,
-        masters: &masters,
-        realm: realm.as_slice(),
-    };
-    let Ok(client) = parse_name(alloc, b"admin", realm.as_slice()) else {
-        return Err(Fail::from("a name"));
-    };
-    let moment = Time::new(CREATED, 0);
-    Ok(plan(alloc, command, &view, &client, None, moment, &[9; 2048]))
-}
-
-/// The answer of a command that makes no change.
-#[tactic(auto, unfolding(kadm_commands::specs::Commands::IsCommand))]
-fn answer(alloc: Global, command: &Command) -> Result<Reply, Fail>
-    requires command { (realm : List ℕ) → IsCommand realm command.now }
-    requires planned { is_master_command command.now ≡ true }
-{
-    let Ok(plan) = judged(alloc, command)? else {
-        return Err(Fail::from("accepted"));
-    };
-    match plan {
-        MasterPlan::Answer(reply) => Ok(reply),
-        MasterPlan::Change(_) => Err(Fail::from("an answer")),
-    }
-}
-
-/// The change of a command that makes one.
-#[tactic(auto, unfolding(kadm_commands::specs::Commands::IsCommand))]
-fn change(alloc: Global, command: &Command) -> Result<MasterChange, Fail>
-    requires command { (realm : List ℕ) → IsCommand realm command.now }
-    requires planned { is_master_command command.now ≡ true }
-{
-    let Ok(plan) = judged(alloc, command)? else {
-        return Err(Fail::from("accepted"));
-    };
-    match plan {
-        MasterPlan::Change(change) => Ok(change),
-        MasterPlan::Answer(_) => Err(Fail::from("a change")),
-    }
+/// Gives the commands over a new database, under an access list.
+fn check_listed(rt: &impl Abort, alloc: Global, text: &[u8], turns: &[Turn]) -> Result<(), Fail> {
+    let mut database = created(alloc)?;
+    let acl = access(alloc, text)?;
+    check_turns(rt, alloc, &mut database, Some(&acl), turns)
 }
 
 #[test]
-#[tactic(auto, unfolding(kadm_commands::specs::Commands::IsCommand))]
-fn a_version_is_added(rt: HostRuntime) -> Result<(), Fail> {
-    let change = change(rt.alloc(), &Command::AddMaster(None))?;
-    assert_eq!(rt; change.masters.as_slice().len(), 2);
-    assert!(rt; matches!(change.told, Told::Added(2)));
-    Ok(())
-}
-
-#[test]
-#[tactic(auto, unfolding(kadm_commands::specs::Commands::IsCommand))]
-fn the_first_version_is_listed_and_active(rt: HostRuntime) -> Result<(), Fail> {
-    let reply = answer(rt.alloc(), &Command::ListMasters)?;
-    let Reply::MastersListed(rows) = reply else {
-        return Err(Fail::from("a list"));
-    };
-    let [row] = rows.as_slice() else {
-        return Err(Fail::from("one version"));
-    };
-    assert_eq!(rt; row.version, 1);
-    assert_eq!(rt; row.secs, Some(CREATED));
-    assert!(rt; row.active);
-    Ok(())
-}
-
-#[test]
-#[tactic(auto, unfolding(kadm_commands::specs::Commands::IsCommand))]
-fn the_first_version_protects_two_principals(rt: HostRuntime) -> Result<(), Fail> {
-    let reply = answer(rt.alloc(), &Command::PurgeMasters)?;
-    let Reply::MastersPurged(None, rows) = reply else {
-        return Err(Fail::from("no change"));
-    };
-    let [row] = rows.as_slice() else {
-        return Err(Fail::from("one version"));
-    };
-    assert_eq!(rt; row.version, 1);
-    assert_eq!(rt; row.cause, Some(Cause::Protects(2)));
-    Ok(())
-}
-
-#[test]
-#[tactic(auto, unfolding(kadm_commands::specs::Commands::IsCommand))]
-fn a_version_is_given_its_time(rt: HostRuntime) -> Result<(), Fail> {
-    let command = Command::UseMaster(UseMaster {
-        version: 1,
-        secs: None,
-    });
-    let change = change(rt.alloc(), &command)?;
-    assert_eq!(rt; change.masters.as_slice().len(), 1);
-    assert!(rt; matches!(change.told, Told::Used(1, CREATED)));
-    Ok(())
+fn refusals_come_in_their_order(rt: HostRuntime) -> Result<(), Fail> {
+    check_listed(&rt, rt.alloc(), b"admin i\n", &DENIED)?;
+    check_listed(&rt, rt.alloc(), b"admin s K/M\n", &ALLOWED)
 }

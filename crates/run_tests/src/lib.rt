@@ -3,7 +3,11 @@
 #![tactic(auto)]
 
 #[cfg(test)]
+mod accounts;
+#[cfg(test)]
 mod databases;
+#[cfg(test)]
+mod dumps;
 #[cfg(test)]
 mod faults;
 #[cfg(test)]

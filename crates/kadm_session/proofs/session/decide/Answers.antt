@@ -59,3 +59,9 @@ pub returns-in-Err-rekey-clause-drawn : goal.returns-in-Err-rekey-clause-drawn
 returns-in-Err-rekey-clause-drawn g c = λ s has is.
     halfway_as g.D.Disk c.rekey.new.disk c.args.asked.now (Rekeys c.in-Rekeys.glob) (told_draws (g.C.Clock.moments c.args.clock.now) (g.E.Entropy.stream c.args.entropy.now)) (seen (place_of c.args.primary.now) s) c.in-Rekeys.is
     (c.rekey.ensures.drawn s has (err_on c.rekey.result _ _ c.in-Err-rekey.halt DrawFault c.in-Err-rekey.is refl refl is))
+
+pub returns-in-Err-renew-clause-memory : goal.returns-in-Err-renew-clause-memory
+returns-in-Err-renew-clause-memory g c = λ s has is.
+    let same = c.renew.ensures.memory (err_on c.renew.result _ _ c.in-Err-renew.halt MemoryOut c.in-Err-renew.is refl refl is) in
+    halfway_still g.D.Disk c.args.disk.now c.renew.new.disk c.args.asked.now (told_draws (g.C.Clock.moments c.args.clock.now) (g.E.Entropy.stream c.args.entropy.now)) (seen (place_of c.args.primary.now) s) same.0
+    (λ told. c.what_is_kept_is_recovered.ensures c.args.primary.now.kept (c.requires.on told))

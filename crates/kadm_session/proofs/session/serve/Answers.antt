@@ -1,7 +1,7 @@
 use Rattle.std.proofs.Common.{◌∙◌, refl, ap, arith, Ok}
 use Rattle.kdb_disk.proofs.Runs.{then_on}
 use Rattle.kadm_session.specs.declared.halts.SessionHalt.TheVariants.{MemoryOut, DrawFault, ReadFault, InputTooLong}
-use Rattle.kadm_session.proofs.Turning.{ended_from, err_on, goes_first, goes_none, goes_on_then, goes_some, goes_with, is_refused, leaves_here, rests_from, rests_on, stopped_from, was_refused}
+use Rattle.kadm_session.proofs.Turning.{between_from, ended_from, err_on, goes_first, goes_none, goes_on_then, goes_some, goes_with, is_refused, leaves_here, rests_on, stopped_from, was_refused}
 use Rattle.kadm_session.proofs.session.serve.Goals as goal
 
 pub loop-now_refused-init : goal.loop-now_refused-init
@@ -104,10 +104,10 @@ pub returns-in-Err-clause-read : goal.returns-in-Err-clause-read
 returns-in-Err-clause-read g c = λ told s has is.
     let was = c.loop-now_refused.invariant in
     let same = c.turn.ensures.read (err_on c.turn.result _ _ c.in-Err.halt ReadFault c.in-Err.is refl refl is) in
-    rw (same.0, same.1) (rests_from _ _ _ _ _ _ _ (was.goes s has) (c.what_is_kept_is_recovered-in-loop-now_refused.ensures _ (was.on told)))
+    rw (same.0, same.1) (between_from _ _ _ _ _ _ _ (was.goes s has) (c.what_is_kept_is_recovered-in-loop-now_refused.ensures _ (was.on told)))
 
 pub returns-in-Err-clause-at_limit : goal.returns-in-Err-clause-at_limit
 returns-in-Err-clause-at_limit g c = λ told s has is.
     let was = c.loop-now_refused.invariant in
     let same = c.turn.ensures.at_limit (err_on c.turn.result _ _ c.in-Err.halt InputTooLong c.in-Err.is refl refl is) in
-    rw (same.0, same.1) (rests_from _ _ _ _ _ _ _ (was.goes s has) (c.what_is_kept_is_recovered-in-loop-now_refused.ensures _ (was.on told)))
+    rw (same.0, same.1) (between_from _ _ _ _ _ _ _ (was.goes s has) (c.what_is_kept_is_recovered-in-loop-now_refused.ensures _ (was.on told)))

@@ -3,6 +3,7 @@ use Rattle.std.proofs.lemmas.Result.{on_ok_weaker}
 use Rattle.kadm_session.specs.Courses.{Course, course}
 use Rattle.kadm_session.specs.Draws.{told_draws}
 use Rattle.kadm_session.specs.Intake.{coming}
+use Rattle.kadm_session.proofs.Turning.{between_rests}
 use Rattle.kadm_top.proofs.Courses.{course_run, fresh_course, fresh_taken, read_whole, were_taken}
 use Rattle.kadm_top.proofs.run.answer_input.Goals as goal
 use Rattle.kadm_top.specs.Run.{HasCourse, told}
@@ -21,7 +22,8 @@ returns-clause-course g c = λ tells s has.
     (λ end e. c.serve-answered.ensures.ended s end has e)
     (on_ok_weaker c.serve-answered.result (c.what_is_kept_is_recovered.ensures _) (c.serve-answered.ensures.on tells))
     (c.serve-answered.ensures.stopped tells s has) (c.serve-answered.ensures.memory tells s has) (c.serve-answered.ensures.drawn tells s has)
-    (c.serve-answered.ensures.read tells s has) (c.serve-answered.ensures.at_limit tells s has) (c.serve-answered.ensures.moments tells s has))
+    (λ is. between_rests _ _ _ (c.serve-answered.ensures.read tells s has is)) (λ is. between_rests _ _ _ (c.serve-answered.ensures.at_limit tells s has is))
+    (c.serve-answered.ensures.moments tells s has))
 
 pub returns-clause-read : goal.returns-clause-read
 returns-clause-read g c =
