@@ -3,6 +3,5 @@ pub mod TargetLemmas
 pub mod RuleLemmas
 pub mod BitLemmas
 pub mod LimitLemmas
-pub mod Attributes
 pub mod LimitsFit
 pub mod RulesFit

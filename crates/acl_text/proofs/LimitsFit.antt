@@ -4,7 +4,7 @@ use Rattle.std.specs.Prelude.{IfSome, cond, if◌then◌else◌, is_none, nat_eq
 use Rattle.std.specs.List.{filter_map, list_all}
 use Rattle.std.specs.Str.{bytes_eq}
 use Rattle.std.proofs.lemmas.Bool.{and_from, and_parts}
-use Rattle.acl_text.proofs.Attributes.{either_known, part_known}
+use Rattle.princ_record.proofs.Attributes.{either_known, part_known}
 use Rattle.acl_text.specs.Limits.{IsLimits}
 use Rattle.acl_text.specs.Restrictions.{are_restrictions, bits_of, limits_among, limits_by, limits_from, limits_in, limits_of, restrictions, with_flag}
 use Rattle.acl_text.specs.declared.limits.Bits.{Bits}

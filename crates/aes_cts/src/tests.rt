@@ -165,3 +165,31 @@ fn short_and_long(rt: HostRuntime) {
     assert!(rt; key.cts_decrypt(&mut buffer).is_ok());
     assert_eq!(rt; buffer.as_slice(), long.as_slice());
 }
+
+// RFC 8009, appendix A: confounders and texts under the key that encrypts, of 256 bits.
+#[test]
+fn texts_of_rfc_8009(rt: HostRuntime) {
+    let key = Key256::new(
+        b"\x56\xab\x22\xbe\xe6\x3d\x82\xd7\xbc\x52\x27\xf6\x77\x3f\x8e\xa7\xa5\xeb\x1c\x82\x51\x60\xc3\x83\x12\x98\x0c\x44\x2e\x5c\x7e\x49",
+    );
+    let short =
+        b"\xb8\x0d\x32\x51\xc1\xf6\x47\x14\x94\x25\x6f\xfe\x71\x2d\x0b\x9a\x00\x01\x02\x03\x04\x05";
+    let mut buffer = *short;
+    assert!(rt; key.cts_encrypt(&mut buffer).is_ok());
+    assert_eq!(rt;
+        buffer.as_slice(),
+        b"\x4e\xd7\xb3\x7c\x2b\xca\xc8\xf7\x4f\x23\xc1\xcf\x07\xe6\x2b\xc7\xb7\x5f\xb3\xf6\x37\xb9".as_slice()
+    );
+    assert!(rt; key.cts_decrypt(&mut buffer).is_ok());
+    assert_eq!(rt; buffer.as_slice(), short.as_slice());
+    let long =
+        b"\x76\x3e\x65\x36\x7e\x86\x4f\x02\xf5\x51\x53\xc7\xe3\xb5\x8a\xf1\x00\x01\x02\x03\x04\x05\x06\x07\x08\x09\x0a\x0b\x0c\x0d\x0e\x0f\x10\x11\x12\x13\x14";
+    let mut buffer = *long;
+    assert!(rt; key.cts_encrypt(&mut buffer).is_ok());
+    assert_eq!(rt;
+        buffer.as_slice(),
+        b"\x40\x01\x3e\x2d\xf5\x8e\x87\x51\x95\x7d\x28\x78\xbc\xd2\xd6\xfe\x10\x1c\xcf\xd5\x56\xcb\x1e\xae\x79\xdb\x3c\x3e\xe8\x64\x29\xf2\xb2\xa6\x02\xac\x86".as_slice()
+    );
+    assert!(rt; key.cts_decrypt(&mut buffer).is_ok());
+    assert_eq!(rt; buffer.as_slice(), long.as_slice());
+}

@@ -12,7 +12,7 @@ use Rattle.std.proofs.lemmas.List.Elements.{recursion_from_All}
 use Rattle.std.proofs.lemmas.Str.Parse.{IsNumeralModel, numerals_by_fold, tells_all_ascii_digits}
 use Rattle.hex.specs.Hex.{IsBytes, encode_lower, encode_with, hex_digit_value, lower_digits}
 use Rattle.hex.proofs.HexLemmas.{IsDigits-lower_digits, decode_of-encode_lower}
-use Rattle.kdb_base.specs.Limits.{longest_row}
+use Rattle.kdb_base.specs.Limits.{most_rows, longest_row}
 use Rattle.kdb_base.specs.declared.moments.Point.{Point}
 use Rattle.kdb_format.specs.Moments.{IsPoint}
 use Rattle.kdb_format.specs.Readings.{whole}
@@ -20,7 +20,7 @@ use Rattle.kdb_format.specs.Laws.{whole_again}
 use Rattle.policy_rules.specs.Rules.{Rules}
 use Rattle.princ_name.specs.Realms.{is_realm, is_realm_byte}
 use Rattle.princ_record.specs.RowLimits.{IsRow}
-use Rattle.princ_entries.specs.EntryLaws.{bytes_same}
+use Rattle.princ_rows.specs.EntryLaws.{bytes_same}
 use Rattle.princ_record.specs.Policies.{policy, policy_at, IsPolicy}
 use Rattle.princ_record.specs.PolicyLaws.{policy_field}
 use Rattle.princ_record.specs.Princs.{princ}
@@ -30,7 +30,8 @@ use Rattle.princ_record.specs.declared.princs.Princ.{Princ}
 use Rattle.kadm_values.specs.Points.{point_text, six_digits}
 use Rattle.dump_text.specs.Dumps.{ended, realm_line, point_line, princ_line, policy_line, end_line, head_text, rows_text, row_count, dump_text}
 use Rattle.dump_text.specs.Lines.{lacks}
-use Rattle.dump_text.specs.Readings.{behind, realm_of, realm_in, with_digit, number_of, before_blank, behind_blank, near_time, near_point, is_point, written_so, point_in, bytes_or_none, hex_of, princ_of, policy_of}
+use Rattle.kadm_values.specs.Numbers.{with_digit, decimal_value}
+use Rattle.dump_text.specs.Readings.{behind, realm_of, realm_in, before_blank, behind_blank, near_time, near_point, is_point, written_so, point_in, bytes_or_none, hex_of, princ_of, policy_of}
 use Rattle.dump_text.specs.Judged.{Said, nothing, after, after_title, after_realm, after_point, after_row, after_end, with_princ, with_policy, policy_or_end, princ_or_other, dump_of, judged, judged_from, line_behind, IsDump, IsDumpText}
 use Rattle.dump_text.specs.Versions.{stands_in, title}
 use Rattle.dump_text.specs.declared.versions.Version.{Version}
@@ -48,8 +49,8 @@ behind_again word text = rw (bytes_same (take (length word) (word ++ text)) word
 
 -- ---- digits
 
-own : IsNumeralModel (λ ds. all_ascii_digits ds ≡ true) number_of
-unfolding number_of
+own : IsNumeralModel (λ ds. all_ascii_digits ds ≡ true) decimal_value
+unfolding decimal_value
 own = numerals_by_fold _ tells_all_ascii_digits (λ n ds. fold with_digit n ds) (record {
   empty = λ n. refl;
   more = λ n c cs within. ap (λ (m : ℕ). fold with_digit (m + (c - 48)) cs) (omega arith);
@@ -68,7 +69,7 @@ digits_lack byte (c ∷ cs) digits no_digit =
 number_lacks : (byte n : ℕ) → n < 4294967296 → is_ascii_digit byte ≡ false → lacks byte (decimal n) ≡ true
 number_lacks byte n lt no_digit = digits_lack byte (decimal n) (digits_decimal own n (omega arith)) no_digit
 
-number_again : (n : ℕ) → n < 4294967296 → number_of (decimal n) ≡ n
+number_again : (n : ℕ) → n < 4294967296 → decimal_value (decimal n) ≡ n
 number_again n lt = digits_value-decimal own n (omega arith)
 
 zeros_lack : (byte n : ℕ) → is_ascii_digit byte ≡ false → lacks byte (replicate n 48) ≡ true
@@ -80,8 +81,8 @@ zeros_lack byte (suc n) no_digit =
       | false ↦ λ is. zeros_lack byte n no_digit
     ] refl
 
-zeros_number : (n : ℕ) (ds : List ℕ) → number_of (replicate n 48 ++ ds) ≡ number_of ds
-unfolding number_of
+zeros_number : (n : ℕ) (ds : List ℕ) → decimal_value (replicate n 48 ++ ds) ≡ decimal_value ds
+unfolding decimal_value
 zeros_number zero ds = refl
 zeros_number (suc n) ds = zeros_number n ds
 
@@ -90,7 +91,7 @@ length-six n lt =
     let digits : length (decimal n) ≤ 6 = length-decimal-le 6 n (omega arith) (omega arith) (omega arith) in
     omega (arith, digits, length-append (replicate (6 - length (decimal n)) 48) (decimal n), length-replicate {A = ℕ} (6 - length (decimal n)) 48)
 
-six_again : (n : ℕ) → n < 1000000 → number_of (six_digits n) ≡ n
+six_again : (n : ℕ) → n < 1000000 → decimal_value (six_digits n) ≡ n
 six_again n lt = zeros_number (6 - length (decimal n)) (decimal n) ∙ number_again n (omega arith)
 
 -- ---- the point
@@ -114,7 +115,7 @@ time_again secs usecs first second =
     let other : whole ≡ (decimal secs ++ (46 ∷ [])) ++ six_digits usecs = sym (append_assoc (decimal secs) (46 ∷ []) (six_digits usecs)) in
     let back : drop (length whole - 6) whole ≡ six_digits usecs =
     ap (drop (length whole - 6)) other ∙ drop_at (decimal secs ++ (46 ∷ [])) (six_digits usecs) (length whole - 6) (omega (arith, len, length-append (decimal secs) (46 ∷ []))) in
-    λ i. record { secs = (ap number_of front ∙ number_again secs first) i; usecs = (ap number_of back ∙ six_again usecs second) i }
+    λ i. record { secs = (ap decimal_value front ∙ number_again secs first) i; usecs = (ap decimal_value back ∙ six_again usecs second) i }
 
 abbrev point_words : Point → List ℕ
 point_words p = decimal p.sno ++ (32 ∷ (decimal p.time.secs ++ (46 ∷ six_digits p.time.usecs)))
@@ -124,7 +125,7 @@ unfolding near_point
 near_again p good =
     let a = good.sno in let b = good.time.secs in let c = good.time.usecs in
     let blank = blank_again (decimal p.sno) (decimal p.time.secs ++ (46 ∷ six_digits p.time.usecs)) (number_lacks 32 p.sno (omega arith) refl) in
-    λ i. record { sno = (ap number_of blank.0 ∙ number_again p.sno (omega arith)) i; time = (ap near_time blank.1 ∙ time_again p.time.secs p.time.usecs (omega arith) (omega arith)) i }
+    λ i. record { sno = (ap decimal_value blank.0 ∙ number_again p.sno (omega arith)) i; time = (ap near_time blank.1 ∙ time_again p.time.secs p.time.usecs (omega arith) (omega arith)) i }
 
 point_test : (p : Point) → IsPoint p → is_point p ≡ true
 point_test p good =
@@ -255,7 +256,7 @@ policy_line_lacks : (p : Rules) → IsBytes (policy p) → lacks 10 (policy_line
 unfolding policy_line lacks
 policy_line_lacks p are = hex_lacks (policy p) are
 
-pub end_lacks : (n : ℕ) → n ≤ 100000 → lacks 10 (end_line n) ≡ true
+pub end_lacks : (n : ℕ) → n ≤ most_rows → lacks 10 (end_line n) ≡ true
 unfolding end_line lacks
 end_lacks n few = number_lacks 10 n (omega arith) refl
 

@@ -3,12 +3,14 @@ use Rattle.std.proofs.Common.{◌≡◌, ℕ, ◌≤◌, ◌==◌, Bool, true, f
 use Rattle.std.specs.Prelude.{Ok, Err, nat_le, is_some, option_map}
 use Rattle.std.proofs.lemmas.Bool.{and_parts, false≢true, leb-true}
 use Rattle.std.proofs.lemmas.Option.{same_Some}
+use Rattle.kdb_base.specs.Limits.{most_rows}
 use Rattle.kdb_base.specs.declared.moments.Point.{Point}
 use Rattle.kdb_format.specs.Laws.{bind_some}
 use Rattle.kdb_format.specs.Moments.{IsPoint}
 use Rattle.princ_name.specs.Realms.{is_realm}
-use Rattle.princ_entries.specs.EntryLaws.{bytes_same}
-use Rattle.princ_rows.specs.Rows.{RowLists, rises_from, princ_keys, policy_keys}
+use Rattle.princ_rows.specs.EntryLaws.{bytes_same}
+use Rattle.princ_rows.specs.Rows.{RowLists, princ_keys, policy_keys}
+use Rattle.tagged_data.specs.KeyOrder.{rises_from}
 use Rattle.dump_text.specs.Dumps.{ended, realm_line, point_line, end_line, row_count}
 use Rattle.dump_text.specs.Lines.{Lines, in_front, lines_of, lacks}
 use Rattle.dump_text.specs.Judged.{BeginsDump, Said, nothing, after, after_title, after_realm, after_point, dump_of, is_in_order, judged, judged_from, judged_lines, line_behind, rows_of, said_by, said_or}
@@ -40,7 +42,7 @@ leads_end : (v : Version) (realm : List ℕ) (point : Point) (rows : RowLists) �
 unfolding dump_of lacks
 leads_end v realm point rows = record { rest = []; dump = record { realm = realm; point = point; rows = rows }; ends = λ n. judged-end (said (Some v) (Some realm) (Some point) rows true) n [] refl }
 
-leads_rows : (v : Version) (realm : List ℕ) (point : Point) (rows : RowLists) → row_count rows ≤ 100000 → Leads (said (Some v) (Some realm) (Some point) rows false)
+leads_rows : (v : Version) (realm : List ℕ) (point : Point) (rows : RowLists) → row_count rows ≤ most_rows → Leads (said (Some v) (Some realm) (Some point) rows false)
 leads_rows v realm point rows few =
     leads_step (said (Some v) (Some realm) (Some point) rows false) (said (Some v) (Some realm) (Some point) rows true) (end_line (row_count rows)) (end_lacks (row_count rows) few)
     (after_last v realm point rows) (leads_end v realm point rows)
@@ -60,7 +62,7 @@ point_step v realm rows over point good = rw (point_again point good) refl
 abbrev Closed : Option (List ℕ) → Option Point → Bool → Type 0
 Closed realm point over = over ≡ true → (is_some realm ≡ true) × (is_some point ≡ true)
 
-leads_point : (v : Version) (realm : List ℕ) (point : Option Point) (rows : RowLists) (over : Bool) → row_count rows ≤ 100000 → Closed (Some realm) point over → Leads (said (Some v) (Some realm) point rows over)
+leads_point : (v : Version) (realm : List ℕ) (point : Option Point) (rows : RowLists) (over : Bool) → row_count rows ≤ most_rows → Closed (Some realm) point over → Leads (said (Some v) (Some realm) point rows over)
 leads_point v realm (Some point) rows true few closed = leads_end v realm point rows
 leads_point v realm (Some point) rows false few closed = leads_rows v realm point rows few
 leads_point v realm None rows true few closed = absurd (false≢true (closed refl).1)
@@ -75,7 +77,7 @@ realm_step v point rows over realm good = rw (realm_again realm good) refl
 open_closed : (realm : List ℕ) (point : Option Point) (over : Bool) → Closed None point over → Closed (Some realm) point over
 open_closed realm point over closed e = (refl, (closed e).1)
 
-leads_realm : (v : Version) (realm : Option (List ℕ)) (point : Option Point) (rows : RowLists) (over : Bool) → row_count rows ≤ 100000 → Closed realm point over → Leads (said (Some v) realm point rows over)
+leads_realm : (v : Version) (realm : Option (List ℕ)) (point : Option Point) (rows : RowLists) (over : Bool) → row_count rows ≤ most_rows → Closed realm point over → Leads (said (Some v) realm point rows over)
 leads_realm v (Some realm) point rows over few closed = leads_point v realm point rows over few closed
 leads_realm v None point rows over few closed =
     leads_step (said (Some v) None point rows over) (said (Some v) (Some (codes "R")) point rows over) (realm_line (codes "R")) (realm_lacks (codes "R") refl) (realm_step v point rows over (codes "R") refl)
@@ -85,7 +87,7 @@ title_step : (realm : Option (List ℕ)) (point : Option Point) (rows : RowLists
 unfolding after after_title
 title_step realm point rows over = ap (option_map (λ (u : Version). said (Some u) realm point rows over)) (version_again Two)
 
-leads_title : (titled : Option Version) (realm : Option (List ℕ)) (point : Option Point) (rows : RowLists) (over : Bool) → row_count rows ≤ 100000 → Closed realm point over → Leads (said titled realm point rows over)
+leads_title : (titled : Option Version) (realm : Option (List ℕ)) (point : Option Point) (rows : RowLists) (over : Bool) → row_count rows ≤ most_rows → Closed realm point over → Leads (said titled realm point rows over)
 leads_title (Some v) realm point rows over few closed = leads_realm v realm point rows over few closed
 leads_title None realm point rows over few closed =
     leads_step (said None realm point rows over) (said (Some Two) realm point rows over) (title Two) (title_lacks Two) (title_step realm point rows over) (leads_realm Two realm point rows over few closed)
@@ -93,11 +95,11 @@ leads_title None realm point rows over few closed =
 -- ---- where lines lead
 
 record Reached (s : Said) : Type 0 where
-  few : row_count (rows_of s) ≤ 100000
+  few : row_count (rows_of s) ≤ most_rows
   closed : Closed s.realm s.point s.ended
 
-few_from_test : (rows : RowLists) → is_in_order rows ≡ true → row_count rows ≤ 100000
-few_from_test rows e = leb-true _ _ (and_parts (nat_le (row_count rows) 100000) (rises_from None (princ_keys rows.princs) && rises_from None (policy_keys rows.policies)) e).0
+few_from_test : (rows : RowLists) → is_in_order rows ≡ true → row_count rows ≤ most_rows
+few_from_test rows e = leb-true _ _ (and_parts (nat_le (row_count rows) most_rows) (rises_from None (princ_keys rows.princs) && rises_from None (policy_keys rows.policies)) e).0
 
 row_reaches : (v : Version) (s : Said) (line : List ℕ) (t : Said) → Reached s → is_some s.realm ≡ true → is_some s.point ≡ true → RowLed v s line t → Reached t
 row_reaches v s line t at realm point (led_princ p is row bytes stand none order e) =

@@ -3,6 +3,7 @@ use Rattle.std.proofs.Common.{◌≡◌, ℕ, suc, ◌+◌, ◌-◌, ◌<◌, �
 use Rattle.std.specs.Prelude.{Ok, Err, IfSome, option_and_then}
 use Rattle.std.proofs.lemmas.Bool.{eqb-true}
 use Rattle.std.proofs.lemmas.List.{length-append, take-append-drop, drop_more, get_or-take, length-take, length-take-le, take-take, take_rest}
+use Rattle.kdb_base.specs.Limits.{most_rows}
 use Rattle.memchr.specs.Find.{IsFirstByte, is_byte}
 use Rattle.dump_text.specs.Lines.{Lines, Cut, in_front, lines_of, lacks}
 use Rattle.dump_text.specs.Judged.{Said, rows_of, after, dump_of, dump_or_bad, judged_from, judged_lines, line_behind, said_by, said_or}
@@ -10,6 +11,7 @@ use Rattle.dump_text.specs.Dumps.{row_count}
 use Rattle.dump_text.specs.Reader.{Grows, ReaderState, answer_of, judged_or_bad, judged_with}
 use Rattle.dump_text.specs.declared.stops.DumpStop.TheVariants as stop
 use Rattle.dump_text.specs.declared.dumps.Dump.{Dump}
+use Rattle.dump_text.specs.Versions.{longest}
 use Rattle.dump_text.proofs.Led.{after_long}
 
 -- ---- bytes without a line feed
@@ -113,12 +115,12 @@ pub judged-stops : (s : Said) (count : ℕ) (xs rest : List ℕ) → lacks 10 xs
 judged-stops s count xs rest clear e =
     judged-fed s count xs rest clear ∙ ap (λ o. said_or (Err (line_behind count)) o (λ u. judged_from u (line_behind count) rest)) e
 
-bad_rest : (line : ℕ) (o : Option Dump) (xs ys : List ℕ) → 32006 < length xs → dump_or_bad line o (xs ++ ys) ≡ Err line
+bad_rest : (line : ℕ) (o : Option Dump) (xs ys : List ℕ) → longest < length xs → dump_or_bad line o (xs ++ ys) ≡ Err line
 bad_rest line None xs ys long = refl
 bad_rest line (Some dump) [] ys long = absurd (omega arith)
 bad_rest line (Some dump) (b ∷ xs) ys long = refl
 
-long_lines : (s : Said) (count : ℕ) (xs : List ℕ) (whole : List (List ℕ)) (rest : List ℕ) → row_count (rows_of s) ≤ 100000 → 32006 < length xs
+long_lines : (s : Said) (count : ℕ) (xs : List ℕ) (whole : List (List ℕ)) (rest : List ℕ) → row_count (rows_of s) ≤ most_rows → longest < length xs
     → judged_lines s count (in_front xs whole rest).whole (in_front xs whole rest).rest ≡ Err (line_behind count)
 unfolding in_front judged_lines
 long_lines s count xs [] rest few long = bad_rest (line_behind count) (dump_of s) xs rest long
@@ -127,7 +129,7 @@ long_lines s count xs (line ∷ lines) rest few long =
     (after_long s (xs ++ line) few (omega (arith, length-append xs line)))
 
 -- a line that is too long, whatever comes
-pub judged-long : (s : Said) (count : ℕ) (xs rest : List ℕ) → row_count (rows_of s) ≤ 100000 → lacks 10 xs ≡ true → 32006 < length xs → judged_from s count (xs ++ rest) ≡ Err (line_behind count)
+pub judged-long : (s : Said) (count : ℕ) (xs rest : List ℕ) → row_count (rows_of s) ≤ most_rows → lacks 10 xs ≡ true → longest < length xs → judged_from s count (xs ++ rest) ≡ Err (line_behind count)
 unfolding judged_from
 judged-long s count xs rest few clear long =
     ap (λ (l : Lines). judged_lines s count l.whole l.rest) (lines-front xs rest clear)
@@ -213,7 +215,7 @@ last_said s line text front back = said-rest s (line ++ text) (lacks-append 10 l
 pub last_clear : (line text new : List ℕ) → lacks 10 line ≡ true → lacks 10 text ≡ true → new ≡ line ++ text → lacks 10 new ≡ true
 last_clear line text new front back is = ap (lacks 10) is ∙ lacks-append 10 line text front back
 
-pub last_long : (s : Said) (count : ℕ) (line text rest : List ℕ) → row_count (rows_of s) ≤ 100000 → lacks 10 line ≡ true → lacks 10 text ≡ true → 32006 < length (line ++ text)
+pub last_long : (s : Said) (count : ℕ) (line text rest : List ℕ) → row_count (rows_of s) ≤ most_rows → lacks 10 line ≡ true → lacks 10 text ≡ true → longest < length (line ++ text)
     → judged_from s count (line ++ (text ++ rest)) ≡ Err (line_behind count)
 last_long s count line text rest few front back long =
     ap (judged_from s count) (sym (append_assoc line text rest)) ∙ judged-long s count (line ++ text) rest few (lacks-append 10 line text front back) long

@@ -10,7 +10,7 @@ use Rattle.std.proofs.lemmas.Option.{cond_some, same_Some}
 use Rattle.hex.specs.Hex.{decode_of, encode_lower, lower_digits, IsBytes}
 use Rattle.hex.specs.declared.error.FromHexError.{FromHexError}
 use Rattle.hex.proofs.HexLemmas.{decode_of-ok, length-encode_with}
-use Rattle.kdb_base.specs.Limits.{longest_row}
+use Rattle.kdb_base.specs.Limits.{most_rows, longest_row}
 use Rattle.kdb_base.specs.declared.moments.Point.{Point}
 use Rattle.kdb_format.specs.Readings.{whole}
 use Rattle.kdb_format.specs.Laws.{bind_some, whole_spelled}
@@ -18,7 +18,7 @@ use Rattle.policy_rules.specs.Rules.{Rules}
 use Rattle.princ_name.specs.Realms.{is_realm, realm_length}
 use Rattle.princ_record.specs.RowLimits.{IsRow}
 use Rattle.princ_record.specs.PolicyLaws.{policy_short, policy_field}
-use Rattle.princ_entries.specs.EntryLaws.{same_bytes}
+use Rattle.princ_rows.specs.EntryLaws.{same_bytes}
 use Rattle.princ_record.specs.Policies.{policy, policy_at, IsPolicy}
 use Rattle.princ_record.specs.Princs.{princ, princ_at}
 use Rattle.princ_record.specs.PrincLaws.{princ_field}
@@ -28,7 +28,7 @@ use Rattle.dump_text.specs.Dumps.{realm_line, point_line, princ_line, policy_lin
 use Rattle.dump_text.specs.Readings.{behind, realm_of, realm_in, near_point, is_point, written_so, point_in, bytes_or_none, hex_of, princ_of, policy_of}
 use Rattle.dump_text.specs.Judged.{Said, rows_of, is_in_order, after_title, after_realm, after_point, with_princ, with_policy, after_end, policy_or_end, princ_or_other, after_row, point_or_row, realm_or_later, title_or_later, after}
 use Rattle.dump_text.specs.Reader.{Grows}
-use Rattle.dump_text.specs.Versions.{stands_in, title, version_of}
+use Rattle.dump_text.specs.Versions.{longest, stands_in, title, version_of}
 use Rattle.dump_text.specs.declared.versions.Version.{Version}
 use Rattle.dump_text.specs.declared.versions.Version.TheVariants.{One, Two}
 use Rattle.dump_text.proofs.Stands.{stands_row, title_from}
@@ -263,45 +263,45 @@ length-point p good =
       length-append (codes ".") (six_digits p.time.usecs),
     )
 
-length-title : (v : Version) → length (title v) ≤ 32006
+length-title : (v : Version) → length (title v) ≤ longest
 unfolding title
 length-title One = omega arith
 length-title Two = omega arith
 
-length-realm : (realm : List ℕ) → is_realm realm ≡ true → length (realm_line realm) ≤ 32006
+length-realm : (realm : List ℕ) → is_realm realm ≡ true → length (realm_line realm) ≤ longest
 unfolding realm_line
 length-realm realm good = let le = realm_length realm good in omega (arith, le, length-append (codes "realm ") realm)
 
-length-princ : (p : Princ) → IsRow p → length (princ_line p) ≤ 32006
+length-princ : (p : Princ) → IsRow p → length (princ_line p) ≤ longest
 unfolding princ_line
 length-princ p row = omega (arith, row.short, length-append (codes "princ ") (encode_lower (princ p)), length-encode_with lower_digits (princ p))
 
-length-policy : (p : Rules) → IsPolicy p → length (policy_line p) ≤ 32006
+length-policy : (p : Rules) → IsPolicy p → length (policy_line p) ≤ longest
 unfolding policy_line
 length-policy p row = let le = policy_short p row in omega (arith, le, length-append (codes "policy ") (encode_lower (policy p)), length-encode_with lower_digits (policy p))
 
-length-end : (n : ℕ) → n ≤ 100000 → length (end_line n) ≤ 32006
+length-end : (n : ℕ) → n ≤ most_rows → length (end_line n) ≤ longest
 unfolding end_line
 length-end n few =
     let digits : length (decimal n) ≤ 6 = length-decimal-le 6 n (omega arith) (omega arith) (omega arith) in
     omega (arith, digits, length-append (codes "end ") (decimal n))
 
-at_most : (line text : List ℕ) → line ≡ text → length text ≤ 32006 → length line ≤ 32006
-at_most line text e le = subst (λ (t : List ℕ). length t ≤ 32006) (sym e) le
+at_most : (line text : List ℕ) → line ≡ text → length text ≤ longest → length line ≤ longest
+at_most line text e le = subst (λ (t : List ℕ). length t ≤ longest) (sym e) le
 
-row_short : (v : Version) (s : Said) (line : List ℕ) (t : Said) → row_count (rows_of s) ≤ 100000 → RowLed v s line t → length line ≤ 32006
+row_short : (v : Version) (s : Said) (line : List ℕ) (t : Said) → row_count (rows_of s) ≤ most_rows → RowLed v s line t → length line ≤ longest
 row_short v s line t few (led_princ p is row bytes stand none order e) = at_most line (princ_line p) is (length-princ p row)
 row_short v s line t few (led_policy p is row bytes order e) = at_most line (policy_line p) is (length-policy p row)
 row_short v s line t few (led_end is e) = at_most line (end_line (row_count (rows_of s))) is (length-end (row_count (rows_of s)) few)
 
-step_short : (s : Said) (line : List ℕ) (t : Said) → row_count (rows_of s) ≤ 100000 → Led s line t → length line ≤ 32006
+step_short : (s : Said) (line : List ℕ) (t : Said) → row_count (rows_of s) ≤ most_rows → Led s line t → length line ≤ longest
 step_short s line t few (led_title v is e) = at_most line (title v) is (length-title v)
 step_short s line t few (led_realm realm none is good e) = at_most line (realm_line realm) is (length-realm realm good)
 step_short s line t few (led_point point is good e) = let le = length-point point good in at_most line (point_line point) is (omega arith)
 step_short s line t few (led_row v realm point row) = row_short v s line t few row
 
 -- no dump goes on with a line that is longer
-pub after_long : (s : Said) (line : List ℕ) → row_count (rows_of s) ≤ 100000 → 32006 < length line → after s line ≡ None
+pub after_long : (s : Said) (line : List ℕ) → row_count (rows_of s) ≤ most_rows → longest < length line → after s line ≡ None
 after_long s line few long = by (after s line) refl
   where
     by : (o : Option Said) → after s line ≡ o → o ≡ None

@@ -6,10 +6,13 @@ use Rattle.std.proofs.lemmas.Bool.{and_parts, and_from, le-leb}
 use Rattle.std.proofs.lemmas.List.{map-append, take-map, length-append, length-take}
 use Rattle.std.proofs.lemmas.List.Elements.{All-append, All-cons, All-nil, All-take}
 use Rattle.std.proofs.lemmas.Option.{slice_get-map}
+use Rattle.kdb_base.specs.Limits.{most_rows}
 use Rattle.policy_rules.specs.Rules.{Rules}
 use Rattle.princ_record.specs.RowLimits.{IsRow}
 use Rattle.princ_record.specs.Policies.{IsPolicy}
-use Rattle.princ_rows.specs.Rows.{RowLists, AreRows, AreInOrder, is_behind, rises_from, in_order, rises, princ_keys, policy_keys}
+use Rattle.princ_rows.specs.Rows.{RowLists, AreRows, princ_keys, policy_keys}
+use Rattle.tagged_data.specs.KeyOrder.{AreInOrder, is_behind, rises_from}
+use Rattle.tagged_data.specs.KeyOrderLaws.{in_order, rises}
 use Rattle.princ_record.specs.declared.princs.Princ.{Princ}
 use Rattle.dump_text.specs.Dumps.{row_count}
 use Rattle.dump_text.specs.Judged.{Said, is_in_order, with_princ, with_policy}
@@ -103,7 +106,7 @@ fewer_rows rows m n princs policies f first second =
       policies = All-take IsPolicy n rows.policies f.policies;
     })
 
-pub more_princs : (rows : RowLists) (p : Princ) (princs : List Princ) → AreRows rows → IsRow p → princs ≡ rows.princs ++ (p ∷ []) → row_count rows < 100000 → rises_from None (princ_keys princs) ≡ true
+pub more_princs : (rows : RowLists) (p : Princ) (princs : List Princ) → AreRows rows → IsRow p → princs ≡ rows.princs ++ (p ∷ []) → row_count rows < most_rows → rises_from None (princ_keys princs) ≡ true
     → AreRows (record { princs = princs; policies = rows.policies })
 more_princs rows p princs f is e few order = record {
   princ_order = in_order (princ_keys princs) order;
@@ -113,7 +116,7 @@ more_princs rows p princs f is e few order = record {
   policies = f.policies;
 }
 
-pub more_policies : (rows : RowLists) (p : Rules) (policies : List Rules) → AreRows rows → IsPolicy p → policies ≡ rows.policies ++ (p ∷ []) → row_count rows < 100000 → rises_from None (policy_keys policies) ≡ true
+pub more_policies : (rows : RowLists) (p : Rules) (policies : List Rules) → AreRows rows → IsPolicy p → policies ≡ rows.policies ++ (p ∷ []) → row_count rows < most_rows → rises_from None (policy_keys policies) ≡ true
     → AreRows (record { princs = rows.princs; policies = policies })
 more_policies rows p policies f is e few order = record {
   princ_order = f.princ_order;
@@ -127,7 +130,7 @@ more_policies rows p policies f is e few order = record {
 
 pub order_test : (rows : RowLists) → AreRows rows → is_in_order rows ≡ true
 order_test rows f =
-    and_from (nat_le (row_count rows) 100000) (rises_from None (princ_keys rows.princs) && rises_from None (policy_keys rows.policies)) (le-leb (row_count rows) 100000 f.few)
+    and_from (nat_le (row_count rows) most_rows) (rises_from None (princ_keys rows.princs) && rises_from None (policy_keys rows.policies)) (le-leb (row_count rows) most_rows f.few)
     (and_from (rises_from None (princ_keys rows.princs)) (rises_from None (policy_keys rows.policies)) (rises (princ_keys rows.princs) f.princ_order) (rises (policy_keys rows.policies) f.policy_order))
 
 passed : {A : Type 0} (a b : Bool) (x : Option A) → a ≡ true → b ≡ true → (if a then (if b then x else None) else None) ≡ x

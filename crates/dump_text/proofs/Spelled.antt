@@ -7,6 +7,7 @@ use Rattle.std.proofs.lemmas.Grind.{flat_map-append}
 use Rattle.std.proofs.lemmas.List.{nil_from_length}
 use Rattle.std.proofs.lemmas.List.Elements.{All-append, All-cons, All-nil}
 use Rattle.std.proofs.lemmas.Option.{same_Some}
+use Rattle.kdb_base.specs.Limits.{most_rows}
 use Rattle.hex.specs.Hex.{IsBytes}
 use Rattle.kdb_base.specs.declared.moments.Point.{Point}
 use Rattle.kdb_format.specs.Moments.{IsPoint}
@@ -15,7 +16,9 @@ use Rattle.princ_name.specs.Realms.{IsRealm}
 use Rattle.princ_record.specs.RowLimits.{IsRow}
 use Rattle.princ_record.specs.Policies.{policy, IsPolicy}
 use Rattle.princ_record.specs.Princs.{princ}
-use Rattle.princ_rows.specs.Rows.{RowLists, AreRows, in_order, rises_from, princ_keys, policy_keys}
+use Rattle.princ_rows.specs.Rows.{RowLists, AreRows, princ_keys, policy_keys}
+use Rattle.tagged_data.specs.KeyOrder.{rises_from}
+use Rattle.tagged_data.specs.KeyOrderLaws.{in_order}
 use Rattle.princ_record.specs.declared.princs.Princ.{Princ}
 use Rattle.dump_text.specs.Dumps.{ended, realm_line, point_line, princ_line, policy_line, end_line, head_text, rows_text, row_count, dump_text}
 use Rattle.dump_text.specs.Lines.{in_front, lines_of}
@@ -72,7 +75,7 @@ record Spelled (v : Version) (realm : List ℕ) (point : Point) (rows : RowLists
 
 rows_from_test : (rows : RowLists) → is_in_order rows ≡ true → All IsRow rows.princs → All IsPolicy rows.policies → AreRows rows
 rows_from_test rows e princs policies =
-    let few = and_parts (nat_le (row_count rows) 100000) (rises_from None (princ_keys rows.princs) && rises_from None (policy_keys rows.policies)) e in
+    let few = and_parts (nat_le (row_count rows) most_rows) (rises_from None (princ_keys rows.princs) && rises_from None (policy_keys rows.policies)) e in
     let orders = and_parts (rises_from None (princ_keys rows.princs)) (rises_from None (policy_keys rows.policies)) few.1 in
     record {
       princ_order = in_order (princ_keys rows.princs) orders.0;

@@ -9,7 +9,7 @@ use Rattle.princ_record.specs.declared.princs.Princ.{Princ}
 use Rattle.dump_text.specs.Versions.{stands_in, title, version_of}
 use Rattle.dump_text.specs.declared.versions.Version.{Version}
 use Rattle.dump_text.specs.declared.versions.Version.TheVariants.{One, Two}
-use Rattle.princ_entries.specs.EntryLaws.{same_bytes}
+use Rattle.princ_rows.specs.EntryLaws.{same_bytes}
 
 pub stands_row : (v : Version) (p : Princ) → IsPrinc p → stands_in v p ≡ true → IsRow p
 unfolding stands_in

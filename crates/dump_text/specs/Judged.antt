@@ -10,7 +10,8 @@ use Rattle.policy_rules.specs.Rules.{Rules}
 use Rattle.princ_name.specs.Realms.{IsRealm}
 use Rattle.princ_record.specs.Policies.{policy}
 use Rattle.princ_record.specs.Princs.{princ}
-use Rattle.princ_rows.specs.Rows.{RowLists, AreRows, rises_from, princ_keys, policy_keys}
+use Rattle.princ_rows.specs.Rows.{RowLists, AreRows, princ_keys, policy_keys}
+use Rattle.tagged_data.specs.KeyOrder.{rises_from}
 use Rattle.princ_record.specs.declared.princs.Princ.{Princ}
 use Rattle.dump_text.specs.Dumps.{end_line, row_count, dump_text}
 use Rattle.dump_text.specs.Lines.{lines_of}

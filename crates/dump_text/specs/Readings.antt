@@ -1,11 +1,12 @@
 -- What the lines of a dump say.
-use Rattle.std.specs.Prelude.{ℕ, ◌+◌, ◌-◌, ◌*◌, ◌==◌, ◌&&◌, Bool, List, [], ◌∷◌, codes, length, take, drop, Option, Some, None, option_and_then, Result, Ok, Err, nat_lt, fold, if◌then◌else◌}
+use Rattle.std.specs.Prelude.{ℕ, ◌-◌, ◌==◌, ◌&&◌, Bool, List, [], ◌∷◌, codes, length, take, drop, Option, Some, None, option_and_then, Result, Ok, Err, nat_lt, if◌then◌else◌}
 use Rattle.std.specs.Str.{bytes_eq}
 use Rattle.hex.specs.Hex.{decode_of, encode_lower}
 use Rattle.hex.specs.declared.error.FromHexError.{FromHexError}
 use Rattle.kdb_base.specs.Limits.{longest_row}
 use Rattle.kdb_base.specs.Moment.{Moment}
 use Rattle.kdb_base.specs.declared.moments.Point.{Point}
+use Rattle.kadm_values.specs.Numbers.{decimal_value}
 use Rattle.kdb_format.specs.Readings.{whole}
 use Rattle.policy_rules.specs.Rules.{Rules}
 use Rattle.princ_name.specs.Realms.{is_realm}
@@ -30,13 +31,6 @@ realm_in line = option_and_then realm_of (behind (codes "realm ") line)
 
 -- ---- the point: its numbers are read loosely, and a line that is not written so is refused
 
--- the number before one more digit, and the number with it
-abbrev pub with_digit : ℕ → ℕ → ℕ
-with_digit number byte = 10 * number + (byte - 48)
-
-unfoldable pub number_of : List ℕ → ℕ
-number_of text = fold with_digit 0 text
-
 -- the bytes before the first blank, and those behind it
 unfoldable pub before_blank : List ℕ → List ℕ
 before_blank [] = []
@@ -48,10 +42,10 @@ behind_blank (b ∷ text) = if b == 32 then text else behind_blank text
 
 -- the last six digits are microseconds, and a dot stands before them
 unfoldable pub near_time : List ℕ → Moment
-near_time text = record { secs = number_of (take (length text - 7) text); usecs = number_of (drop (length text - 6) text) }
+near_time text = record { secs = decimal_value (take (length text - 7) text); usecs = decimal_value (drop (length text - 6) text) }
 
 unfoldable pub near_point : List ℕ → Point
-near_point text = record { sno = number_of (before_blank text); time = near_time (behind_blank text) }
+near_point text = record { sno = decimal_value (before_blank text); time = near_time (behind_blank text) }
 
 abbrev pub is_point : Point → Bool
 is_point point = nat_lt point.sno 4294967296 && (nat_lt point.time.secs 4294967296 && nat_lt point.time.usecs 1000000)

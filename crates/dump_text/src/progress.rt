@@ -2,7 +2,8 @@
 ghost use Rattle.std.specs.Prelude.{◌≡◌, ◌+◌, ◌<◌, ◌++◌, ◌∷◌, [], List, ℕ, Bool, None, Some, true, false, length, map, take, codes, is_some, option_and_then, if◌then◌else◌, IfOk, OnOk};
 ghost use Rattle.princ_record.specs.RowLimits.{IsRow};
 ghost use Rattle.princ_record.specs.Policies.{IsPolicy};
-ghost use Rattle.princ_rows.specs.Rows.{AreRows, is_behind, rises_from};
+ghost use Rattle.princ_rows.specs.Rows.{AreRows};
+ghost use Rattle.tagged_data.specs.KeyOrder.{is_behind, rises_from};
 ghost use Rattle.dump_text.specs.Judged.{after, after_end, after_point, after_realm, after_row, after_title, dump_of, nothing, policy_or_end, realm_or_later, rows_of, with_policy, with_princ};
 ghost use Rattle.dump_text.specs.Reader.{Goes};
 ghost use Rattle.dump_text.specs.Readings.{behind, policy_of, princ_of};

@@ -7,12 +7,13 @@ ghost use Rattle.princ_record.specs.Policies.{IsPolicy};
 ghost use Rattle.princ_record.specs.Princs.{IsPrinc, princ_at};
 ghost use Rattle.dump_text.specs.Reader.{Finds, FindsAs};
 ghost use Rattle.hex.specs.Hex.{decode_of};
-ghost use Rattle.dump_text.specs.Readings.{before_blank, behind, behind_blank, bytes_or_none, hex_of, is_point, near_point, near_time, number_of, point_in, policy_of, princ_of, realm_in, realm_of, written_so};
+ghost use Rattle.dump_text.specs.Readings.{before_blank, behind, behind_blank, bytes_or_none, hex_of, is_point, near_point, near_time, point_in, policy_of, princ_of, realm_in, realm_of, written_so};
 
 use crate::lines::print_point;
 use crate::stops::LineStop;
 use crate::versions::Version;
 use hex::FromHexError;
+use kadm_values::value_of_digits;
 use kdb_base::{Point, Time};
 use kdb_format::read_whole;
 use memchr::memchr;
@@ -52,19 +53,6 @@ pub(crate) fn realm_in(alloc: Global, line: &[u8]) -> Result<Realm, LineStop>
     }
 }
 
-/// The number that digits are, or the greatest one of 64 bits where theirs is greater.
-#[tactic(auto, unfolding(crate::specs::Readings::number_of))]
-fn number_of(text: &[u8]) -> u64
-    ensures { result ≡ min (2 ^ 64 - 1) (number_of text.now) }
-{
-    let mut number = 0u64;
-    for byte in text {
-        let digit = u64::from(byte.saturating_sub(b'0'));
-        number = number.saturating_mul(10).saturating_add(digit);
-    }
-    number
-}
-
 /// The bytes before the first blank, and those behind it.
 fn cut_blank(text: &[u8]) -> (&[u8], &[u8])
     ensures front { result.0.now ≡ before_blank text.now }
@@ -100,9 +88,9 @@ fn near_point(text: &[u8]) -> Option<Point>
     let seconds = rest.len().saturating_sub(7);
     let micros = rest.len().saturating_sub(6);
     point_of(
-        number_of(front),
-        number_of(&rest[..seconds]),
-        number_of(&rest[micros..]),
+        value_of_digits(front),
+        value_of_digits(&rest[..seconds]),
+        value_of_digits(&rest[micros..]),
     )
 }
 

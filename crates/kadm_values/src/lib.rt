@@ -17,6 +17,6 @@ pub use durations::{Unit, read_duration};
 pub use etypes::{EtypeWord, read_etype, read_etypes};
 pub use flags::{Flag, FlagChange, flags_in, read_flag, with_flags};
 pub use globs::{glob_matches, is_glob};
-pub use numbers::read_number;
+pub use numbers::{read_number, value_of_digits};
 pub use points::push_point;
 pub use times::{print_time, read_time};

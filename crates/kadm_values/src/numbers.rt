@@ -10,9 +10,10 @@ pub(crate) fn is_all_digits(text: &[u8]) -> bool
     text.iter().all(|byte| 48 <= *byte && *byte <= 57)
 }
 
-/// The number that digits are, or the greatest one of 64 bits where theirs is greater.
+/// The number that digits are, or the greatest one of 64 bits where theirs is greater. A byte below the digits counts
+/// as 0.
 #[tactic(auto, unfolding(crate::specs::Numbers::decimal_value))]
-pub(crate) fn value_of_digits(text: &[u8]) -> u64
+pub fn value_of_digits(text: &[u8]) -> u64
     ensures { result ≡ min (2 ^ 64 - 1) (decimal_value text.now) }
 {
     let mut number = 0u64;

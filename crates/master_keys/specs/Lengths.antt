@@ -2,9 +2,9 @@
 use Rattle.std.proofs.Common.{◌≡◌, ℕ, ◌^◌, ◌<◌, ◌≤◌, List, length, ap, arith}
 use Rattle.std.proofs.lemmas.List.{length-append}
 use Rattle.kdb_base.specs.Etypes.{key_len, tag_len}
+use Rattle.kdb_base.specs.EtypeLaws.{key_fits, tag_fits}
 use Rattle.kdb_base.specs.Key.{Key}
 use Rattle.kdb_base.specs.declared.keys.Etype.{Etype}
-use Rattle.kdb_base.specs.declared.keys.Etype.TheVariants.{Aes128, Aes256, Aes128Sha2, Aes256Sha2}
 use Rattle.kdb_format.specs.Spellings.{little}
 use Rattle.kdb_format.specs.Numbers.{length-little}
 use Rattle.master_keys.specs.Wrapping.{Unwraps, wrapped_len}
@@ -15,22 +15,10 @@ unfolding wrapped_len
 length-wrapped {master = master} {etype = etype} {blob = blob} {key = key} u =
     omega (arith, ap length u.blob_is, u.sealed.long, u.long, length-append (little 2 (key_len etype)) u.text, length-little 2 (key_len etype))
 
-pub few_key_bytes : (etype : Etype) → key_len etype ≤ 32
-few_key_bytes Aes128 = omega arith
-few_key_bytes Aes256 = omega arith
-few_key_bytes Aes128Sha2 = omega arith
-few_key_bytes Aes256Sha2 = omega arith
-
-pub few_tag_bytes : (etype : Etype) → tag_len etype ≤ 24
-few_tag_bytes Aes128 = omega arith
-few_tag_bytes Aes256 = omega arith
-few_tag_bytes Aes128Sha2 = omega arith
-few_tag_bytes Aes256Sha2 = omega arith
-
 -- a wrapped key has at most 74 bytes
 pub few_wrapped_bytes : (master etype : Etype) → wrapped_len master etype ≤ 74
 unfolding wrapped_len
-few_wrapped_bytes master etype = omega (arith, few_key_bytes etype, few_tag_bytes master)
+few_wrapped_bytes master etype = omega (arith, key_fits etype, tag_fits master)
 
 pub few_bytes : {master : Key} {etype : Etype} {blob : List ℕ} {key : Key} → Unwraps master etype blob key → length blob ≤ 74
 few_bytes {master = master} {etype = etype} u = omega (arith, length-wrapped u, few_wrapped_bytes master.etype etype)

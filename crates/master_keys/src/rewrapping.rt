@@ -8,7 +8,8 @@ ghost use Rattle.master_keys.specs.Rewrapping.{HoldNotAll, Holds, HoldsOne, IsRe
 
 use crate::faults::{ChainFault, Unopened};
 use crate::wrapping::MasterKey;
-use kdb_base::{Blob, MemoryOut, PlainKey, Salt};
+use kdb_base::{MemoryOut, PlainKey};
+use princ_keys::copy_salt;
 use princ_record::{KeyItem, Keys, Princ, copy};
 use std::alloc::Global;
 
@@ -24,19 +25,6 @@ pub(crate) fn confounder(random: &[u8], place: usize) -> [u8; 16]
     let mut bytes = [0; 16];
     bytes.copy_from_slice(&random[CONFOUNDER_LEN * place..CONFOUNDER_LEN * (place + 1)]);
     bytes
-}
-
-/// The same salt.
-fn copy_salt(alloc: Global, salt: &Salt) -> Result<Salt, MemoryOut>
-    ensures { IfOk result (λ x. x ≡ salt.now) }
-{
-    match salt {
-        Salt::Normal => Ok(Salt::Normal),
-        Salt::Special(bytes) => {
-            let bytes = Blob::from_bytes(alloc, bytes.as_slice())?;
-            Ok(Salt::Special(bytes))
-        }
-    }
 }
 
 /// The item with this key in it, wrapped under a master key.

@@ -1,11 +1,11 @@
 //! Laws of spellings. They do no work.
 
-ghost use Rattle.std.specs.Prelude.{◌≡◌, ℕ, List, [], true, false, is_some, length, nat_lt};
+ghost use Rattle.std.specs.Prelude.{◌≡◌, ℕ, List, [], true, false, is_some, length, nat_lt, bit_and, bit_or};
 ghost use Rattle.policy_rules.specs.Rules.{Rules};
 ghost use Rattle.tagged_data.specs.Lists.{tagged, content, IsTagged};
 ghost use Rattle.princ_record.specs.Facts.{facts};
 ghost use Rattle.princ_record.specs.Policies.{policy, IsPolicy};
-ghost use Rattle.princ_record.specs.Princs.{princ, IsPrinc, facts_of, with_keys, FitKeys};
+ghost use Rattle.princ_record.specs.Princs.{princ, IsPrinc, are_attributes, facts_of, with_keys, FitKeys};
 ghost use Rattle.princ_keys.specs.Keys.{AreKeys};
 ghost use Rattle.tagged_data.specs.Numbers.{IsVersion};
 ghost use Rattle.princ_name.specs.Printed.{is_master};
@@ -47,4 +47,10 @@ pub fn attributes_are_an_item()
 pub fn keys_may_be_replaced()
     ensures made { (p : Princ) (version : ℕ) (keys : List KeyItem) → IsPrinc p → FitKeys p version keys → IsPrinc (with_keys version keys p) }
     ensures other { (p : Princ) (version : ℕ) (keys : List KeyItem) → is_master p.name ≡ false → IsVersion version → AreKeys keys → FitKeys p version keys }
+{}
+
+/// Attributes of which flags are cleared are attributes, and so are those of two together.
+pub fn flags_of_attributes_stay_known()
+    ensures cleared { (attributes mask : ℕ) → are_attributes attributes ≡ true → are_attributes (bit_and attributes mask) ≡ true }
+    ensures together { (a b : ℕ) → are_attributes a ≡ true → are_attributes b ≡ true → are_attributes (bit_or a b) ≡ true }
 {}
