@@ -10,8 +10,9 @@ use Rattle.std.proofs.lemmas.Cmp.{nat_list_cmp_total}
 use Rattle.std.proofs.lemmas.List.{get_or-map, length-map, take-append-drop}
 use Rattle.std.proofs.lemmas.Map.Keys.{Less-from_sorted}
 use Rattle.std.proofs.lemmas.Map.Text.{is_eq-slice_cmp}
-use Rattle.princ_entries.specs.EntryLaws.{bytes_same}
-use Rattle.princ_rows.specs.Rows.{key_cmp, AreInOrder, IsAt, IsGap}
+use Rattle.princ_rows.specs.EntryLaws.{bytes_same}
+use Rattle.princ_rows.specs.Rows.{IsAt, IsGap}
+use Rattle.tagged_data.specs.KeyOrder.{key_cmp, AreInOrder}
 use Rattle.princ_rows.specs.Effects.{is_lower, is_higher, put_by, drop_by}
 
 is_equal : (o : Ordering) → is_eq o ≡ true → o ≡ Equal

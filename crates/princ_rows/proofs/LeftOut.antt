@@ -8,7 +8,7 @@ use Rattle.std.specs.declared.cmp.Ordering.{Ordering}
 use Rattle.std.specs.declared.cmp.Ordering.TheVariants.{Less, Equal, Greater}
 use Rattle.std.proofs.lemmas.Cmp.{nat_list_cmp_total}
 use Rattle.std.proofs.lemmas.Map.Text.{is_eq-slice_cmp}
-use Rattle.princ_rows.specs.Rows.{key_cmp, AreInOrder}
+use Rattle.tagged_data.specs.KeyOrder.{key_cmp, AreInOrder}
 use Rattle.princ_rows.specs.Effects.{is_lower, is_higher, drop_by}
 use Rattle.princ_rows.specs.Undoing.{without, is_left}
 

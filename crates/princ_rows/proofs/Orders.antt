@@ -12,7 +12,8 @@ use Rattle.std.proofs.lemmas.List.Elements.{All-from_recursion, recursion_from_A
 use Rattle.policy_rules.specs.Rules.{Rules}
 use Rattle.princ_record.specs.RowLimits.{IsRow}
 use Rattle.princ_record.specs.Policies.{IsPolicy}
-use Rattle.princ_rows.specs.Rows.{key_cmp, AreInOrder, RowLists, AreRows}
+use Rattle.princ_rows.specs.Rows.{RowLists, AreRows}
+use Rattle.tagged_data.specs.KeyOrder.{key_cmp, AreInOrder}
 use Rattle.princ_rows.specs.Effects.{is_lower, is_higher, put_by, drop_by, put_princ, drop_princ, put_policy, drop_policy, IsRoom}
 use Rattle.princ_record.specs.declared.princs.Princ.{Princ}
 

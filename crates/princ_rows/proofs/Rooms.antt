@@ -4,11 +4,12 @@ use Rattle.std.proofs.lemmas.List.{length-set}
 use Rattle.std.proofs.lemmas.List.Edits.{length-insert, length-remove}
 use Rattle.kdb_base.specs.Limits.{most_rows}
 use Rattle.policy_rules.specs.Rules.{Rules}
-use Rattle.princ_rows.specs.Rows.{RowLists, AreRows, AreInOrder, IsAt, IsGap}
+use Rattle.princ_rows.specs.Rows.{RowLists, AreRows, IsAt, IsGap}
+use Rattle.tagged_data.specs.KeyOrder.{AreInOrder}
 use Rattle.princ_rows.specs.Effects.{put_by, drop_by, put_princ, drop_princ, put_policy, drop_policy, effect, IsRoom}
 use Rattle.princ_record.specs.declared.princs.Princ.{Princ}
-use Rattle.princ_entries.specs.declared.entries.Op.{Op}
-use Rattle.princ_entries.specs.declared.entries.Op.TheVariants.{PutPrinc, DropPrinc, Rename, PutPolicy, DropPolicy}
+use Rattle.princ_rows.specs.declared.entries.Op.{Op}
+use Rattle.princ_rows.specs.declared.entries.Op.TheVariants.{PutPrinc, DropPrinc, Rename, PutPolicy, DropPolicy}
 use Rattle.princ_rows.proofs.Edits.{insert_is_put, set_is_put, remove_is_drop, gap_is_drop}
 use Rattle.princ_rows.proofs.Orders.{put_short, drop_short}
 

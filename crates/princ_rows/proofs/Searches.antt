@@ -10,9 +10,11 @@ use Rattle.std.proofs.lemmas.List.{get_or-map, length-map}
 use Rattle.std.proofs.lemmas.List.Sorted.{searchable_from_sorted}
 use Rattle.std.proofs.lemmas.Map.Keys.{Less-from_sorted}
 use Rattle.std.proofs.lemmas.Map.Text.{is_eq-slice_cmp}
-use Rattle.princ_entries.specs.EntryLaws.{same_bytes, bytes_same}
+use Rattle.princ_rows.specs.EntryLaws.{same_bytes, bytes_same}
 use Rattle.std.specs.Prelude.{None}
-use Rattle.princ_rows.specs.Rows.{key_cmp, AreInOrder, IsAt, IsGap, rises_from, in_order, rises}
+use Rattle.princ_rows.specs.Rows.{IsAt, IsGap}
+use Rattle.tagged_data.specs.KeyOrder.{key_cmp, AreInOrder, rises_from}
+use Rattle.tagged_data.specs.KeyOrderLaws.{in_order, rises}
 
 pub sorted_keys : {X : Type 0} (key : X → List ℕ) (xs : List X) → AreInOrder (map key xs) → IsSortedBy (λ a b. is_lt (key_cmp (key a) (key b))) xs
 sorted_keys {X = X} key xs h = λ k d low lt.

@@ -7,7 +7,8 @@ use Rattle.std.specs.declared.cmp.Ordering.{Ordering}
 use Rattle.std.specs.declared.cmp.Ordering.TheVariants.{Less, Equal, Greater}
 use Rattle.std.proofs.lemmas.List.{append-nil, get_or_default}
 use Rattle.std.proofs.lemmas.List.Elements.{filter-append}
-use Rattle.princ_rows.specs.Rows.{key_cmp, AreInOrder, IsAt, IsGap}
+use Rattle.princ_rows.specs.Rows.{IsAt, IsGap}
+use Rattle.tagged_data.specs.KeyOrder.{key_cmp, AreInOrder}
 use Rattle.princ_rows.specs.Effects.{is_lower, is_higher, put_by, drop_by}
 use Rattle.princ_rows.specs.Undoing.{row_back}
 use Rattle.princ_rows.specs.declared.sorted.RowBack.TheVariants.{Added, Replaced, Moved}

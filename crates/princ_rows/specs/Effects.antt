@@ -4,10 +4,11 @@ use Rattle.std.specs.Prelude.{filter}
 use Rattle.std.specs.Ordering.{is_lt, is_gt}
 use Rattle.kdb_base.specs.Limits.{most_rows}
 use Rattle.policy_rules.specs.Rules.{Rules}
-use Rattle.princ_rows.specs.Rows.{key_cmp, RowLists}
+use Rattle.princ_rows.specs.Rows.{RowLists}
+use Rattle.tagged_data.specs.KeyOrder.{key_cmp}
 use Rattle.princ_record.specs.declared.princs.Princ.{Princ}
-use Rattle.princ_entries.specs.declared.entries.Op.{Op}
-use Rattle.princ_entries.specs.declared.entries.Op.TheVariants.{PutPrinc, DropPrinc, Rename, PutPolicy, DropPolicy}
+use Rattle.princ_rows.specs.declared.entries.Op.{Op}
+use Rattle.princ_rows.specs.declared.entries.Op.TheVariants.{PutPrinc, DropPrinc, Rename, PutPolicy, DropPolicy}
 
 -- the records before a key, and those behind it
 abbrev pub is_lower : {X : Type 0} → (X → List ℕ) → List ℕ → X → Bool

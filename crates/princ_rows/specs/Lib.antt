@@ -1,3 +1,6 @@
+pub mod Entries
+pub mod EntryLaws
+pub mod Replies
 pub mod Rows
 pub mod Effects
 pub mod Undoing

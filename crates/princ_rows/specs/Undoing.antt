@@ -5,8 +5,8 @@ use Rattle.std.specs.List.{All, insert, remove}
 use Rattle.std.specs.Str.{bytes_eq}
 use Rattle.princ_rows.specs.Rows.{RowLists, AreRows}
 use Rattle.princ_rows.specs.Effects.{drop_by}
-use Rattle.princ_entries.specs.declared.entries.Op.{Op}
-use Rattle.princ_entries.specs.declared.entries.Op.TheVariants as op
+use Rattle.princ_rows.specs.declared.entries.Op.{Op}
+use Rattle.princ_rows.specs.declared.entries.Op.TheVariants as op
 use Rattle.princ_rows.specs.declared.sorted.RowBack.{RowBack}
 use Rattle.princ_rows.specs.declared.sorted.RowBack.TheVariants.{Added, Replaced, Moved}
 use Rattle.princ_rows.specs.declared.begun.Begun.{Begun}

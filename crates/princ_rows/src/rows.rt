@@ -4,13 +4,14 @@ ghost use Rattle.kdb_base.specs.Limits.{most_rows};
 ghost use Rattle.policy_rules.specs.Rules.{Rules};
 ghost use Rattle.princ_rows.specs.Effects.{effect, put_princ, drop_princ, put_policy, drop_policy, IsRoom};
 ghost use Rattle.princ_record.specs.RowLimits.{IsRow};
-ghost use Rattle.princ_entries.specs.Entries.{IsOp};
+ghost use Rattle.princ_rows.specs.Entries.{IsOp};
 ghost use Rattle.princ_record.specs.Policies.{IsPolicy};
 ghost use Rattle.princ_rows.specs.Rows.{AreRows};
 ghost use Rattle.princ_rows.specs.Undoing.{IsNewName, IsBegun, finished, undone};
 
 use crate::begun::Begun;
 use crate::boxes::Boxed;
+use crate::entries::Op;
 use crate::sorted::{
     Keyed, are_in_order, begin_put_boxed, begin_rename_boxed, drop_row, find_row, holds_key,
     put_boxed, undo_row,
@@ -18,7 +19,6 @@ use crate::sorted::{
 use kdb_base::MemoryOut;
 use kdb_base::limits::MAX_ROWS;
 use policy_rules::Policy;
-use princ_entries::Op;
 use princ_record::princs::Princ;
 use std::marker::Model;
 

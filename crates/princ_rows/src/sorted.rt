@@ -3,7 +3,8 @@
 ghost use Rattle.std.specs.Prelude.{◌≡◌, ◌≢◌, ◌<◌, ◌⊎◌, List, ℕ, Contains, None, true, false, length, map, option_map, remove, IfOk, IfSome, OnErr, OnOk};
 ghost use Rattle.std.specs.List.{All};
 ghost use Rattle.princ_rows.specs.Effects.{put_by, drop_by};
-ghost use Rattle.princ_rows.specs.Rows.{AreInOrder, key_cmp, IsAt, IsGap, rises_from, is_behind};
+ghost use Rattle.princ_rows.specs.Rows.{IsAt, IsGap};
+ghost use Rattle.tagged_data.specs.KeyOrder.{AreInOrder, key_cmp, rises_from, is_behind};
 ghost use Rattle.princ_rows.specs.Undoing.{row_back, IsPlaceOf};
 
 use crate::boxes::Boxed;
@@ -38,7 +39,7 @@ fn is_behind(last: Option<&[u8]>, key: &[u8]) -> bool
 }
 
 /// Whether each key is above the one before it.
-#[tactic(auto, unfolding(crate::specs::Rows::rises_from))]
+#[tactic(auto, unfolding(tagged_data::specs::KeyOrder::rises_from))]
 pub fn are_in_order<T: Keyed>(items: &[T]) -> bool
     ensures { result ≡ rises_from None (map T.key_of items.now) }
 {

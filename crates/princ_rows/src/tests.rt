@@ -1,7 +1,7 @@
 ghost use Rattle.std.specs.Prelude.{Some, IfOk};
 ghost use Rattle.princ_name.specs.Printed.{IsPrinted};
 ghost use Rattle.princ_record.specs.RowLimits.{IsRow};
-ghost use Rattle.princ_entries.specs.Entries.{IsOp};
+ghost use Rattle.princ_rows.specs.Entries.{IsOp};
 ghost use Rattle.princ_rows.specs.Undoing.{IsBegun, IsNewName};
 
 use super::*;

@@ -1,6 +1,6 @@
 use Rattle.std.proofs.Common.{◌≡◌, drop, map, None}
 use Rattle.std.specs.Prelude.{option_map}
-use Rattle.princ_rows.specs.Rows.{rises_from}
+use Rattle.tagged_data.specs.KeyOrder.{rises_from}
 use Rattle.princ_rows.proofs.sorted.are_in_order.Given as goal
 
 abbrev pub invariant-loop-item : goal.invariant-loop-item

@@ -1,5 +1,5 @@
 use Rattle.princ_rows.specs.Effects.{effect}
-use Rattle.princ_entries.specs.declared.entries.Op.TheVariants.{PutPrinc, DropPrinc, PutPolicy, DropPolicy}
+use Rattle.princ_rows.specs.declared.entries.Op.TheVariants.{PutPrinc, DropPrinc, PutPolicy, DropPolicy}
 use Rattle.princ_rows.proofs.Rooms.{put_room, put_no_room, policy_room, policy_no_room, drop_room, drop_policy_room, room_for_any, at_op, of_op, at_rename, of_rename, few_rows, full_rows}
 use Rattle.princ_rows.proofs.rows.Rows.has_room_for.Goals as goal
 

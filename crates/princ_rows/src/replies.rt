@@ -2,8 +2,8 @@
 
 ghost use Rattle.std.specs.Prelude.{◌≡◌};
 ghost use Rattle.std.specs.List.{All};
-ghost use Rattle.princ_entries.specs.Entries.{IsSent};
-ghost use Rattle.princ_entries.specs.Replies.{number_of, code_of, MayCome};
+ghost use Rattle.princ_rows.specs.Entries.{IsSent};
+ghost use Rattle.princ_rows.specs.Replies.{number_of, code_of, MayCome};
 
 use crate::entries::{Entries, Entry};
 use kdb_base::Point;
@@ -62,7 +62,7 @@ pub struct PollReply {
 }
 
 impl Model for PollReply {
-    ghost use Rattle.princ_entries.specs.Replies.{Reply, IsReply};
+    ghost use Rattle.princ_rows.specs.Replies.{Reply, IsReply};
 
     ghost Value = { Reply };
 

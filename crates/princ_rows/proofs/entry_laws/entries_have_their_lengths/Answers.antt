@@ -6,8 +6,8 @@ use Rattle.kdb_format.specs.Lengths.{length-counted}
 use Rattle.kdb_format.specs.Moments.{time, point}
 use Rattle.kdb_format.specs.Numbers.{length-big}
 use Rattle.kdb_format.specs.Spellings.{big, counted}
-use Rattle.princ_entries.specs.Entries.{logged, op_text, kind_of, key_of, row_of}
-use Rattle.princ_entries.proofs.laws.entries_have_their_lengths.Goals as goal
+use Rattle.princ_rows.specs.Entries.{logged, op_text, kind_of, key_of, row_of}
+use Rattle.princ_rows.proofs.entry_laws.entries_have_their_lengths.Goals as goal
 
 length-time : (m : Moment) → length (time m) ≡ 8
 unfolding time

@@ -2,10 +2,10 @@
 use Rattle.std.specs.Prelude.{◌≡◌, ℕ, nat_eq, List, [], Option, Some, None, if◌then◌else◌}
 use Rattle.std.specs.List.{All}
 use Rattle.kdb_base.specs.declared.moments.Point.{Point}
-use Rattle.princ_entries.specs.Entries.{IsSent}
-use Rattle.princ_entries.specs.declared.entries.Entry.{Entry}
-use Rattle.princ_entries.specs.declared.replies.ReplyCode.{ReplyCode}
-use Rattle.princ_entries.specs.declared.replies.ReplyCode.TheVariants.{UpdateOk, FullResyncNeeded, Busy, Nil, PermDenied}
+use Rattle.princ_rows.specs.Entries.{IsSent}
+use Rattle.princ_rows.specs.declared.entries.Entry.{Entry}
+use Rattle.princ_rows.specs.declared.replies.ReplyCode.{ReplyCode}
+use Rattle.princ_rows.specs.declared.replies.ReplyCode.TheVariants.{UpdateOk, FullResyncNeeded, Busy, Nil, PermDenied}
 
 abbrev pub number_of : ReplyCode → ℕ
 number_of UpdateOk = 0

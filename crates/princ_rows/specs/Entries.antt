@@ -10,10 +10,10 @@ use Rattle.princ_record.specs.Policies.{policy, IsPolicy}
 use Rattle.princ_record.specs.Princs.{princ}
 use Rattle.princ_name.specs.Printed.{is_printed, IsPrinted}
 use Rattle.princ_record.specs.RowLimits.{IsRow, row_at, policy_row_at}
-use Rattle.princ_entries.specs.declared.entries.Op.{Op}
-use Rattle.princ_entries.specs.declared.entries.Op.TheVariants.{PutPrinc, DropPrinc, Rename, PutPolicy, DropPolicy}
-use Rattle.princ_entries.specs.declared.entries.Entry.{Entry}
-use Rattle.princ_entries.specs.declared.entries.Logged.{Logged}
+use Rattle.princ_rows.specs.declared.entries.Op.{Op}
+use Rattle.princ_rows.specs.declared.entries.Op.TheVariants.{PutPrinc, DropPrinc, Rename, PutPolicy, DropPolicy}
+use Rattle.princ_rows.specs.declared.entries.Entry.{Entry}
+use Rattle.princ_rows.specs.declared.entries.Logged.{Logged}
 
 -- ---- what an entry does, None at the base marker
 

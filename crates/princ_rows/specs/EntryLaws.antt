@@ -22,11 +22,11 @@ use Rattle.princ_name.specs.PrintedLaws.{printed_test, test_printed, printed_sho
 use Rattle.princ_record.specs.RowLimits.{IsRow, row_at, policy_row_at}
 use Rattle.princ_record.specs.RowLaws.{row_field, policy_row_field}
 use Rattle.princ_record.specs.declared.princs.Princ.{Princ}
-use Rattle.princ_entries.specs.declared.entries.Op.{Op}
-use Rattle.princ_entries.specs.declared.entries.Op.TheVariants.{PutPrinc, DropPrinc, Rename, PutPolicy, DropPolicy}
-use Rattle.princ_entries.specs.declared.entries.Entry.{Entry}
-use Rattle.princ_entries.specs.declared.entries.Logged.{Logged}
-use Rattle.princ_entries.specs.Entries.{kind_of, key_of, row_of, IsOp, base_at, put_at, drop_at, rename_at, put_policy_at, drop_policy_at, op_of, op_text, logged_at, logged, IsLogged, sent_at, sent, IsSent}
+use Rattle.princ_rows.specs.declared.entries.Op.{Op}
+use Rattle.princ_rows.specs.declared.entries.Op.TheVariants.{PutPrinc, DropPrinc, Rename, PutPolicy, DropPolicy}
+use Rattle.princ_rows.specs.declared.entries.Entry.{Entry}
+use Rattle.princ_rows.specs.declared.entries.Logged.{Logged}
+use Rattle.princ_rows.specs.Entries.{kind_of, key_of, row_of, IsOp, base_at, put_at, drop_at, rename_at, put_policy_at, drop_policy_at, op_of, op_text, logged_at, logged, IsLogged, sent_at, sent, IsSent}
 
 -- ---- what an entry does, None at the base marker
 
