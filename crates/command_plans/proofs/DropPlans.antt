@@ -22,7 +22,7 @@ use Rattle.kdb_model.specs.Refusals.{first, is_protected, when}
 use Rattle.kdb_plain.specs.States.{princ_named}
 use Rattle.kdb_plain.specs.declared.changes.PlainOp.TheVariants as plain
 use Rattle.kdb_plain.specs.declared.states.State.{State}
-use Rattle.princ_entries.specs.declared.entries.Op.TheVariants.{DropPrinc}
+use Rattle.princ_rows.specs.declared.entries.Op.TheVariants.{DropPrinc}
 use Rattle.princ_name.specs.Names.{NameParts, printed}
 use Rattle.princ_record.specs.declared.princs.Princ.{Princ}
 use Rattle.princ_rows.specs.Rows.{AreRows}

@@ -28,8 +28,8 @@ use Rattle.kdb_plain.specs.States.{has_policy, is_policy_named, policy_named}
 use Rattle.kdb_plain.specs.declared.changes.PlainOp.TheVariants as plain
 use Rattle.kdb_plain.specs.declared.states.State.{State}
 use Rattle.policy_rules.specs.Rules.{Rules}
-use Rattle.princ_entries.specs.EntryLaws.{same_bytes}
-use Rattle.princ_entries.specs.declared.entries.Op.TheVariants.{DropPolicy, PutPolicy}
+use Rattle.princ_rows.specs.EntryLaws.{same_bytes}
+use Rattle.princ_rows.specs.declared.entries.Op.TheVariants.{DropPolicy, PutPolicy}
 use Rattle.princ_record.specs.Policies.{IsPolicy}
 use Rattle.princ_rows.specs.Rows.{AreRows, policy_keys}
 use Rattle.row_keys.proofs.Names.{counted_alike, users_alike}

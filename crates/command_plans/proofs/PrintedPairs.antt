@@ -3,7 +3,7 @@ use Rattle.std.proofs.Common.{◌≡◌, ◌≢◌, ◌⊎◌, ℕ, ◌==◌, Bo
 use Rattle.std.proofs.lemmas.Bool.Decides.{eqb_tells}
 use Rattle.princ_name.specs.Bytes.{is_sign, escaped, printed_byte}
 use Rattle.princ_name.specs.Names.{NameParts, printed, printed_parts, printed_text}
-use Rattle.princ_entries.specs.EntryLaws.{same_bytes, bytes_same}
+use Rattle.princ_rows.specs.EntryLaws.{same_bytes, bytes_same}
 use Rattle.princ_name.specs.Printed.{is_master}
 use Rattle.kdb_model.specs.Refusals.{is_protected}
 use Rattle.kdb_plain.proofs.OwnNames.{master_prints}

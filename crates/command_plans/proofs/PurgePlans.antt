@@ -30,7 +30,7 @@ use Rattle.kdb_plain.specs.Heads.{plain_head, plain_of}
 use Rattle.kdb_plain.specs.declared.princs.PlainPrinc.{PlainPrinc}
 use Rattle.plain_keys.specs.Keys.{keys_from, least_kvno, newest_kvno}
 use Rattle.plain_keys.specs.declared.items.PlainItem.{PlainItem}
-use Rattle.princ_entries.specs.declared.entries.Op.TheVariants as op
+use Rattle.princ_rows.specs.declared.entries.Op.TheVariants as op
 use Rattle.princ_keys.specs.Keys.{AreKeys, IsKey, are_ordered, may_follow}
 use Rattle.princ_keys.specs.declared.keys.KeyItem.{KeyItem}
 use Rattle.princ_name.specs.Realms.{IsRealm}

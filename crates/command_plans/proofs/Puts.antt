@@ -32,8 +32,8 @@ use Rattle.kdb_plain.specs.States.{history_key, master_of, princ_named}
 use Rattle.kdb_plain.specs.declared.changes.PlainOp.TheVariants as plain
 use Rattle.kdb_plain.specs.declared.princs.PlainPrinc.{PlainPrinc}
 use Rattle.kdb_plain.specs.declared.states.State.{State}
-use Rattle.princ_entries.specs.EntryLaws.{same_bytes}
-use Rattle.princ_entries.specs.declared.entries.Op.TheVariants as op
+use Rattle.princ_rows.specs.EntryLaws.{same_bytes}
+use Rattle.princ_rows.specs.declared.entries.Op.TheVariants as op
 use Rattle.princ_name.specs.Names.{NameParts, printed}
 use Rattle.princ_name.specs.Printed.{is_master}
 use Rattle.princ_name.specs.Realms.{IsRealm}

@@ -38,7 +38,7 @@ use Rattle.kdb_plain.specs.declared.changes.PlainOp.TheVariants as plain
 use Rattle.kdb_plain.specs.declared.princs.PlainPrinc.{PlainPrinc}
 use Rattle.kdb_plain.specs.declared.states.State.{State}
 use Rattle.plain_keys.specs.Keys.{settled_items}
-use Rattle.princ_entries.specs.declared.entries.Op.TheVariants as op
+use Rattle.princ_rows.specs.declared.entries.Op.TheVariants as op
 use Rattle.princ_name.specs.Names.{NameParts, printed}
 use Rattle.princ_name.specs.Printed.{is_master}
 use Rattle.princ_name.specs.Realms.{IsRealm}

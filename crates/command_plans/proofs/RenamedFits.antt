@@ -17,8 +17,8 @@ use Rattle.kdb_model.specs.Fields.{By, marked}
 use Rattle.kdb_places.specs.Applying.{is_new_name, may_apply}
 use Rattle.plain_keys.specs.Keys.{normal_salt, settled_item, settled_items, settled_salt}
 use Rattle.plain_keys.specs.declared.items.PlainItem.{PlainItem}
-use Rattle.princ_entries.specs.EntryLaws.{bytes_same, same_bytes}
-use Rattle.princ_entries.specs.declared.entries.Op.TheVariants.{Rename}
+use Rattle.princ_rows.specs.EntryLaws.{bytes_same, same_bytes}
+use Rattle.princ_rows.specs.declared.entries.Op.TheVariants.{Rename}
 use Rattle.princ_keys.specs.Keys.{AreKeys, IsKey, IsSalt, are_ordered, may_follow}
 use Rattle.princ_keys.specs.declared.keys.KeyItem.{KeyItem}
 use Rattle.princ_name.specs.Names.{IsName, NameParts, printed}
@@ -29,7 +29,8 @@ use Rattle.princ_record.specs.declared.princs.Princ.{Princ}
 use Rattle.princ_rows.proofs.Edits.{remove_is_drop}
 use Rattle.princ_rows.proofs.Orders.{put_short}
 use Rattle.princ_rows.specs.Effects.{IsRoom, drop_by, drop_princ, effect, put_by, put_princ}
-use Rattle.princ_rows.specs.Rows.{AreInOrder, AreRows, IsAt, RowLists}
+use Rattle.princ_rows.specs.Rows.{AreRows, IsAt, RowLists}
+use Rattle.tagged_data.specs.KeyOrder.{AreInOrder}
 use Rattle.row_keys.proofs.FormedKeys.{settled_formed}
 use Rattle.row_keys.proofs.Sides.{found_first, passed, truth}
 use Rattle.row_keys.proofs.Whole.{find_there}

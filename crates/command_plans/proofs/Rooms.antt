@@ -8,13 +8,14 @@ use Rattle.kdb_base.specs.Limits.{most_rows}
 use Rattle.kdb_places.proofs.Judged.{may_from}
 use Rattle.kdb_places.specs.Applying.{may_apply}
 use Rattle.policy_rules.specs.Rules.{Rules}
-use Rattle.princ_entries.specs.declared.entries.Op.TheVariants.{DropPolicy, DropPrinc, PutPolicy, PutPrinc}
+use Rattle.princ_rows.specs.declared.entries.Op.TheVariants.{DropPolicy, DropPrinc, PutPolicy, PutPrinc}
 use Rattle.princ_record.specs.declared.princs.Princ.{Princ}
 use Rattle.princ_rows.proofs.Orders.{drop_short, put_short}
 use Rattle.princ_rows.specs.Effects.{IsRoom, drop_policy, drop_princ, effect, put_by, put_policy, put_princ}
-use Rattle.princ_rows.specs.Rows.{AreInOrder, AreRows, IsAt, RowLists}
+use Rattle.princ_rows.specs.Rows.{AreRows, IsAt, RowLists}
+use Rattle.tagged_data.specs.KeyOrder.{AreInOrder}
 use Rattle.kdb_plain.specs.States.{policy_named}
-use Rattle.princ_entries.specs.EntryLaws.{same_bytes}
+use Rattle.princ_rows.specs.EntryLaws.{same_bytes}
 use Rattle.princ_rows.proofs.Edits.{set_is_put}
 use Rattle.row_keys.proofs.Whole.{find_there}
 use Rattle.row_keys.specs.Lookups.{record_named}

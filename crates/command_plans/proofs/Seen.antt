@@ -22,7 +22,7 @@ use Rattle.kdb_plain.specs.States.{history_key, princ_named}
 use Rattle.kdb_plain.specs.declared.changes.PlainOp.{PlainOp}
 use Rattle.kdb_plain.specs.declared.princs.PlainPrinc.{PlainPrinc}
 use Rattle.kdb_plain.specs.declared.states.State.{State}
-use Rattle.princ_entries.specs.declared.entries.Op.{Op}
+use Rattle.princ_rows.specs.declared.entries.Op.{Op}
 use Rattle.princ_record.specs.declared.princs.Princ.{Princ}
 use Rattle.princ_rows.specs.Rows.{RowLists}
 use Rattle.row_keys.proofs.Names.{found_alike}

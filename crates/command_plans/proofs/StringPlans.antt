@@ -33,7 +33,7 @@ use Rattle.kdb_plain.specs.Strings.{has_room_for, has_string, with_string, witho
 use Rattle.kdb_plain.specs.declared.princs.PlainPrinc.{PlainPrinc}
 use Rattle.kdb_plain.specs.declared.states.State.{State}
 use Rattle.plain_keys.specs.declared.items.PlainItem.{PlainItem}
-use Rattle.princ_entries.specs.declared.entries.Op.TheVariants as op
+use Rattle.princ_rows.specs.declared.entries.Op.TheVariants as op
 use Rattle.princ_name.specs.Realms.{IsRealm}
 use Rattle.princ_record.specs.Princs.{IsPrinc}
 use Rattle.princ_record.specs.declared.princs.Princ.{Princ}

@@ -19,8 +19,8 @@ use Rattle.kdb_places.specs.Applying.{may_apply}
 use Rattle.kdb_plain.specs.States.{IsValid, history_key}
 use Rattle.kdb_plain.specs.declared.changes.PlainOp.{PlainOp}
 use Rattle.kdb_plain.specs.declared.states.State.{State}
-use Rattle.princ_entries.specs.Entries.{IsOp}
-use Rattle.princ_entries.specs.declared.entries.Op.{Op}
+use Rattle.princ_rows.specs.Entries.{IsOp}
+use Rattle.princ_rows.specs.declared.entries.Op.{Op}
 use Rattle.princ_name.specs.Names.{NameParts}
 use Rattle.princ_rows.specs.Rows.{RowLists}
 use Rattle.row_keys.specs.ShownChanges.{ShowsOp}

@@ -21,8 +21,8 @@ use Rattle.kdb_plain.specs.declared.states.State.{State}
 use Rattle.plain_keys.specs.Keys.{is_password, items_of, kept_keys, made_keys, newest_kvno}
 use Rattle.plain_keys.specs.declared.items.PlainItem.{PlainItem}
 use Rattle.plain_keys.specs.declared.new_keys.NewKeys.{NewKeys}
-use Rattle.princ_entries.specs.declared.entries.Op.{Op}
-use Rattle.princ_entries.specs.declared.entries.Op.TheVariants as op
+use Rattle.princ_rows.specs.declared.entries.Op.{Op}
+use Rattle.princ_rows.specs.declared.entries.Op.TheVariants as op
 use Rattle.princ_keys.specs.declared.keys.KeyItem.{KeyItem}
 use Rattle.princ_keys.specs.declared.remembered.OldSet.{OldSet}
 use Rattle.princ_name.specs.Names.{NameParts, printed}

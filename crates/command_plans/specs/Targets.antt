@@ -11,7 +11,7 @@ use Rattle.kdb_base.specs.declared.outcomes.Refusal.TheVariants.{Protected, Reco
 use Rattle.kdb_model.specs.Access.{asking}
 use Rattle.kdb_model.specs.Fields.{By}
 use Rattle.kdb_model.specs.Refusals.{first, is_protected, when}
-use Rattle.princ_entries.specs.declared.entries.Op.{Op}
+use Rattle.princ_rows.specs.declared.entries.Op.{Op}
 use Rattle.princ_name.specs.Names.{NameParts, printed}
 use Rattle.princ_name.specs.Printed.{IsPrinted}
 use Rattle.princ_record.specs.Princs.{princ}

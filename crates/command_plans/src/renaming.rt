@@ -12,7 +12,7 @@ ghost use Rattle.kdb_base.specs.declared.outcomes.Refusal.{Refusal};
 ghost use Rattle.kdb_model.specs.Access.{adding, asking, deleting};
 ghost use Rattle.kdb_model.specs.Fields.{renamed_head};
 ghost use Rattle.kdb_model.specs.Refusals.{is_protected, when};
-ghost use Rattle.princ_entries.specs.declared.entries.Op.TheVariants as op;
+ghost use Rattle.princ_rows.specs.declared.entries.Op.TheVariants as op;
 ghost use Rattle.princ_name.specs.Names.{NameParts, printed};
 ghost use Rattle.princ_name.specs.Realms.{IsRealm};
 ghost use Rattle.princ_record.specs.Princs.{IsPrinc};

@@ -4,7 +4,7 @@ ghost use Rattle.std.specs.Prelude.{◌≡◌, Err, IfOk, Some};
 ghost use Rattle.command_plans.specs.Targets.{IsBy, IsPut, IsTarget, by_given, target_refusal};
 ghost use Rattle.kdb_base.specs.declared.outcomes.Refusal.{Refusal};
 ghost use Rattle.kdb_model.specs.Fields.{marked};
-ghost use Rattle.princ_entries.specs.declared.entries.Op.TheVariants as op;
+ghost use Rattle.princ_rows.specs.declared.entries.Op.TheVariants as op;
 ghost use Rattle.princ_name.specs.Names.{printed};
 ghost use Rattle.princ_record.specs.Princs.{IsPrinc};
 ghost use Rattle.princ_rows.specs.Rows.{AreRows};

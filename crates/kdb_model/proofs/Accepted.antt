@@ -14,7 +14,7 @@ use Rattle.kdb_plain.specs.declared.changes.PlainOp.{PlainOp}
 use Rattle.kdb_plain.specs.declared.states.State.{State}
 use Rattle.master_keys.specs.First.{master_name}
 use Rattle.princ_name.specs.Names.{NameParts, printed}
-use Rattle.princ_entries.specs.EntryLaws.{bytes_same}
+use Rattle.princ_rows.specs.EntryLaws.{bytes_same}
 
 first_none : (o : Option Refusal) (os : List (Option Refusal)) → first (o ∷ os) ≡ None → (o ≡ None) × (first os ≡ None)
 unfolding first

@@ -3,7 +3,7 @@ use Rattle.std.proofs.Common.{◌≡◌, ℕ, List, Option, Some, None, sym, sub
 use Rattle.std.proofs.lemmas.List.Kept.{IsStrictlySortedBy-filter}
 use Rattle.kadm_values.specs.Globs.{matches}
 use Rattle.kdb_model.specs.Steps.{names_in}
-use Rattle.princ_rows.specs.Rows.{AreInOrder, key_cmp}
+use Rattle.tagged_data.specs.KeyOrder.{AreInOrder, key_cmp}
 
 pub listed_order : (glob : Option (List ℕ)) (names all : List (List ℕ)) → names ≡ names_in glob all → AreInOrder all → AreInOrder names
 unfolding names_in

@@ -63,6 +63,13 @@ abbrev pub policy_shown : Option Rules → Reply
 policy_shown None = reply.Refused UnknownPolicy
 policy_shown (Some p) = reply.PolicyShown p
 
+-- Whether one step does the command. A rekeying of many principals is a step for each, and a dump is written and answers
+-- no line: of these two the step says nothing.
+abbrev pub is_one_step : Command → Bool
+is_one_step (command.RekeyPrincs glob) = false
+is_one_step command.Dump = false
+is_one_step other = true
+
 -- The answer to a command that makes no entry. A command that changes a principal or a policy makes one where that is there, and is
 -- refused before where it is not.
 unfoldable pub reading_of : State → Call → Command → Option PlainPrinc → Reply

@@ -1,12 +1,12 @@
 //! What a command does to a state and answers.
 
-ghost use Rattle.std.specs.Prelude.{◌≡◌, ◌<◌, IfOk, None, Option, Some, false, length, option_map};
+ghost use Rattle.std.specs.Prelude.{◌≡◌, ◌<◌, IfOk, None, Option, Some, false, length, option_map, true};
 ghost use Rattle.kadm_commands.specs.Commands.{IsCommand};
 ghost use Rattle.kdb_model.specs.Access.{is_own, master_parts};
 ghost use Rattle.kdb_model.specs.Asking.{IsDecided, call_in, state_in};
 ghost use Rattle.kdb_model.specs.Calls.{call_of, change_point, moment_of};
 ghost use Rattle.kdb_model.specs.Refusals.{causes_with, first, needed_name, new_name, target as needed_target, too_many_masters};
-ghost use Rattle.kdb_model.specs.Steps.{change_reply, committed, performed, step};
+ghost use Rattle.kdb_model.specs.Steps.{change_reply, committed, is_one_step, performed, step};
 ghost use Rattle.kdb_plain.specs.Changes.{HasRoom, effect_on};
 ghost use Rattle.kdb_plain.specs.States.{IsValid, IsValidState};
 ghost use Rattle.kdb_plain.specs.declared.changes.PlainOp.{PlainOp};
@@ -252,6 +252,7 @@ pub fn step_plain(
     requires valid { IsValidState state.now }
     requires serial { state.now.point.sno < 4294967295 }
     requires command { IsCommand state.now.realm command.now }
+    requires one { is_one_step command.now ≡ true }
     requires client { IsPrinted client.now }
     requires random { length random.now ≡ 2048 }
     ensures state { (who : NameParts) → IsName who → printed who ≡ client.now → IfOk result (λ r. r.0 ≡ (step state.now (call_of who (option_map (λ a. a.now) acl.entry) command.now moment random.now false)).state) }

@@ -10,8 +10,9 @@ use Rattle.std.proofs.lemmas.List.{get_or-map, length-map}
 use Rattle.std.proofs.lemmas.List.Elements.{recursion_from_All}
 use Rattle.std.proofs.lemmas.Map.Keys.{Less-from_sorted}
 use Rattle.std.proofs.lemmas.Map.Text.{is_eq-slice_cmp}
-use Rattle.princ_entries.specs.EntryLaws.{same_bytes, bytes_same}
-use Rattle.princ_rows.specs.Rows.{key_cmp, AreInOrder, IsAt, IsGap}
+use Rattle.princ_rows.specs.EntryLaws.{same_bytes, bytes_same}
+use Rattle.princ_rows.specs.Rows.{IsAt, IsGap}
+use Rattle.tagged_data.specs.KeyOrder.{key_cmp, AreInOrder}
 use Rattle.princ_rows.proofs.Searches.{none_has}
 
 lower_differs : (a k : List ℕ) → key_cmp a k ≡ Less → bytes_eq a k ≡ false

@@ -8,8 +8,8 @@ use Rattle.std.specs.declared.cmp.Ordering.TheVariants.{Less, Equal, Greater}
 use Rattle.std.proofs.lemmas.List.Folds.{find-append}
 use Rattle.std.proofs.lemmas.Map.Text.{is_eq-slice_cmp}
 use Rattle.princ_rows.specs.Effects.{is_lower, is_higher, put_by, drop_by}
-use Rattle.princ_entries.specs.EntryLaws.{same_bytes, bytes_same}
-use Rattle.princ_rows.specs.Rows.{key_cmp}
+use Rattle.princ_rows.specs.EntryLaws.{same_bytes, bytes_same}
+use Rattle.tagged_data.specs.KeyOrder.{key_cmp}
 use Rattle.kdb_plain.proofs.Finds.{has}
 
 truth : (b : Bool) → (b ≡ true) ⊎ (b ≡ false)

@@ -6,8 +6,9 @@ use Rattle.std.proofs.lemmas.Bool.{or_cases, ltb-true}
 use Rattle.std.proofs.lemmas.List.{length-set}
 use Rattle.kdb_base.specs.Limits.{most_strings}
 use Rattle.princ_rows.specs.Effects.{put_by}
-use Rattle.princ_entries.specs.EntryLaws.{same_bytes}
-use Rattle.princ_rows.specs.Rows.{IsAt, AreInOrder}
+use Rattle.princ_rows.specs.EntryLaws.{same_bytes}
+use Rattle.princ_rows.specs.Rows.{IsAt}
+use Rattle.tagged_data.specs.KeyOrder.{AreInOrder}
 use Rattle.princ_rows.proofs.Edits.{set_is_put}
 use Rattle.princ_rows.proofs.Orders.{put_order, put_each, put_short, drop_order, drop_each, drop_short}
 use Rattle.tagged_data.specs.Strings.{AreStrings, IsString, is_string_key, is_string_value}

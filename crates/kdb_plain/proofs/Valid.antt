@@ -10,7 +10,7 @@ use Rattle.master_keys.specs.First.{master_name}
 use Rattle.policy_rules.specs.Rules.{Rules}
 use Rattle.princ_record.specs.Policies.{IsPolicy}
 use Rattle.princ_rows.specs.Effects.{put_by, drop_by}
-use Rattle.princ_entries.specs.EntryLaws.{same_bytes, bytes_same}
+use Rattle.princ_rows.specs.EntryLaws.{same_bytes, bytes_same}
 use Rattle.princ_rows.proofs.Orders.{put_order, put_each, drop_order, drop_each, drop_short}
 use Rattle.kdb_plain.specs.Changes.{IsOrdinary, MayBePut, name_of, policy_name, put_princ, drop_princ, put_policy, drop_policy}
 use Rattle.kdb_plain.specs.States.{HasHistory, HasItsPolicy, IsListed, NeverRise, has_policy, history_name, is_name, policy_named, princ_named, users_of, uses}

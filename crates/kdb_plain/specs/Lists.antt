@@ -2,7 +2,8 @@
 use Rattle.std.specs.Prelude.{ℕ, ◌≤◌, List, length, map}
 use Rattle.kdb_base.specs.Limits.{most_rows}
 use Rattle.policy_rules.specs.Rules.{Rules}
-use Rattle.princ_rows.specs.Rows.{AreInOrder, policy_keys}
+use Rattle.princ_rows.specs.Rows.{policy_keys}
+use Rattle.tagged_data.specs.KeyOrder.{AreInOrder}
 use Rattle.kdb_plain.specs.declared.princs.PlainPrinc.{PlainPrinc}
 
 abbrev pub princ_names : List PlainPrinc → List (List ℕ)

@@ -13,7 +13,8 @@ use Rattle.master_keys.specs.First.{master_name}
 use Rattle.policy_rules.specs.Rules.{Rules}
 use Rattle.princ_name.specs.Realms.{IsRealm}
 use Rattle.princ_record.specs.Policies.{IsPolicy}
-use Rattle.princ_rows.specs.Rows.{AreInOrder, policy_keys}
+use Rattle.princ_rows.specs.Rows.{policy_keys}
+use Rattle.tagged_data.specs.KeyOrder.{AreInOrder}
 use Rattle.kdb_plain.specs.Lists.{princ_names}
 use Rattle.plain_keys.specs.declared.items.PlainItem.{PlainItem}
 use Rattle.kdb_plain.specs.declared.princs.PlainPrinc.{PlainPrinc}

@@ -3,7 +3,8 @@
 ghost use Rattle.std.specs.Prelude.{◌≡◌, ℕ, Ok, Err, IfOk, OnOk, map};
 ghost use Rattle.tagged_data.specs.Strings.{keys_of};
 ghost use Rattle.princ_rows.specs.Effects.{drop_by, put_by};
-ghost use Rattle.princ_rows.specs.Rows.{AreInOrder, IsAt, IsGap};
+ghost use Rattle.princ_rows.specs.Rows.{IsAt, IsGap};
+ghost use Rattle.tagged_data.specs.KeyOrder.{AreInOrder};
 ghost use Rattle.kdb_plain.specs.Strings.{has_room_for, has_string, key_of, with_string, without_string};
 
 use kdb_base::limits::MAX_STRINGS;

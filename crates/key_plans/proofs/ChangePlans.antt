@@ -46,8 +46,8 @@ use Rattle.master_keys.specs.First.{master_name}
 use Rattle.plain_keys.specs.Keys.{made_keys}
 use Rattle.policy_rules.specs.Numbers.{Numbers}
 use Rattle.policy_rules.specs.Rules.{Rules}
-use Rattle.princ_entries.specs.declared.entries.Op.{Op}
-use Rattle.princ_entries.specs.declared.entries.Op.TheVariants as op
+use Rattle.princ_rows.specs.declared.entries.Op.{Op}
+use Rattle.princ_rows.specs.declared.entries.Op.TheVariants as op
 use Rattle.princ_name.specs.Names.{printed}
 use Rattle.princ_name.specs.Printed.{is_master}
 use Rattle.princ_name.specs.Realms.{IsRealm}

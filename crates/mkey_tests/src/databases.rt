@@ -61,15 +61,25 @@ fn realm(alloc: Global) -> Result<Realm, Fail> {
     Ok(Realm::from_bytes(alloc, text)?)
 }
 
-/// A database with K/M, kadmin/history and krbtgt, under one master key.
-pub(crate) fn created(alloc: Global) -> Result<Database, Fail> {
+/// A database with K/M, kadmin/history and krbtgt, under one master key. Their keys are made of these random bytes.
+fn created_of(alloc: Global, random: &[u8; 2048]) -> Result<Database, Fail> {
     let spec = CreateSpec::new(realm(alloc)?, None, Etype::Aes256, 1000);
-    let (rows, masters) = first_rows(alloc, &spec, Time::new(CREATED, 0), &block(7))?;
+    let (rows, masters) = first_rows(alloc, &spec, Time::new(CREATED, 0), random)?;
     Ok(Database {
         rows,
         masters,
         sno: 1,
     })
+}
+
+/// A new database.
+pub(crate) fn created(alloc: Global) -> Result<Database, Fail> {
+    created_of(alloc, &block(7))
+}
+
+/// A new database whose first keys are all others.
+pub(crate) fn created_with_other_keys(alloc: Global) -> Result<Database, Fail> {
+    created_of(alloc, &block(8))
 }
 
 /// `use_mkey` as a line gives it.

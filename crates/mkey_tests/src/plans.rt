@@ -64,7 +64,7 @@ fn versions_are_added_used_and_listed(rt: HostRuntime) -> Result<(), Fail> {
 }
 
 /// A version of another type is active from the second of the creation too, and is the greater one.
-const OF_TWO_TYPES: [Turn; 4] = [
+pub(crate) const OF_TWO_TYPES: [Turn; 4] = [
     (
         Asked::Add(Some(Etype::Aes128Sha2)),
         CREATED,

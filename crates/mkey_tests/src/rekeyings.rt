@@ -6,16 +6,16 @@ ghost use Rattle.princ_record.specs.Princs.{IsPrinc};
 
 use crate::databases::{
     Asked, CREATED, Database, LATER, Turn, check_created, check_lengths, check_reply, check_turns,
-    put, stored,
+    created_with_other_keys, put, stored,
 };
-use crate::plans::ADDED;
+use crate::plans::{ADDED, OF_TWO_TYPES};
 use kadm_commands::{Reply, Totals};
-use kdb_base::Masters;
 use kdb_base::limits::{MAX_KEYS, MAX_ROW_LEN};
+use kdb_base::{Masters, PlainKey};
 use kdb_places::may_apply;
 use kdb_plain::master_of;
 use master_keys::{MasterKey, open_keys};
-use princ_record::{Princ, encoded_len};
+use princ_record::{Princ, copy, encoded_len};
 use princ_rows::Op;
 use rekey_work::{Rewrapped, Settled, Taken, rewrap_outside, settle, take};
 use std::alloc::Global;
@@ -85,7 +85,7 @@ fn settled_at(
 }
 
 /// Stores the record.
-#[tactic(auto, unfolding(princ_entries::specs::Entries::IsOp))]
+#[tactic(auto, unfolding(princ_rows::specs::Entries::IsOp))]
 fn store(database: &mut Database, settled: Settled) -> Result<(), Fail>
     requires { MayBeStored settled }
 {
@@ -160,6 +160,16 @@ fn records_are_moved_once(rt: HostRuntime) -> Result<(), Fail> {
     check_lengths(&rt, &database, 2, &[62, 46])
 }
 
+/// Under a master key of aes128-cts-hmac-sha256-128 the tag has 16 bytes: a key of 32 bytes has 66, and one of 16 has 50.
+#[test]
+fn tag_is_that_of_the_other_type(rt: HostRuntime) -> Result<(), Fail> {
+    let mut database = check_created(&rt, rt.alloc(), &OF_TWO_TYPES)?;
+    let totals = moved_all(rt.alloc(), &mut database, 2)?;
+    check_reply(&rt, rt.alloc(), &Reply::Rekeyed(totals), MOVED)?;
+    check_lengths(&rt, &database, 1, &[66])?;
+    check_lengths(&rt, &database, 2, &[66, 50])
+}
+
 /// Once no record is under versions 1 and 2, they go with their activations.
 const PURGED: [Turn; 3] = [
     (
@@ -187,18 +197,28 @@ enum Became {
     Updated(u16),
     Already,
     Gone,
-    /// Another record was found, and this version is active in place of the one that was taken.
+    /// The record that stands now was found in place of the one that was taken, and this version is active in place of
+    /// its.
     AnotherRecord(Option<u16>),
+    /// A record was told that does not stand now.
+    StrangeRecord,
     SameRecord(Option<u16>),
 }
 
-fn outcome_of(settled: &Settled) -> Became {
+/// What became of work, where this record stands by its name now.
+fn outcome_of(settled: &Settled, now: Option<&Princ>) -> Became {
     match settled {
         Settled::Updated(made) => Became::Updated(made.mkvno),
         Settled::Already => Became::Already,
         Settled::Gone => Became::Gone,
-        Settled::Changed(Some(_), version) => Became::AnotherRecord(*version),
         Settled::Changed(None, version) => Became::SameRecord(*version),
+        Settled::Changed(Some(found), version) => {
+            if now == Some(found) {
+                Became::AnotherRecord(*version)
+            } else {
+                Became::StrangeRecord
+            }
+        }
     }
 }
 
@@ -215,7 +235,7 @@ fn settled(
 {
     let work = work(alloc, database, 2, 3)?.ok_or("work")?;
     let settled = settle(alloc, now, masters, active, work)?;
-    Ok(outcome_of(&settled))
+    Ok(outcome_of(&settled, now))
 }
 
 #[test]
@@ -279,6 +299,58 @@ fn work_over_a_newer_record_is_not_stored(rt: HostRuntime) -> Result<(), Fail> {
     let now = stored(&database.rows, 2)?;
     let became = settled(rt.alloc(), &taken_from, Some(now), &database.masters, 3)?;
     assert_eq!(rt; became, Became::AnotherRecord(None));
+    assert!(rt; !moved(rt.alloc(), &mut database, 2, 3)?);
+    Ok(())
+}
+
+/// A database whose krbtgt has other keys, under the same master key of version 3: the random bytes of the creation are
+/// others, and those of the changes behind it the same.
+fn newer(rt: &impl Abort, alloc: Global) -> Result<Database, Fail> {
+    let mut other = created_with_other_keys(alloc)?;
+    check_turns(rt, alloc, &mut other, None, &ADDED)?;
+    check_moves(rt, alloc, &mut other, MOVED)?;
+    Ok(other)
+}
+
+/// Stores this record in place of the one of its name.
+fn replaced(alloc: Global, database: &mut Database, newer: &Princ) -> Result<(), Fail>
+    requires { IsPrinc newer.now }
+{
+    let newer = copy(alloc, newer)?;
+    store(database, Settled::Updated(newer))
+}
+
+/// The keys of the record at this place.
+fn keys_at(alloc: Global, database: &Database, at: usize) -> Result<Vec<PlainKey>, Fail> {
+    let princ = stored(&database.rows, at)?;
+    let master = master_of(&database.masters, princ.mkvno).ok_or("its master key")?;
+    let items = princ.keys.as_slice();
+    Ok(open_keys(alloc, &MasterKey::new(&master), items)?)
+}
+
+/// Takes krbtgt's record to move it under version 3, and tells what becomes of the work where this record was stored in
+/// place of it meanwhile.
+fn settled_behind(alloc: Global, database: &mut Database, newer: &Princ) -> Result<Became, Fail>
+    requires { IsPrinc newer.now }
+{
+    let work = work(alloc, database, 2, 3)?.ok_or("work")?;
+    replaced(alloc, database, newer)?;
+    let settled = settled_at(alloc, database, 2, 3, work)?;
+    let now = stored(&database.rows, 2)?;
+    Ok(outcome_of(&settled, Some(now)))
+}
+
+/// A record whose keys were changed meanwhile stays as it is, and is told in place of the one that was taken. There is
+/// nothing more to do, since its new keys are under version 3.
+#[test]
+fn work_over_other_keys_is_not_stored(rt: HostRuntime) -> Result<(), Fail> {
+    let mut database = check_created(&rt, rt.alloc(), &ADDED)?;
+    let other = newer(&rt, rt.alloc())?;
+    let before = keys_at(rt.alloc(), &database, 2)?;
+    let became = settled_behind(rt.alloc(), &mut database, stored(&other.rows, 2)?)?;
+    assert_eq!(rt; became, Became::AnotherRecord(None));
+    let behind = keys_at(rt.alloc(), &database, 2)?;
+    assert!(rt; before.as_slice() != behind.as_slice());
     assert!(rt; !moved(rt.alloc(), &mut database, 2, 3)?);
     Ok(())
 }

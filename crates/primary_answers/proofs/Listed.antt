@@ -7,7 +7,7 @@ use Rattle.std.proofs.lemmas.List.Elements.{All-weaker, filter_passes}
 use Rattle.std.proofs.lemmas.List.Kept.{IsStrictlySortedBy-filter}
 use Rattle.primary_answers.specs.Listing.{fits_glob, is_told, names_told}
 use Rattle.princ_name.specs.Printed.{is_master}
-use Rattle.princ_rows.specs.Rows.{AreInOrder, key_cmp}
+use Rattle.tagged_data.specs.KeyOrder.{AreInOrder, key_cmp}
 
 pub told_order : (glob : Option (List ℕ)) (names all : List (List ℕ)) → names ≡ names_told glob all → AreInOrder all → AreInOrder names
 unfolding names_told

@@ -14,11 +14,11 @@ use Rattle.iprop_truths.proofs.Members.{contains_cases}
 use Rattle.iprop_truths.specs.Polls.{PollReply, code_of, reply_of, told_of}
 use Rattle.kdb_base.specs.Moment.{Moment}
 use Rattle.kdb_base.specs.declared.moments.Point.{Point}
-use Rattle.princ_entries.specs.Entries.{IsSent, kind_of}
-use Rattle.princ_entries.specs.declared.entries.Entry.{Entry}
-use Rattle.princ_entries.specs.declared.entries.Logged.{Logged}
-use Rattle.princ_entries.specs.declared.entries.Op.{Op}
-use Rattle.princ_entries.specs.declared.entries.Op.TheVariants.{PutPrinc, DropPrinc, Rename, PutPolicy, DropPolicy}
+use Rattle.princ_rows.specs.Entries.{IsSent, kind_of}
+use Rattle.princ_rows.specs.declared.entries.Entry.{Entry}
+use Rattle.princ_rows.specs.declared.entries.Logged.{Logged}
+use Rattle.princ_rows.specs.declared.entries.Op.{Op}
+use Rattle.princ_rows.specs.declared.entries.Op.TheVariants.{PutPrinc, DropPrinc, Rename, PutPolicy, DropPolicy}
 use Rattle.update_log.specs.Logs.{IsJournal, IsMarked, Journal, entry_of}
 use Rattle.update_log.specs.Slots.{IsSpelled}
 

@@ -2,7 +2,7 @@
 use Rattle.std.specs.Prelude.{ℕ, Bool, true, not, ◌&&◌, List, filter, Option, Some, None}
 use Rattle.iprop_truths.specs.Polls.{PollReply}
 use Rattle.kadm_values.specs.Globs.{matches}
-use Rattle.princ_entries.specs.Replies.{Reply, number_of}
+use Rattle.princ_rows.specs.Replies.{Reply, number_of}
 use Rattle.princ_name.specs.Printed.{is_master}
 
 -- the glob matches the name; all names without one

@@ -4,7 +4,8 @@ ghost use Rattle.std.specs.Prelude.{◌≡◌, false, IfOk};
 ghost use Rattle.std.specs.List.{All};
 ghost use Rattle.primary_answers.specs.Listing.{is_told, names_told};
 ghost use Rattle.princ_name.specs.Printed.{is_master};
-ghost use Rattle.princ_rows.specs.Rows.{AreInOrder, princ_keys};
+ghost use Rattle.princ_rows.specs.Rows.{princ_keys};
+ghost use Rattle.tagged_data.specs.KeyOrder.{AreInOrder};
 
 use kadm_commands::NameList;
 use kadm_values::glob_matches;

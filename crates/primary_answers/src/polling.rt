@@ -6,13 +6,13 @@ ghost use Rattle.iprop_reply.specs.declared.status.Status4.TheVariants.{Resync a
 ghost use Rattle.iprop_truths.specs.Polls.{code_of, told_of};
 ghost use Rattle.kdb_base.specs.declared.moments.Point.{Point as At};
 ghost use Rattle.primary_answers.specs.Listing.{told_reply};
-ghost use Rattle.princ_entries.specs.Replies.{MayCome, number_of};
+ghost use Rattle.princ_rows.specs.Replies.{MayCome, number_of};
 ghost use Rattle.update_log.specs.Logs.{entry_of};
 
 use iprop_reply::{Status4, sno_status};
 use iprop_truths::laws::updates_stand_behind_a_serial;
 use kdb_base::{MemoryOut, Point, Time};
-use princ_entries::{Entries, PollReply, ReplyCode, copy_entry};
+use princ_rows::{Entries, PollReply, ReplyCode, copy_entry};
 use std::alloc::Global;
 use update_log::Log;
 

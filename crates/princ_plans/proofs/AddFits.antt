@@ -3,7 +3,7 @@ use Rattle.std.proofs.Common.{◌≡◌, ℕ, ◌^◌, ◌<◌, true, false, Lis
 use Rattle.std.specs.Prelude.{IfSome}
 use Rattle.std.specs.List.{AllZip}
 use Rattle.std.proofs.lemmas.List.Elements.{All-nil}
-use Rattle.acl_text.proofs.Attributes.{attributes_short}
+use Rattle.princ_record.proofs.Attributes.{attributes_short}
 use Rattle.acl_text.specs.Limits.{IsLimits}
 use Rattle.acl_text.specs.Restricting.{restricted}
 use Rattle.acl_text.specs.declared.limits.Limits.{Limits}

@@ -46,8 +46,8 @@ use Rattle.policy_rules.specs.Names.{is_policy_name}
 use Rattle.policy_rules.specs.Numbers.{Numbers}
 use Rattle.policy_rules.specs.Passwords.{has_few_classes, is_short}
 use Rattle.policy_rules.specs.Rules.{Rules}
-use Rattle.princ_entries.specs.declared.entries.Op.{Op}
-use Rattle.princ_entries.specs.declared.entries.Op.TheVariants as op
+use Rattle.princ_rows.specs.declared.entries.Op.{Op}
+use Rattle.princ_rows.specs.declared.entries.Op.TheVariants as op
 use Rattle.princ_keys.specs.declared.keys.KeyItem.{KeyItem}
 use Rattle.princ_name.specs.Names.{NameParts, printed}
 use Rattle.princ_name.specs.Realms.{IsRealm}

@@ -5,7 +5,7 @@ use Rattle.std.specs.Int.{bit_not}
 use Rattle.std.specs.Int.Width.{w32}
 use Rattle.std.specs.List.{All, AllByRecursion}
 use Rattle.std.proofs.lemmas.List.Elements.{recursion_from_All}
-use Rattle.acl_text.proofs.Attributes.{either_known, part_known}
+use Rattle.princ_record.proofs.Attributes.{either_known, part_known}
 use Rattle.kadm_values.specs.Flags.{with_flag, with_flags}
 use Rattle.kadm_values.specs.declared.flags.FlagChange.{FlagChange}
 use Rattle.princ_record.specs.Princs.{are_attributes}

@@ -1,7 +1,7 @@
 -- A record with other fields has a spelling, and shows the principal with them.
 use Rattle.std.proofs.Common.{◌≡◌, ℕ, true, List, Option, Some, None, refl, ap}
 use Rattle.std.specs.Prelude.{IfSome, IsTrue}
-use Rattle.acl_text.proofs.Attributes.{attributes_short, either_known, part_known}
+use Rattle.princ_record.proofs.Attributes.{attributes_short, either_known, part_known}
 use Rattle.acl_text.specs.Limits.{IsLimits}
 use Rattle.acl_text.specs.Restricting.{restricted}
 use Rattle.acl_text.specs.declared.limits.Limits.{Limits}

@@ -26,7 +26,7 @@ use Rattle.kdb_plain.specs.States.{princ_named}
 use Rattle.kdb_plain.specs.declared.changes.PlainOp.TheVariants as plain
 use Rattle.kdb_plain.specs.declared.princs.PlainPrinc.{PlainPrinc}
 use Rattle.kdb_plain.specs.declared.states.State.{State}
-use Rattle.princ_entries.specs.declared.entries.Op.TheVariants as op
+use Rattle.princ_rows.specs.declared.entries.Op.TheVariants as op
 use Rattle.princ_name.specs.Names.{printed}
 use Rattle.princ_name.specs.Realms.{IsRealm}
 use Rattle.princ_plans.proofs.ModifyFits.{modified_fits, modified_shows, same_chain, same_name}

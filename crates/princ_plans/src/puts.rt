@@ -3,7 +3,7 @@
 ghost use Rattle.std.specs.Prelude.{◌≡◌, Err, None, Some};
 ghost use Rattle.command_plans.specs.Targets.{IsPut};
 ghost use Rattle.kdb_base.specs.declared.outcomes.Refusal.{Refusal};
-ghost use Rattle.princ_entries.specs.declared.entries.Op.TheVariants as op;
+ghost use Rattle.princ_rows.specs.declared.entries.Op.TheVariants as op;
 ghost use Rattle.princ_record.specs.Princs.{AreLives, IsPrinc, lives_of};
 
 use command_plans::Planned;

@@ -5,7 +5,7 @@ use Rattle.std.proofs.lemmas.List.Sums.{sum_by-cons}
 use Rattle.kdb_base.specs.Etypes.{key_len}
 use Rattle.kdb_base.specs.Key.{Key}
 use Rattle.kdb_base.specs.declared.keys.Etype.{Etype}
-use Rattle.master_keys.specs.Lengths.{few_key_bytes}
+use Rattle.kdb_base.specs.EtypeLaws.{key_fits}
 use Rattle.plain_keys.specs.Keys.{drawn_len, item_of, items_of, password_keys, random_keys}
 use Rattle.plain_keys.specs.declared.items.PlainItem.{PlainItem}
 use Rattle.row_keys.specs.Wraps.{taken_len, taken_lens}
@@ -16,7 +16,7 @@ kept_taken [] = refl
 kept_taken (k ∷ keys) = omega (arith, sum_by-cons (taken_len false) k keys, kept_taken keys)
 
 few_each : (drawn : Bool) (k : PlainItem) → taken_len drawn k ≤ 48
-few_each true k = omega (arith, few_key_bytes k.key.etype)
+few_each true k = omega (arith, key_fits k.key.etype)
 few_each false k = omega arith
 
 pub few_taken : (drawn : Bool) (keys : List PlainItem) → taken_lens drawn keys ≤ 48 * length keys

@@ -13,10 +13,11 @@ use Rattle.policy_rules.specs.Rules.{Rules}
 use Rattle.princ_record.specs.declared.princs.Princ.{Princ}
 use Rattle.princ_rows.specs.Effects.{drop_by, effect, is_higher, is_lower, put_by}
 use Rattle.princ_rows.specs.Effects as rows
-use Rattle.princ_entries.specs.EntryLaws.{bytes_same, same_bytes}
-use Rattle.princ_rows.specs.Rows.{RowLists, key_cmp}
-use Rattle.princ_entries.specs.declared.entries.Op.{Op}
-use Rattle.princ_entries.specs.declared.entries.Op.TheVariants as op
+use Rattle.princ_rows.specs.EntryLaws.{bytes_same, same_bytes}
+use Rattle.princ_rows.specs.Rows.{RowLists}
+use Rattle.tagged_data.specs.KeyOrder.{key_cmp}
+use Rattle.princ_rows.specs.declared.entries.Op.{Op}
+use Rattle.princ_rows.specs.declared.entries.Op.TheVariants as op
 use Rattle.kdb_plain.specs.Changes.{Spares, IsOrdinary, effect_on, name_of}
 use Rattle.kdb_plain.specs.declared.changes.PlainOp.{PlainOp}
 use Rattle.kdb_plain.specs.declared.changes.PlainOp.TheVariants.{DropPolicy, DropPrinc, PutMasters, PutPolicy, PutPrinc, Rename}

@@ -12,8 +12,8 @@ use Rattle.kdb_base.specs.declared.versions.Master.{Master}
 use Rattle.master_keys.specs.First.{master_name}
 use Rattle.master_keys.proofs.SideBySide.{zip_length}
 use Rattle.princ_record.specs.declared.princs.Princ.{Princ}
-use Rattle.princ_entries.specs.EntryLaws.{bytes_same}
-use Rattle.princ_rows.specs.Rows.{key_cmp}
+use Rattle.princ_rows.specs.EntryLaws.{bytes_same}
+use Rattle.tagged_data.specs.KeyOrder.{key_cmp}
 use Rattle.kdb_plain.specs.States.{history_name, is_name, princ_named, uses, users_of}
 use Rattle.serving_versions.specs.Versions.{is_under, protected_by}
 use Rattle.kdb_plain.specs.declared.princs.PlainPrinc.{PlainPrinc}

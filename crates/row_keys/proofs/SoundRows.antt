@@ -10,7 +10,7 @@ use Rattle.kdb_base.specs.Versions.{AreRising}
 use Rattle.kdb_base.specs.declared.versions.Master.{Master}
 use Rattle.master_keys.specs.Rewrapping.{HoldsOne}
 use Rattle.master_keys.proofs.Chains.{one_master}
-use Rattle.princ_entries.specs.EntryLaws.{same_bytes}
+use Rattle.princ_rows.specs.EntryLaws.{same_bytes}
 use Rattle.princ_keys.specs.declared.keys.KeyItem.{KeyItem}
 use Rattle.princ_keys.specs.declared.remembered.OldSet.{OldSet}
 use Rattle.princ_record.specs.declared.princs.Princ.{Princ}

@@ -20,7 +20,8 @@ use Rattle.princ_record.specs.Facts.{IsChainOr}
 use Rattle.princ_record.specs.RowLimits.{IsRow}
 use Rattle.princ_record.specs.declared.facts.ChainPart.{ChainPart}
 use Rattle.princ_record.specs.declared.princs.Princ.{Princ}
-use Rattle.princ_rows.specs.Rows.{AreInOrder, AreRows, RowLists}
+use Rattle.princ_rows.specs.Rows.{AreRows, RowLists}
+use Rattle.tagged_data.specs.KeyOrder.{AreInOrder}
 use Rattle.kdb_plain.specs.States.{HasHistory, HasItsPolicy, HasMasters, IsListed, IsValid, NeverRise, first_key, has_policy, history_key, history_name, master_in, master_of, newest_version, princ_named}
 use Rattle.plain_keys.specs.declared.items.PlainItem.{PlainItem}
 use Rattle.kdb_plain.specs.declared.princs.PlainPrinc.{PlainPrinc}

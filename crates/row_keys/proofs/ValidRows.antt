@@ -15,7 +15,8 @@ use Rattle.princ_keys.specs.declared.keys.KeyItem.{KeyItem}
 use Rattle.princ_keys.specs.declared.remembered.OldKey.{OldKey}
 use Rattle.princ_keys.specs.declared.remembered.OldSet.{OldSet}
 use Rattle.princ_record.specs.declared.princs.Princ.{Princ}
-use Rattle.princ_rows.specs.Rows.{AreInOrder, RowLists}
+use Rattle.princ_rows.specs.Rows.{RowLists}
+use Rattle.tagged_data.specs.KeyOrder.{AreInOrder}
 use Rattle.kdb_plain.specs.States.{HasItsPolicy, IsListed, IsValid, has_policy, history_name, princ_named}
 use Rattle.plain_keys.specs.declared.items.PlainItem.{PlainItem}
 use Rattle.plain_keys.specs.declared.items.PlainSet.{PlainSet}

@@ -17,7 +17,7 @@ ghost use Rattle.princ_record.specs.declared.princs.Princ.{Princ};
 ghost use Rattle.princ_rows.specs.Effects.{effect};
 ghost use Rattle.princ_name.specs.Realms.{IsRealm};
 ghost use Rattle.princ_rows.specs.Rows.{AreRows, RowLists};
-ghost use Rattle.princ_entries.specs.declared.entries.Op.{Op};
+ghost use Rattle.princ_rows.specs.declared.entries.Op.{Op};
 ghost use Rattle.kdb_plain.specs.Changes.{Spares, effect_on};
 ghost use Rattle.kdb_plain.specs.declared.changes.PlainOp.{PlainOp};
 ghost use Rattle.plain_keys.specs.Keys.{AreOnce, drawn_len, items_of, kept_keys, keys_from, newest_kvno, password_keys, random_keys, remembered, settled_items};

@@ -13,8 +13,8 @@ mod wraps;
 
 pub use kept_keys::{kept_from, newest_version, settled_keys};
 pub use lookups::{has_policy_row, policy_row, record_named, records_under, records_with_policy};
-pub use opening::{extracted, open_items, open_princ, open_sets};
-pub use remembering::{is_reused, remembered_sets};
+pub use opening::{open_items, open_princ, open_sets};
+pub use remembering::remembered_sets;
 pub use ring::MasterRing;
 pub use sound::{Unsound, check_rows};
 pub use wraps::{behind_items, rekeyed_items, taken_len, wrapped_items};

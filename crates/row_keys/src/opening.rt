@@ -1,19 +1,18 @@
 //! Wrapped keys of a record, opened.
 
-ghost use Rattle.std.specs.Prelude.{◌≡◌, List, Err, None, IfOk, MatchResult, filter, map};
+ghost use Rattle.std.specs.Prelude.{◌≡◌, List, Err, None, IfOk, MatchResult};
 ghost use Rattle.std.specs.List.{AllZip};
 ghost use Rattle.kdb_base.specs.Key.{Key};
 ghost use Rattle.kdb_plain.specs.Heads.{plain_of};
 ghost use Rattle.kdb_plain.specs.declared.princs.PlainPrinc.{PlainPrinc};
-ghost use Rattle.plain_keys.specs.Keys.{extract_of, extracts, has_kvno};
 ghost use Rattle.plain_keys.specs.declared.items.PlainItem.{PlainItem};
 ghost use Rattle.plain_keys.specs.declared.items.PlainSet.{PlainSet};
 ghost use Rattle.row_keys.specs.Shows.{ShowsItem, ShowsOldKey, ShowsSet, ShowsUnder};
 
-use kdb_base::{Extract, ExtractList, MemoryOut};
+use kdb_base::MemoryOut;
 use kdb_plain::{PlainPrinc, plain_of};
 use master_keys::{MasterKey, Unopened};
-use plain_keys::{PlainItem, PlainItems, PlainKeys, PlainSet, PlainSets, newest_kvno};
+use plain_keys::{PlainItem, PlainItems, PlainKeys, PlainSet, PlainSets};
 use princ_keys::{KeyItem, OldKey, OldSet, copy_salt};
 use princ_record::{Princ, copy};
 use std::alloc::Global;
@@ -149,52 +148,6 @@ pub fn open_princ(
     };
     match with_plain(alloc, princ, keys, old) {
         Ok(plain) => Ok(plain),
-        Err(_) => Err(Unopened::MemoryOut),
-    }
-}
-
-/// The keys of a version.
-fn extracts_of(alloc: Global, kvno: u16, keys: &[PlainItem]) -> Result<Vec<Extract>, MemoryOut>
-    ensures { IfOk result (λ found. found.items ≡ map extract_of (filter (has_kvno kvno) keys.now)) }
-{
-    let found = keys
-        .iter()
-        .filter(|item| item.kvno == kvno)
-        .map(|item| Extract {
-            kvno: item.kvno,
-            key: item.key,
-        })
-        .collect(alloc)?;
-    Ok(found)
-}
-
-/// The keys of the greatest version.
-#[tactic(auto, unfolding(plain_keys::specs::Keys::extracts))]
-fn newest_extracts(alloc: Global, keys: &[PlainItem]) -> Result<ExtractList, MemoryOut>
-    ensures { IfOk result (λ list. list ≡ extracts keys.now) }
-{
-    let found = extracts_of(alloc, newest_kvno(keys), keys)?;
-    Ok(ExtractList::from_vec(found))
-}
-
-/// The keys of the greatest version of a record, opened by the master key of its version.
-///
-/// # Errors
-///
-/// `Wrong` where some key of the record does not open, and `MemoryOut` where memory is wanted and not given.
-pub fn extracted(
-    alloc: Global,
-    master: &MasterKey,
-    items: &[KeyItem],
-) -> Result<ExtractList, Unopened>
-    ensures only { (plain : List PlainItem) → AllZip (ShowsItem master.now) items.now plain → MatchResult result (λ list. list ≡ extracts plain) (λ fault. fault ≡ Unopened.MemoryOut) }
-{
-    let keys = match open_items(alloc, master, items) {
-        Ok(keys) => keys,
-        Err(fault) => return Err(fault),
-    };
-    match newest_extracts(alloc, keys.as_slice()) {
-        Ok(list) => Ok(list),
         Err(_) => Err(Unopened::MemoryOut),
     }
 }

@@ -1,15 +1,14 @@
-//! Keys that are remembered when a password changes, and whether a new password was in use before.
+//! Keys that are remembered when a password changes.
 
-ghost use Rattle.std.specs.Prelude.{◌≡◌, ◌*◌, ◌≤◌, List, length, take, IfOk, MatchResult};
+ghost use Rattle.std.specs.Prelude.{◌≡◌, ◌*◌, ◌≤◌, List, length, take, IfOk};
 ghost use Rattle.std.specs.List.{AllZip};
-ghost use Rattle.plain_keys.specs.Keys.{is_reused, newest_keys, newest_set, remembered, with_newest};
+ghost use Rattle.plain_keys.specs.Keys.{newest_keys, newest_set, remembered, with_newest};
 ghost use Rattle.plain_keys.specs.declared.items.PlainSet.{PlainSet};
 ghost use Rattle.row_keys.specs.Remembering.{remembered_sets, wrapped_old_key, wrapped_old_keys, wrapped_set, with_wrapped_set};
 ghost use Rattle.row_keys.specs.Shows.{ShowsOldKey, ShowsSet};
 
-use crate::opening::open_sets;
 use kdb_base::{MemoryOut, PlainKey};
-use master_keys::{MasterKey, Unopened};
+use master_keys::MasterKey;
 use plain_keys::{PlainItem, newest_keys, newest_kvno};
 use princ_keys::{OldKey, OldKeys, OldSet, OldSets};
 use std::alloc::Global;
@@ -130,26 +129,4 @@ pub fn remembered_sets(
     let mut sets = with_wrapped_set(alloc, history, random, keys, old)?;
     sets.truncate(usize::from(count.saturating_sub(1)));
     Ok(OldSets::from_vec(sets))
-}
-
-/// Whether a new key equals, in its encryption type and its bytes, one of these of the greatest version, or one that
-/// the record remembers.
-///
-/// # Errors
-///
-/// `Wrong` where some remembered key does not open under the history key, and `MemoryOut` where memory is wanted and
-/// not given.
-pub fn is_reused(
-    alloc: Global,
-    history: &MasterKey,
-    fresh: &[PlainKey],
-    keys: &[PlainItem],
-    old: &[OldSet],
-) -> Result<bool, Unopened>
-    ensures reused { (plain : List PlainSet) → AllZip (ShowsSet history.now) old.now plain → MatchResult result (λ reused. reused ≡ is_reused fresh.now keys.now plain) (λ fault. fault ≡ Unopened.MemoryOut) }
-{
-    match open_sets(alloc, history, old) {
-        Ok(sets) => Ok(plain_keys::is_reused(fresh, keys, sets.as_slice())),
-        Err(fault) => Err(fault),
-    }
 }

@@ -5,7 +5,7 @@ use super::*;
 use kdb_base::limits::MAX_ROW_LEN;
 use kdb_base::{Blob, Etype, Master, Masters, PlainKey, Salt};
 use master_keys::{MasterKey, wrap};
-use plain_keys::PlainItem;
+use plain_keys::{PlainItem, is_reused};
 use princ_keys::{KeyItem, Keys, OldKey, OldKeys, OldSet, OldSets};
 use princ_name::parse_name;
 use princ_record::{Princ, decode, encoded_len};
@@ -119,8 +119,8 @@ fn a_history_of_three_remembers_two_passwords(rt: HostRuntime) -> Result<(), Fai
         (key_of(Etype::Aes256, 1), false),
     ] {
         let standing = [item(4, Etype::Aes256, 5)];
-        let found = is_reused(rt.alloc(), &ready, &[key], &standing, sets.as_slice())?;
-        assert_eq!(rt; found, used);
+        let plain = open_sets(rt.alloc(), &ready, sets.as_slice())?;
+        assert_eq!(rt; is_reused(&[key], &standing, plain.as_slice()), used);
     }
     Ok(())
 }
@@ -143,8 +143,8 @@ fn keys_stay_and_settle_as_they_are_wrapped(rt: HostRuntime) -> Result<(), Fail>
     assert!(rt;
         matches!(&only.salt, Salt::Special(salt) if salt.as_slice() == b"Rhosta".as_slice())
     );
-    let list = extracted(alloc, &MasterKey::new(&master), &wrapped)?;
-    assert!(rt; matches!(list.as_slice(), [one] if one.kvno == 3 && one.key == plain[0].key));
+    let opened = open_items(alloc, &MasterKey::new(&master), &wrapped)?;
+    assert!(rt; matches!(opened.as_slice(), [one, _] if one.kvno == 3 && one.key == plain[0].key));
     Ok(())
 }
 

@@ -1,7 +1,7 @@
 use Rattle.std.proofs.Common.{sym, subst}
 use Rattle.command_plans.specs.Targets.{IsPut}
 use Rattle.command_plans.proofs.PurgePlans.{purge_so, purges}
-use Rattle.princ_entries.specs.declared.entries.Op.TheVariants as op
+use Rattle.princ_rows.specs.declared.entries.Op.TheVariants as op
 use Rattle.princ_record.specs.Princs.{IsPrinc}
 use Rattle.princ_record.specs.declared.princs.Princ.{Princ}
 use Rattle.command_plans.proofs.purging.purge.Goals as goal

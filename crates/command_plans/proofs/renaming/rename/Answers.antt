@@ -1,7 +1,7 @@
 use Rattle.std.proofs.Common.{◌≡◌, ℕ, List, sym, subst}
 use Rattle.command_plans.specs.Targets.{IsPut}
 use Rattle.command_plans.proofs.RenamePlans.{rename_fits, renames}
-use Rattle.princ_entries.specs.declared.entries.Op.TheVariants as op
+use Rattle.princ_rows.specs.declared.entries.Op.TheVariants as op
 use Rattle.princ_name.specs.Names.{printed}
 use Rattle.princ_record.specs.Princs.{IsPrinc}
 use Rattle.princ_record.specs.declared.princs.Princ.{Princ}

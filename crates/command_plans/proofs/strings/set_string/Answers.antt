@@ -2,7 +2,7 @@ use Rattle.std.proofs.Common.{◌≡◌, true, false, sym, subst, rules}
 use Rattle.command_plans.specs.Targets.{IsPut}
 use Rattle.command_plans.proofs.StringPlans.{set_full, set_so, sets}
 use Rattle.kdb_plain.specs.Strings.{has_room_for}
-use Rattle.princ_entries.specs.declared.entries.Op.TheVariants as op
+use Rattle.princ_rows.specs.declared.entries.Op.TheVariants as op
 use Rattle.princ_record.specs.Princs.{IsPrinc}
 use Rattle.princ_record.specs.declared.princs.Princ.{Princ}
 use Rattle.command_plans.proofs.strings.set_string.Goals as goal

@@ -1,6 +1,6 @@
 use Rattle.std.proofs.Common.{rules}
 use Rattle.std.proofs.lemmas.Fn.{always_returns_same}
-use Rattle.princ_rows.specs.Rows.{key_cmp}
+use Rattle.tagged_data.specs.KeyOrder.{key_cmp}
 use Rattle.princ_rows.proofs.Searches.{found_at, gap_at}
 use Rattle.kdb_plain.specs.Strings.{key_of}
 use Rattle.kdb_plain.proofs.strings.place_of.Goals as goal

@@ -1,6 +1,6 @@
 use Rattle.std.proofs.Common.{subst, sym}
 use Rattle.std.specs.Prelude.{map}
-use Rattle.princ_rows.specs.Rows.{AreInOrder}
+use Rattle.tagged_data.specs.KeyOrder.{AreInOrder}
 use Rattle.princ_rows.proofs.Orders.{put_order}
 use Rattle.kdb_plain.specs.Strings.{key_of}
 use Rattle.kdb_plain.proofs.strings.with_string.Goals as goal

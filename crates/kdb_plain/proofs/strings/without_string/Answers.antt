@@ -1,7 +1,7 @@
 use Rattle.std.proofs.Common.{◌∙◌, ap, subst, sym}
 use Rattle.std.specs.Prelude.{map}
 use Rattle.princ_rows.specs.Effects.{drop_by}
-use Rattle.princ_rows.specs.Rows.{AreInOrder}
+use Rattle.tagged_data.specs.KeyOrder.{AreInOrder}
 use Rattle.princ_rows.proofs.Orders.{drop_order}
 use Rattle.kdb_plain.specs.Strings.{key_of}
 use Rattle.kdb_plain.proofs.strings.without_string.Goals as goal

@@ -8,7 +8,7 @@ use Rattle.key_plans.proofs.ChangePlans.{causes_of, causes_told, change_fits, ch
 use Rattle.key_plans.proofs.KeyFits.{block_serves, few_to_make}
 use Rattle.key_plans.specs.Changing.{next_items}
 use Rattle.plain_keys.specs.Keys.{kept_keys, newest_keys}
-use Rattle.princ_entries.specs.declared.entries.Op.TheVariants as op
+use Rattle.princ_rows.specs.declared.entries.Op.TheVariants as op
 use Rattle.princ_record.specs.Princs.{IsPrinc}
 use Rattle.princ_record.specs.declared.princs.Princ.{Princ}
 use Rattle.row_keys.specs.Shows.{ShowsUnder}

@@ -1,7 +1,7 @@
 use Rattle.std.proofs.Common.{◌∷◌, [], ◌++◌, arith, ap, map, ◌∙◌}
 use Rattle.primary_answers.proofs.Polled.{all_there, one_more}
 use Rattle.primary_answers.proofs.polling.entries_behind.Goals as goal
-use Rattle.princ_entries.specs.declared.entries.Entry.{Entry}
+use Rattle.princ_rows.specs.declared.entries.Entry.{Entry}
 use Rattle.update_log.specs.Logs.{entry_of}
 
 pub loop-behind-preserved : goal.loop-behind-preserved

@@ -5,7 +5,7 @@ use Rattle.kdb_base.specs.declared.moments.Point.{Point}
 use Rattle.primary_answers.proofs.Polled.{are_held, nil_told, ok_from, ok_told, resync_told, told_status, updates_sent}
 use Rattle.primary_answers.proofs.polling.reply_to.Goals as goal
 use Rattle.primary_answers.specs.Listing.{told_reply}
-use Rattle.princ_entries.specs.Replies.{Reply}
+use Rattle.princ_rows.specs.Replies.{Reply}
 use Rattle.update_log.specs.Logs.{entry_of}
 
 pub new-requires-clause-sent : goal.new-requires-clause-sent

@@ -1,0 +1,4 @@
+mod Alone
+mod OpenedState
+mod SteadySteps
+mod MadeChanges

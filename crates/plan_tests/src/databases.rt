@@ -1,0 +1,400 @@
+//! A database as rows and as the plain state that they show, and what lines make of both.
+
+ghost use Rattle.std.specs.Prelude.{◌≡◌, IfOk, IfSome, length, true};
+ghost use Rattle.command_plans.specs.Given.{IsApplied};
+ghost use Rattle.kadm_commands.specs.Commands.{IsCommand};
+ghost use Rattle.kadm_plan.specs.Ready.{is_planned};
+ghost use Rattle.kdb_model.specs.Steps.{is_one_step};
+ghost use Rattle.plan_tests.specs.Steady.{MayBePut};
+
+use crate::opening::SECS;
+use crate::plain::{Plain, block};
+use acl_text::Acl;
+use first_rows::{CreateSpec, first_rows};
+use kadm_commands::{Command, Reply};
+use kadm_plan::{Planned, View, plan, prepare};
+use kadm_replies::print_reply;
+use kadm_wire::parse_line;
+use kdb_base::{Etype, Masters, Point, Refusal, Stop, Time};
+use kdb_places::laws::what_may_be_applied;
+use princ_name::{Name, Realm, is_realm, parse_name};
+use princ_rows::{Op, Rows};
+use std::alloc::Global;
+use std::process::Abort;
+use std::test::Fail;
+
+/// The same database twice.
+#[derive(Drop)]
+pub(crate) struct Database {
+    pub rows: Rows,
+    pub masters: Masters,
+    pub plain: Plain,
+}
+
+/// A line, and what is answered to it, without its last line feed; nothing where nothing is answered.
+pub(crate) type Turn = (&'static str, &'static str);
+
+/// An access list where there is one, the client, a line, and what is answered to it.
+pub(crate) type Case = (
+    Option<&'static str>,
+    &'static str,
+    &'static str,
+    &'static str,
+);
+
+const REALM: &[u8] = b"EXAMPLE.ORG";
+
+/// The administrator of the machine.
+pub(crate) const LOCAL: &str = "admin/local";
+
+fn realm(alloc: Global) -> Result<Realm, Fail> {
+    if !is_realm(REALM) {
+        return Err(Fail::from("a realm"));
+    }
+    Ok(Realm::from_bytes(alloc, REALM)?)
+}
+
+/// A database with K/M, kadmin/history and krbtgt.
+pub(crate) fn created(alloc: Global) -> Result<Database, Fail> {
+    let realm = realm(alloc)?;
+    let spec = CreateSpec::new(realm, None, Etype::Aes256, 1000);
+    let (rows, masters) = first_rows(alloc, &spec, Time::new(SECS, 0), &block(0))?;
+    let plain = Plain::open(alloc, &rows, &masters, spec.realm())?;
+    Ok(Database {
+        rows,
+        masters,
+        plain,
+    })
+}
+
+// ---- the rows
+
+/// What the line comes to over rows.
+#[tactic(auto, using(crate::proofs::MadeChanges::plan_may_be_put))]
+fn planned(
+    alloc: Global,
+    rows: &Rows,
+    masters: &Masters,
+    plain: &Plain,
+    client: &Name,
+    acl: Option<&Acl>,
+    command: &Command,
+) -> Result<Result<Planned, Stop>, Fail>
+    requires command { IsCommand plain.now.realm command.now }
+    requires planned { is_planned command.now ≡ true }
+    ensures { IfOk result (λ planned. IfOk planned (MayBePut rows.now)) }
+{
+    let state = plain.state();
+    let realm = state.realm.as_slice();
+    let view = View {
+        rows,
+        masters,
+        realm,
+    };
+    let ready = prepare(alloc, command, realm)?;
+    let random = block(state.point.sno);
+    let moment = Time::new(SECS, 0);
+    Ok(plan(alloc, &ready, &view, client, acl, moment, &random))
+}
+
+/// Makes the change of the rows.
+fn put(rows: &mut Rows, op: Op) -> Result<(), Fail>
+    requires { IsApplied rows.old op }
+{
+    what_may_be_applied();
+    rows.apply(op)?;
+    Ok(())
+}
+
+/// What is answered, once the change is made.
+fn made(rows: &mut Rows, planned: Planned, sno: u32) -> Result<Reply, Fail>
+    requires { MayBePut rows.old planned }
+{
+    match planned {
+        Planned::Answer(reply) => Ok(reply),
+        Planned::Change(op) => {
+            put(rows, op)?;
+            Ok(Reply::Done(Point {
+                sno: sno.saturating_add(1),
+                time: Time::new(SECS, 0),
+            }))
+        }
+    }
+}
+
+fn refused(stop: Stop) -> Result<Reply, Fail> {
+    match stop {
+        Stop::Refused(why) => Ok(Reply::Refused(why)),
+        Stop::Halt(_) => Err(Fail::from("no memory")),
+    }
+}
+
+/// What the line is answered over rows, once its change is made.
+fn answered(rows: &mut Rows, planned: Result<Planned, Stop>, sno: u32) -> Result<Reply, Fail>
+    requires { IfOk planned (MayBePut rows.old) }
+{
+    match planned {
+        Ok(planned) => made(rows, planned, sno),
+        Err(stop) => refused(stop),
+    }
+}
+
+/// Whether rows alone decide the command, and not the files or the master keys.
+fn is_planned(command: &Command) -> bool
+    ensures { result ≡ is_planned command.now }
+{
+    match command {
+        Command::AddMaster(_) => false,
+        Command::UseMaster(_) => false,
+        Command::ListMasters => false,
+        Command::PurgeMasters => false,
+        Command::RekeyPrincs(_) => false,
+        Command::Stash => false,
+        Command::Dump => false,
+        _ => true,
+    }
+}
+
+/// What the line is answered over rows; nothing where they alone do not decide it.
+fn answer_of_rows(
+    alloc: Global,
+    database: &mut Database,
+    client: &Name,
+    acl: Option<&Acl>,
+    command: &Command,
+) -> Result<Option<Reply>, Fail>
+    requires { IsCommand database.old.plain.realm command.now }
+    ensures { database.new.plain ≡ database.old.plain }
+{
+    if !is_planned(command) {
+        return Ok(None);
+    }
+    let planned = planned(
+        alloc,
+        &database.rows,
+        &database.masters,
+        &database.plain,
+        client,
+        acl,
+        command,
+    )?;
+    let sno = database.plain.state().point.sno;
+    let reply = answered(&mut database.rows, planned, sno)?;
+    Ok(Some(reply))
+}
+
+// ---- both
+
+/// Whether one step does the command.
+fn is_one_step(command: &Command) -> bool
+    ensures { result ≡ is_one_step command.now }
+{
+    match command {
+        Command::RekeyPrincs(_) => false,
+        Command::Dump => false,
+        _ => true,
+    }
+}
+
+/// What is answered over the rows, where they alone decide the line, and what the model answers. The change is made on
+/// both sides.
+fn answers(
+    alloc: Global,
+    database: &mut Database,
+    client: &Name,
+    acl: Option<&Acl>,
+    command: &Command,
+) -> Result<(Option<Reply>, Reply), Fail>
+    requires { IsCommand database.old.plain.realm command.now }
+{
+    if !is_one_step(command) {
+        return Err(Fail::from("a line of one step"));
+    }
+    let of_rows = answer_of_rows(alloc, database, client, acl, command)?;
+    let (plain, of_state) = database.plain.step(alloc, client, acl, command)?;
+    database.plain = plain;
+    Ok((of_rows, of_state))
+}
+
+/// What the line says.
+#[tactic(auto, using(crate::proofs::MadeChanges::read_is))]
+fn read(alloc: Global, line: &[u8], plain: &Plain) -> Result<Result<Option<Command>, Refusal>, Fail>
+    ensures { IfOk result (λ said. IfOk said (λ c. IfSome c (IsCommand plain.now.realm))) }
+{
+    match parse_line(alloc, line, plain.state().realm.as_slice()) {
+        Ok(said) => Ok(Ok(said)),
+        Err(Stop::Refused(why)) => Ok(Err(why)),
+        Err(Stop::Halt(_)) => Err(Fail::from("no memory")),
+    }
+}
+
+/// The command that the line says.
+fn command_of(alloc: Global, line: &[u8], plain: &Plain) -> Result<Command, Fail>
+    ensures { IfOk result (IsCommand plain.now.realm) }
+{
+    match read(alloc, line, plain)? {
+        Ok(said) => match said {
+            Some(command) => Ok(command),
+            None => Err(Fail::from("a command")),
+        },
+        Err(_) => Err(Fail::from("a command")),
+    }
+}
+
+// ---- tables
+
+/// Compares the text of a reply.
+fn check_reply(
+    rt: &impl Abort,
+    alloc: Global,
+    reply: &Reply,
+    line: &[u8],
+    wanted: &str,
+) -> Result<(), Fail> {
+    let said = print_reply(alloc, reply)?;
+    let Some(said) = said.as_slice().strip_suffix(b"\n") else {
+        return Err(Fail::from("a line feed"));
+    };
+    assert_eq!(rt; said, wanted.as_bytes(), "{line:?}");
+    Ok(())
+}
+
+/// Performs the command on both sides, and compares both replies.
+fn check_command(
+    rt: &impl Abort,
+    alloc: Global,
+    database: &mut Database,
+    client: &Name,
+    acl: Option<&Acl>,
+    command: &Command,
+    line: &[u8],
+    wanted: &str,
+) -> Result<(), Fail>
+    requires { IsCommand database.old.plain.realm command.now }
+{
+    let (of_rows, of_state) = answers(alloc, database, client, acl, command)?;
+    if let Some(reply) = &of_rows {
+        check_reply(rt, alloc, reply, line, wanted)?;
+    }
+    check_reply(rt, alloc, &of_state, line, wanted)
+}
+
+/// Gives a line, and compares what is answered on both sides.
+pub(crate) fn check_line(
+    rt: &impl Abort,
+    alloc: Global,
+    database: &mut Database,
+    client: &Name,
+    acl: Option<&Acl>,
+    line: &[u8],
+    wanted: &str,
+) -> Result<(), Fail> {
+    match read(alloc, line, &database.plain)? {
+        Ok(Some(command)) => {
+            check_command(rt, alloc, database, client, acl, &command, line, wanted)
+        }
+        Ok(None) => {
+            assert_eq!(rt; wanted, "");
+            Ok(())
+        }
+        Err(why) => check_reply(rt, alloc, &Reply::Refused(why), line, wanted),
+    }
+}
+
+fn access(alloc: Global, list: Option<&str>) -> Result<Option<Acl>, Fail> {
+    let Some(list) = list else {
+        return Ok(None);
+    };
+    if list.len() > 200 {
+        return Err(Fail::from("a short list"));
+    }
+    Ok(Some(Acl::read(alloc, list.as_bytes(), REALM)?))
+}
+
+/// Gives a line of a client under an access list, where there is one.
+pub(crate) fn check_case(
+    rt: &impl Abort,
+    alloc: Global,
+    database: &mut Database,
+    list: Option<&str>,
+    client: &str,
+    line: &[u8],
+    wanted: &str,
+) -> Result<(), Fail> {
+    let acl = access(alloc, list)?;
+    let client = parse_name(alloc, client.as_bytes(), REALM)?;
+    check_line(rt, alloc, database, &client, acl.as_ref(), line, wanted)
+}
+
+/// Gives the lines one after another, and compares what is answered.
+pub(crate) fn check_cases(
+    rt: &impl Abort,
+    alloc: Global,
+    database: &mut Database,
+    cases: &[Case],
+) -> Result<(), Fail> {
+    for (list, client, line, wanted) in cases {
+        check_case(rt, alloc, database, *list, client, line.as_bytes(), wanted)?;
+    }
+    Ok(())
+}
+
+/// Gives the lines of the administrator of the machine, who has no access list.
+pub(crate) fn check_turns(
+    rt: &impl Abort,
+    alloc: Global,
+    database: &mut Database,
+    turns: &[Turn],
+) -> Result<(), Fail> {
+    for (line, wanted) in turns {
+        check_case(rt, alloc, database, None, LOCAL, line.as_bytes(), wanted)?;
+    }
+    Ok(())
+}
+
+/// Gives these lines over a new database.
+pub(crate) fn check_created(
+    rt: &impl Abort,
+    alloc: Global,
+    turns: &[Turn],
+) -> Result<Database, Fail> {
+    let mut database = created(alloc)?;
+    check_turns(rt, alloc, &mut database, turns)?;
+    Ok(database)
+}
+
+/// Whether the answers are that a change was made, on both sides alike.
+fn are_accepted(
+    rt: &impl Abort,
+    alloc: Global,
+    of_rows: &Option<Reply>,
+    of_state: &Reply,
+) -> Result<bool, Fail> {
+    let wanted = print_reply(alloc, of_state)?;
+    if let Some(reply) = of_rows {
+        let said = print_reply(alloc, reply)?;
+        assert_eq!(rt; said.as_slice(), wanted.as_slice());
+    }
+    Ok(wanted.as_slice().starts_with(b"ok "))
+}
+
+/// Whether a line of the administrator of the machine is accepted, on both sides alike.
+pub(crate) fn is_accepted(
+    rt: &impl Abort,
+    alloc: Global,
+    database: &mut Database,
+    line: &[u8],
+) -> Result<bool, Fail> {
+    let client = parse_name(alloc, LOCAL.as_bytes(), REALM)?;
+    let command = command_of(alloc, line, &database.plain)?;
+    let (of_rows, of_state) = answers(alloc, database, &client, None, &command)?;
+    are_accepted(rt, alloc, &of_rows, &of_state)
+}
+
+/// So many of a letter.
+pub(crate) fn push_letters(out: &mut Vec<u8>, letter: u8, count: usize) -> Result<(), Fail> {
+    for _ in 0..count {
+        out.push(letter)?;
+    }
+    Ok(())
+}

@@ -1,0 +1,18 @@
+//! Tests of the judge of lines over rows and of the interpreter of the model, side by side, over a database as it is made.
+//! It has no code of its own.
+#![tactic(auto)]
+
+#[cfg(test)]
+mod databases;
+#[cfg(test)]
+mod lists;
+#[cfg(test)]
+mod opening;
+#[cfg(test)]
+mod order;
+#[cfg(test)]
+mod plain;
+#[cfg(test)]
+mod script;
+#[cfg(test)]
+mod sessions;

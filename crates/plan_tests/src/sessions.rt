@@ -1,0 +1,196 @@
+//! What lines of the administrator of the machine are answered.
+
+use crate::databases::{LOCAL, Turn, check_case, check_created, created, push_letters};
+use std::alloc::Global;
+use std::process::Abort;
+use std::test::Fail;
+
+/// A principal with the keys of a password.
+const SHOWN: [Turn; 2] = [
+    ("addprinc -pw s3cret alice", "ok 2 1700000000.000000"),
+    (
+        "getprinc alice",
+        "- principal alice@EXAMPLE.ORG\n- expires never\n- pwexpires never\n\
+- pwchanged 2023-11-14T22:13:20Z\n- maxlife 0\n- maxrenewlife 0\n\
+- modified 2023-11-14T22:13:20Z admin/local@EXAMPLE.ORG\n- mkvno 1\n- flags none\n- policy -\n\
+- key 1 aes256-cts-hmac-sha1-96 normal\n- key 1 aes128-cts-hmac-sha1-96 normal\nok",
+    ),
+];
+
+/// Names, each once, and what spells none of the realm.
+const NAMES: [Turn; 8] = [
+    ("addprinc -nokey bob", "ok 2 1700000000.000000"),
+    ("addprinc -nokey bob", "err 3 Duplicate"),
+    ("addprinc -nokey a\\/b", "ok 3 1700000000.000000"),
+    ("addprinc -nokey a/b", "ok 4 1700000000.000000"),
+    ("addprinc -nokey host/", "ok 5 1700000000.000000"),
+    ("addprinc -nokey a@", "err 2 BadName 2"),
+    ("addprinc -nokey a@X@Y", "err 2 BadName 3"),
+    ("addprinc -nokey a@OTHER", "err 2 BadName 2"),
+];
+
+/// Length, classes, and the keys of passwords before.
+const PASSWORDS: [Turn; 10] = [
+    (
+        "addpol -minlength 8 -minclasses 3 -history 2 std",
+        "ok 2 1700000000.000000",
+    ),
+    (
+        "addprinc -policy std -pw Abc1234 carol",
+        "err 9 PassTooShort",
+    ),
+    (
+        "addprinc -policy std -pw Abc12345 carol",
+        "ok 3 1700000000.000000",
+    ),
+    ("cpw -pw abcd1234 carol", "err 10 PassClasses"),
+    ("cpw -pw Abc12345 carol", "err 11 PassReused"),
+    ("cpw -pw Xyz98765 carol", "ok 4 1700000000.000000"),
+    ("cpw -pw Abc12345 carol", "err 11 PassReused"),
+    ("cpw -pw Qrs45678 carol", "ok 5 1700000000.000000"),
+    ("cpw -pw Abc12345 carol", "ok 6 1700000000.000000"),
+    ("delpol std", "err 6 PolicyInUse 1"),
+];
+
+/// What is no command, words in quotes, and other words for a command.
+const LINES: [Turn; 8] = [
+    ("", ""),
+    ("# note", ""),
+    ("addprinc -nokey \"a b\"", "ok 2 1700000000.000000"),
+    ("add_principal -nokey c", "ok 3 1700000000.000000"),
+    ("delprinc -force c", "ok 4 1700000000.000000"),
+    ("\"a", "err 1 BadLine"),
+    ("frob", "err 1 BadLine"),
+    ("modprinc -maxlife x bob", "err 13 BadValue maxlife"),
+];
+
+/// String attributes, in the byte order of their keys.
+const STRINGS: [Turn; 20] = [
+    ("addprinc -nokey bob", "ok 2 1700000000.000000"),
+    ("setstr bob color blue", "ok 3 1700000000.000000"),
+    ("setstr bob age \"\"", "ok 4 1700000000.000000"),
+    ("getstrs bob", "- age \n- color blue\nok"),
+    ("delstr bob size", "err 31 UnknownString"),
+    ("setstr bob c c", "ok 5 1700000000.000000"),
+    ("setstr bob d d", "ok 6 1700000000.000000"),
+    ("setstr bob e e", "ok 7 1700000000.000000"),
+    ("setstr bob f f", "ok 8 1700000000.000000"),
+    ("setstr bob g g", "ok 9 1700000000.000000"),
+    ("setstr bob h h", "ok 10 1700000000.000000"),
+    ("setstr bob i i", "ok 11 1700000000.000000"),
+    ("setstr bob j j", "ok 12 1700000000.000000"),
+    ("setstr bob k k", "ok 13 1700000000.000000"),
+    ("setstr bob l l", "ok 14 1700000000.000000"),
+    ("setstr bob m m", "ok 15 1700000000.000000"),
+    ("setstr bob n n", "ok 16 1700000000.000000"),
+    ("setstr bob o o", "ok 17 1700000000.000000"),
+    ("setstr bob p p", "ok 18 1700000000.000000"),
+    ("setstr bob q q", "err 30 StringsFull 16"),
+];
+
+/// What the random bytes of a line make is its keys; the second line has the byte 1 in its block, and the third 2. A new
+/// name leaves the salt, and old keys stay or go.
+const KEYS: [Turn; 12] = [
+    (
+        "addprinc -randkey -e aes128-sha2,aes256-cts svc",
+        "ok 2 1700000000.000000",
+    ),
+    (
+        "extract svc",
+        "- key 1 aes128-cts-hmac-sha256-128 01010101010101010101010101010101\n\
+- key 1 aes256-cts-hmac-sha1-96 0101010101010101010101010101010101010101010101010101010101010101\nok",
+    ),
+    (
+        "cpw -randkey -keepold -e aes128-sha1 svc",
+        "ok 3 1700000000.000000",
+    ),
+    ("renprinc svc web", "ok 4 1700000000.000000"),
+    ("getprinc svc", "err 4 UnknownPrincipal"),
+    (
+        "getprinc web",
+        "- principal web@EXAMPLE.ORG\n- expires never\n- pwexpires never\n\
+- pwchanged 2023-11-14T22:13:20Z\n- maxlife 0\n- maxrenewlife 0\n\
+- modified 2023-11-14T22:13:20Z admin/local@EXAMPLE.ORG\n- mkvno 1\n- flags none\n- policy -\n\
+- key 2 aes128-cts-hmac-sha1-96 special\n- key 1 aes128-cts-hmac-sha256-128 special\n\
+- key 1 aes256-cts-hmac-sha1-96 special\nok",
+    ),
+    (
+        "extract web",
+        "- key 2 aes128-cts-hmac-sha1-96 02020202020202020202020202020202\nok",
+    ),
+    ("purgekeys -keepkvno 1 web", "ok 5 1700000000.000000"),
+    ("purgekeys web", "ok 6 1700000000.000000"),
+    ("purgekeys -keepkvno 3 web", "ok 7 1700000000.000000"),
+    ("extract web", "ok"),
+    ("getprivs", "- privileges admcilspe\nok"),
+];
+
+/// Policies, and what is listed.
+const LISTED: [Turn; 14] = [
+    (
+        "addpol -maxlife 1d -minlength 6 default",
+        "ok 2 1700000000.000000",
+    ),
+    ("addpol std", "ok 3 1700000000.000000"),
+    ("listpols", "- default\n- std\nok"),
+    (
+        "modpol -minclasses 2 -minlife 60 default",
+        "ok 4 1700000000.000000",
+    ),
+    (
+        "getpol default",
+        "- policy default\n- maxlife 86400\n- minlife 60\n- minlength 6\n- minclasses 2\n- history 1\nok",
+    ),
+    ("addprinc -nokey alice", "ok 5 1700000000.000000"),
+    ("addprinc -nokey bob", "ok 6 1700000000.000000"),
+    ("delpol default", "err 6 PolicyInUse 2"),
+    ("delprinc bob", "ok 7 1700000000.000000"),
+    ("delpol default", "err 6 PolicyInUse 1"),
+    ("modprinc -clearpolicy alice", "ok 8 1700000000.000000"),
+    ("delpol default", "ok 9 1700000000.000000"),
+    (
+        "listprincs",
+        "- K/M@EXAMPLE.ORG\n- alice@EXAMPLE.ORG\n- kadmin/history@EXAMPLE.ORG\n\
+- krbtgt/EXAMPLE.ORG@EXAMPLE.ORG\nok",
+    ),
+    ("listprincs k*/?i*", "- kadmin/history@EXAMPLE.ORG\nok"),
+];
+
+const SESSIONS: [&[Turn]; 6] = [&SHOWN, &NAMES, &LINES, &STRINGS, &KEYS, &LISTED];
+
+#[test]
+fn lines_are_answered_alike(rt: HostRuntime) -> Result<(), Fail> {
+    for turns in SESSIONS {
+        check_created(&rt, rt.alloc(), turns)?;
+    }
+    Ok(())
+}
+
+#[test]
+fn passwords_are_judged_alike(rt: HostRuntime) -> Result<(), Fail> {
+    check_created(&rt, rt.alloc(), &PASSWORDS)?;
+    Ok(())
+}
+
+/// Lines that end with so many of the letter n, and what they are answered.
+const LONG: [(&str, usize, &str); 3] = [
+    ("addprinc -nokey ", 243, "ok 2 1700000000.000000"),
+    ("addprinc -nokey ", 244, "err 2 BadName 244"),
+    ("", 65_537, "err 27 LineTooLong"),
+];
+
+fn check_long(rt: &impl Abort, alloc: Global, long: &(&str, usize, &str)) -> Result<(), Fail> {
+    let (front, count, wanted) = long;
+    let mut database = created(alloc)?;
+    let mut line = front.as_bytes().to_vec(alloc)?;
+    push_letters(&mut line, b'n', *count)?;
+    check_case(rt, alloc, &mut database, None, LOCAL, &line, wanted)
+}
+
+#[test]
+fn long_lines_are_answered_alike(rt: HostRuntime) -> Result<(), Fail> {
+    for long in &LONG {
+        check_long(&rt, rt.alloc(), long)?;
+    }
+    Ok(())
+}
