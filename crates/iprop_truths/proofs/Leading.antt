@@ -4,7 +4,7 @@ use Rattle.iprop_truths.proofs.Members.{contains_more}
 use Rattle.iprop_truths.specs.Truths.{Has, IsNext, Makes, AreLinked, GoesOn, HoldsFrom, Message, Reply, Dumped, IsTrueOf}
 use Rattle.kdb_base.specs.declared.moments.Point.{Point}
 use Rattle.kdb_places.specs.Places.{Place, Contents, base_marker, last_entries}
-use Rattle.princ_entries.specs.declared.entries.Entry.{Entry}
+use Rattle.princ_rows.specs.declared.entries.Entry.{Entry}
 
 -- ---- more places
 

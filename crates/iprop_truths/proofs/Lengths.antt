@@ -4,8 +4,8 @@ use Rattle.std.specs.Prelude.{nat_le, if◌then◌else◌}
 use Rattle.std.proofs.lemmas.Bool.{leb-false}
 use Rattle.iprop_truths.specs.Blocks.{block_for}
 use Rattle.kdb_places.specs.Places.{Place}
-use Rattle.princ_entries.specs.Entries.{entry_len}
-use Rattle.princ_entries.specs.declared.entries.Op.{Op}
+use Rattle.princ_rows.specs.Entries.{entry_len}
+use Rattle.princ_rows.specs.declared.entries.Op.{Op}
 
 takes_by : (n block : ℕ) (long : Bool) → nat_le block n ≡ long → n < (if long then (n / 2048 + 1) * 2048 else block)
 takes_by n block true is = omega arith

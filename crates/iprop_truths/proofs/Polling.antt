@@ -10,7 +10,7 @@ use Rattle.iprop_truths.specs.Polls.{WantsDump, poll_reply, told_of}
 use Rattle.iprop_truths.specs.Truths.{GoesOn, HoldsFrom, Reply, IsTrueOf}
 use Rattle.kdb_base.specs.declared.moments.Point.{Point}
 use Rattle.kdb_places.specs.Places.{Place, Contents}
-use Rattle.princ_entries.specs.declared.entries.Entry.{Entry}
+use Rattle.princ_rows.specs.declared.entries.Entry.{Entry}
 
 goes_by : (places : List Place) (asked : Point) (e : Entry) (entries us : List Entry) (d : Contents) (here : Bool) → is_point e.point asked ≡ here
     → GoesOn places e.point entries d

@@ -1,8 +1,8 @@
 -- Blocks of a log, of which an entry takes one behind a byte for its gate.
 use Rattle.std.specs.Prelude.{ℕ, ◌+◌, ◌*◌, ◌/◌, Bool, nat_le, Some, if◌then◌else◌}
 use Rattle.kdb_places.specs.Places.{Place}
-use Rattle.princ_entries.specs.Entries.{entry_len}
-use Rattle.princ_entries.specs.declared.entries.Op.{Op}
+use Rattle.princ_rows.specs.Entries.{entry_len}
+use Rattle.princ_rows.specs.declared.entries.Op.{Op}
 
 -- the entry of the change does not fit into a block
 abbrev pub is_too_long : Op → Place → Bool

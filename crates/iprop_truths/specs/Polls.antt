@@ -4,7 +4,7 @@ use Rattle.iprop_reply.specs.Polls.{status_of, updates_after}
 use Rattle.iprop_reply.specs.declared.status.Status4.{Status4}
 use Rattle.iprop_reply.specs.declared.status.Status4.TheVariants as status
 use Rattle.kdb_base.specs.declared.moments.Point.{Point}
-use Rattle.princ_entries.specs.declared.entries.Entry.{Entry}
+use Rattle.princ_rows.specs.declared.entries.Entry.{Entry}
 
 -- ---- codes
 

@@ -6,8 +6,8 @@ use Rattle.kdb_base.specs.Moments.{micros}
 use Rattle.kdb_base.specs.declared.moments.Point.{Point}
 use Rattle.kdb_places.specs.Applying.{may_apply}
 use Rattle.kdb_places.specs.Places.{Place, Contents, contents_of}
-use Rattle.princ_entries.specs.declared.entries.Entry.{Entry}
-use Rattle.princ_entries.specs.declared.entries.Op.{Op}
+use Rattle.princ_rows.specs.declared.entries.Entry.{Entry}
+use Rattle.princ_rows.specs.declared.entries.Op.{Op}
 use Rattle.princ_rows.specs.Effects.{effect}
 
 -- One of the places has these contents.

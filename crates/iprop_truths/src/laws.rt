@@ -8,9 +8,9 @@ ghost use Rattle.iprop_truths.specs.Polls.{WantsDump, poll_reply};
 ghost use Rattle.iprop_truths.specs.Truths.{Has, IsNext, Makes, HoldsFrom, Message, Reply, IsTrueOf};
 ghost use Rattle.kdb_base.specs.declared.moments.Point.{Point};
 ghost use Rattle.kdb_places.specs.Places.{Place, Contents, base_marker, last_entries};
-ghost use Rattle.princ_entries.specs.Entries.{entry_len};
-ghost use Rattle.princ_entries.specs.declared.entries.Entry.{Entry};
-ghost use Rattle.princ_entries.specs.declared.entries.Op.{Op};
+ghost use Rattle.princ_rows.specs.Entries.{entry_len};
+ghost use Rattle.princ_rows.specs.declared.entries.Entry.{Entry};
+ghost use Rattle.princ_rows.specs.declared.entries.Op.{Op};
 
 /// Where what is held leads on from a place, the reply to every poll is true of the places.
 pub fn polls_are_told_the_truth()

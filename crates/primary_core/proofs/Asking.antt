@@ -13,7 +13,7 @@ use Rattle.kdb_places.specs.Places.{Place}
 use Rattle.kdb_plain.specs.declared.states.State.{State}
 use Rattle.primary_core.specs.Opened.{HasState, IsAnswered, IsDecided, Opened, made_for, masters_behind, masters_brought, place_of}
 use Rattle.primary_core.specs.declared.decided.DecidedChange.{DecidedChange}
-use Rattle.princ_entries.specs.declared.entries.Op.{Op}
+use Rattle.princ_rows.specs.declared.entries.Op.{Op}
 
 -- ---- which plan makes a change
 

@@ -20,7 +20,7 @@ use Rattle.kdb_plain.specs.declared.states.State.{State}
 use Rattle.performed_plans.proofs.ChangedPlaces.{places_changed}
 use Rattle.primary_core.proofs.Asking.{kept, left, mastered}
 use Rattle.primary_core.proofs.Called.{call_does, call_reaches, left_at}
-use Rattle.princ_entries.specs.declared.entries.Op.{Op}
+use Rattle.princ_rows.specs.declared.entries.Op.{Op}
 use Rattle.primary_core.specs.Deciding.{change_of, places_decided, reply_of}
 use Rattle.primary_core.specs.Opened.{HasState, IsDecided, MayLeave, MayMake, Opened, made_for, masters_behind, place_of}
 use Rattle.primary_core.specs.declared.decided.Decided.{Decided}

@@ -43,7 +43,7 @@ use Rattle.primary_core.specs.Opened.{HasState, IsDecided, IsOpened, MayMake, Op
 use Rattle.primary_core.specs.declared.decided.Decided.{Decided}
 use Rattle.primary_core.specs.declared.decided.Decided.TheVariants.{Answer, Change}
 use Rattle.primary_core.specs.declared.decided.DecidedChange.{DecidedChange}
-use Rattle.princ_entries.specs.declared.entries.Op.{Op}
+use Rattle.princ_rows.specs.declared.entries.Op.{Op}
 use Rattle.princ_name.specs.Names.{NameParts}
 
 -- what is known of the commands that rows alone decide

@@ -28,7 +28,7 @@ use Rattle.kdb_plain.specs.Changes.{Spares, effect_on}
 use Rattle.kdb_plain.specs.declared.changes.PlainOp.{PlainOp}
 use Rattle.kdb_plain.specs.declared.states.State.{State}
 use Rattle.primary_core.proofs.Performed.{ask_keeps}
-use Rattle.princ_entries.specs.declared.entries.Op.{Op}
+use Rattle.princ_rows.specs.declared.entries.Op.{Op}
 use Rattle.princ_name.specs.Names.{NameParts}
 use Rattle.princ_rows.specs.Rows.{RowLists}
 

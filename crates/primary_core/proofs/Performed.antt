@@ -6,7 +6,7 @@ use Rattle.kdb_histories.specs.Seen.{Keep, Plan, Put, Write, changed, due_at, ma
 use Rattle.kdb_histories.specs.Stages.{Stashed, stage}
 use Rattle.kdb_places.specs.Places.{Place, restashed}
 use Rattle.kdb_plain.specs.declared.states.State.{State}
-use Rattle.princ_entries.specs.declared.entries.Op.{Op}
+use Rattle.princ_rows.specs.declared.entries.Op.{Op}
 
 -- nothing is made
 pub ask_keeps : (p : Place) (s : State) (ask : Ask) (answer : Answer) → outcome p.rows ask (due_at ask (seen p s)) s ≡ kept s answer → Performs p s ask answer []

@@ -23,7 +23,7 @@ use Rattle.primary_core.proofs.Asked.{secs_behind}
 use Rattle.primary_core.specs.Opened.{HasState, IsOpened, IsShown, MayMake, Opened, masters_behind, place_of}
 use Rattle.primary_core.specs.declared.decided.DecidedChange.{DecidedChange}
 use Rattle.primary_core.specs.Opening.{OpensAt}
-use Rattle.princ_entries.specs.declared.entries.Op.{Op}
+use Rattle.princ_rows.specs.declared.entries.Op.{Op}
 use Rattle.princ_rows.specs.Rows.{RowLists}
 use Rattle.row_keys.specs.Shows.{Shows}
 use Rattle.row_keys.specs.Sound.{HasState as HasStateOf, judged}

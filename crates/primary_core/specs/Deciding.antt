@@ -22,7 +22,7 @@ use Rattle.primary_core.specs.Opened.{IsDecided, MayMake, Opened, place_of}
 use Rattle.primary_core.specs.declared.decided.Decided.{Decided}
 use Rattle.primary_core.specs.declared.decided.Decided.TheVariants.{Answer, Change}
 use Rattle.primary_core.specs.declared.decided.DecidedChange.{DecidedChange}
-use Rattle.princ_entries.specs.declared.entries.Op.{Op}
+use Rattle.princ_rows.specs.declared.entries.Op.{Op}
 
 -- the commands that rows alone decide, and those of master keys
 abbrev pub is_judged : Command → Bool

@@ -23,8 +23,8 @@ use acl_text::Acl;
 use kadm_commands::NameList;
 use kdb_base::{Blob, Halt, Point, Refusal, Stop};
 use primary_answers::{bare_reply, denies_pull, list_names, reply_to, setting_denial};
-use princ_entries::{PollReply, ReplyCode};
 use princ_name::Name;
+use princ_rows::{PollReply, ReplyCode};
 use std::alloc::Global;
 
 impl Primary {

@@ -17,8 +17,8 @@ ghost use Rattle.mkey_admin.specs.Plans.{reply_at};
 ghost use Rattle.primary_core.specs.Deciding.{change_decided, ends_time, masters_changed, point_for, rows_changed};
 ghost use Rattle.primary_core.specs.declared.decided.Decided.TheVariants.{Answer, Change};
 ghost use Rattle.primary_core.specs.Opened.{place_of};
-ghost use Rattle.princ_entries.specs.Entries.{IsOp, entry_len};
-ghost use Rattle.princ_entries.specs.declared.entries.Op.{Op as Operation};
+ghost use Rattle.princ_rows.specs.Entries.{IsOp, entry_len};
+ghost use Rattle.princ_rows.specs.declared.entries.Op.{Op as Operation};
 ghost use Rattle.store_files.specs.Kept.{IsOnDisk, place_kept};
 
 use crate::decided::{Decided, DecidedChange};

@@ -23,7 +23,7 @@ ghost use Rattle.primary_core.specs.Deciding.{Decides, change_of, decided_as, is
 ghost use Rattle.primary_core.specs.Opened.{HasState, IsDecided, MayMake, command_ask, place_of};
 ghost use Rattle.primary_core.specs.declared.decided.Decided.TheVariants.{Answer, Change};
 ghost use Rattle.primary_core.specs.declared.decided.DecidedChange.{DecidedChange as ToMake};
-ghost use Rattle.princ_entries.specs.declared.entries.Op.{Op as Operation};
+ghost use Rattle.princ_rows.specs.declared.entries.Op.{Op as Operation};
 
 use crate::changing::{decide_change, decide_master_change};
 use crate::decided::Decided;

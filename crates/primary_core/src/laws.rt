@@ -23,7 +23,7 @@ ghost use Rattle.mkey_admin.specs.Plans.{IsMasterChange, is_master_command};
 ghost use Rattle.mkey_admin.specs.declared.planned.MasterChange.{MasterChange};
 ghost use Rattle.primary_core.specs.Opened.{HasState, IsDecided, Opened, made_for, masters_behind, masters_brought, place_of};
 ghost use Rattle.primary_core.specs.declared.decided.DecidedChange.{DecidedChange};
-ghost use Rattle.princ_entries.specs.declared.entries.Op.{Op};
+ghost use Rattle.princ_rows.specs.declared.entries.Op.{Op};
 ghost use Rattle.princ_name.specs.Names.{NameParts};
 
 use kdb_model::laws::{

@@ -5,10 +5,10 @@ use Rattle.iprop_reply.specs.Polls.{is_point}
 use Rattle.iprop_truths.specs.Polls.{nothing_new, reply_of, updates_here}
 use Rattle.kdb_base.specs.declared.moments.Point.{Point}
 use Rattle.kdb_places.specs.Places.{Place, point_of}
-use Rattle.princ_entries.specs.declared.entries.Entry.{Entry}
-use Rattle.princ_entries.specs.Replies.{Reply, number_of}
-use Rattle.princ_entries.specs.declared.replies.ReplyCode.{ReplyCode}
-use Rattle.princ_entries.specs.declared.replies.ReplyCode.TheVariants as code
+use Rattle.princ_rows.specs.declared.entries.Entry.{Entry}
+use Rattle.princ_rows.specs.Replies.{Reply, number_of}
+use Rattle.princ_rows.specs.declared.replies.ReplyCode.{ReplyCode}
+use Rattle.princ_rows.specs.declared.replies.ReplyCode.TheVariants as code
 use Rattle.replica_core.specs.Taking.{AtJudgement, IsStopOf, IsStoppedAs, stored_in, told_reply}
 use Rattle.replica_core.specs.declared.stops.ReplicaStop.{ReplicaStop}
 use Rattle.replica_core.specs.declared.stops.ReplicaStop.TheVariants as stop

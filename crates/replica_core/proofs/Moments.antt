@@ -17,7 +17,7 @@ use Rattle.kdb_disk.specs.Moments.{IsSettled, Keeps, LeavesOnly}
 use Rattle.kdb_disk.specs.View.{View}
 use Rattle.kdb_disk.proofs.Runs.{started, weaken}
 use Rattle.kdb_places.specs.Places.{Place}
-use Rattle.princ_entries.specs.declared.entries.Logged.{Logged}
+use Rattle.princ_rows.specs.declared.entries.Logged.{Logged}
 use Rattle.replica_core.specs.Opened.{IsHeldOn, LeavesFirst, LeavesMade, halted, place_in}
 use Rattle.replica_core.proofs.Ways.{leaves_here}
 use Rattle.store_files.specs.Found.{Found, found_by, found_done, found_in, found_last, found_log, is_placed, last_of, last_place, left_by, redone, stash_in, unit_changed}

@@ -6,7 +6,7 @@ use Rattle.iprop_reply.specs.Polls.{is_point}
 use Rattle.iprop_truths.specs.Polls.{reply_of, updates_here}
 use Rattle.kdb_base.specs.declared.moments.Point.{Point}
 use Rattle.kdb_places.specs.Places.{Place}
-use Rattle.princ_entries.specs.declared.entries.Entry.{Entry}
+use Rattle.princ_rows.specs.declared.entries.Entry.{Entry}
 use Rattle.replica_core.specs.Taking.{IsStopOf, IsStoppedAs, stored_in}
 use Rattle.replica_core.specs.declared.stops.ReplicaStop.{ReplicaStop}
 use Rattle.replica_core.proofs.Judgements.{judged_updated, made_all, stops_as, stops_first, wrong}

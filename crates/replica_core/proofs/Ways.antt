@@ -9,8 +9,8 @@ use Rattle.kdb_disk.specs.Files.{Files}
 use Rattle.kdb_places.proofs.Points.{committed_point, first_point}
 use Rattle.kdb_places.specs.Applying.{may_apply}
 use Rattle.kdb_places.specs.Places.{Place, base_marker, committed, next_point, no_point, point_of}
-use Rattle.princ_entries.specs.declared.entries.Entry.{Entry}
-use Rattle.princ_entries.specs.declared.entries.Op.{Op}
+use Rattle.princ_rows.specs.declared.entries.Entry.{Entry}
+use Rattle.princ_rows.specs.declared.entries.Op.{Op}
 use Rattle.replica_core.specs.Taking.{IsSized, one_updated}
 use Rattle.replica_steps.specs.Judging.{Gap, Judged, all_updated, anew_for, stop_in, stop_or, then_all, update_or_stop, updated}
 use Rattle.store_files.specs.Found.{recovers}

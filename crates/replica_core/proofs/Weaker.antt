@@ -4,7 +4,7 @@ use Rattle.std.specs.Prelude.{Result, Ok, Err}
 use Rattle.iprop_truths.specs.Parts.{IsPart, end_of}
 use Rattle.kdb_base.specs.declared.outcomes.Halt.TheVariants as halting
 use Rattle.kdb_places.specs.Places.{Place}
-use Rattle.princ_entries.specs.declared.entries.Entry.{Entry}
+use Rattle.princ_rows.specs.declared.entries.Entry.{Entry}
 use Rattle.replica_core.specs.Taking.{AtHalt, AtJudgement, IsStoppedAs, OnHalt, UnlessFaulted, UnlessHalted, stored_in}
 use Rattle.replica_core.specs.Opened.{HasSize, IsWhole, is_broken, place_in}
 use Rattle.replica_core.specs.declared.stops.ReplicaStop.{ReplicaStop}

@@ -5,9 +5,9 @@ use Rattle.kdb_base.specs.Moment.{Moment}
 use Rattle.kdb_base.specs.declared.outcomes.Halt.TheVariants as halting
 use Rattle.kdb_places.specs.Applying.{may_apply}
 use Rattle.kdb_places.specs.Places.{Place}
-use Rattle.princ_entries.specs.Replies.{Reply, number_of}
-use Rattle.princ_entries.specs.declared.entries.Entry.{Entry}
-use Rattle.princ_entries.specs.declared.entries.Op.{Op}
+use Rattle.princ_rows.specs.Replies.{Reply, number_of}
+use Rattle.princ_rows.specs.declared.entries.Entry.{Entry}
+use Rattle.princ_rows.specs.declared.entries.Op.{Op}
 use Rattle.replica_steps.specs.Judging.{Judged, WrongPoint, Gap, Updated, Nil, Resync, Busy, Denied, all_updated, updated}
 use Rattle.replica_core.specs.declared.stops.ReplicaStop.{ReplicaStop}
 use Rattle.replica_core.specs.declared.stops.ReplicaStop.TheVariants as stop

@@ -7,7 +7,7 @@ ghost use Rattle.replica_steps.specs.Judging.{follows, gap_in, has_next, wanted}
 
 use crate::stops::ReplicaStop;
 use kdb_base::{Point, Time};
-use princ_entries::Entry;
+use princ_rows::Entry;
 
 // The microseconds since 1970.
 fn micros(time: &Time) -> u64

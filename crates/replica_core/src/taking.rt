@@ -6,8 +6,8 @@ ghost use Rattle.iprop_reply.specs.Polls.{is_point};
 ghost use Rattle.iprop_truths.specs.Polls.{nothing_new, reply_of, updates_here};
 ghost use Rattle.kdb_base.specs.declared.outcomes.Halt.TheVariants.{DiskFault as IsDiskFault};
 ghost use Rattle.kdb_disk.specs.Frames.{IsCall, IsCrashSafe};
-ghost use Rattle.princ_entries.specs.Entries.{IsSent};
-ghost use Rattle.princ_entries.specs.declared.entries.Entry.{Entry as Update};
+ghost use Rattle.princ_rows.specs.Entries.{IsSent};
+ghost use Rattle.princ_rows.specs.declared.entries.Entry.{Entry as Update};
 ghost use Rattle.replica_core.specs.Opened.{HasSize, IsFaulty, IsHeldOn, IsWhole, LeavesMade, is_broken, place_in, place_of};
 ghost use Rattle.replica_core.specs.Taking.{IsAnswerOf, IsStopIn, OnHalt, UnlessFaulted, UnlessHalted, stored_in, told_reply};
 ghost use Rattle.replica_core.specs.declared.stops.ReplicaStop.TheVariants.{Halt as Halts};
@@ -22,7 +22,7 @@ use crate::updating::store_all;
 use kdb_base::Point;
 use kdb_disk::Disk;
 use kdb_store::Database;
-use princ_entries::{Entry, PollReply, ReplyCode};
+use princ_rows::{Entry, PollReply, ReplyCode};
 use std::alloc::Global;
 
 // Makes the updates in the database, where there is one.

@@ -5,7 +5,7 @@ ghost use Rattle.replica_core.specs.Opened.{IsHeldOn, is_broken};
 use crate::{Replica, Taken4};
 use kdb_base::Fails;
 use kdb_disk::{Disk, MemoryDisk};
-use princ_entries::{Entries, PollReply, ReplyCode};
+use princ_rows::{Entries, PollReply, ReplyCode};
 use std::alloc::Global;
 use std::test::*;
 

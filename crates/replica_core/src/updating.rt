@@ -9,7 +9,7 @@ ghost use Rattle.kdb_base.specs.declared.outcomes.Halt.TheVariants.{MemoryOut as
 ghost use Rattle.kdb_disk.specs.Frames.{IsCall, IsCrashSafe};
 ghost use Rattle.kdb_places.specs.Applying.{may_apply};
 ghost use Rattle.kdb_places.specs.Places.{next_point, point_of};
-ghost use Rattle.princ_entries.specs.Entries.{IsOp, IsSent, entry_len};
+ghost use Rattle.princ_rows.specs.Entries.{IsOp, IsSent, entry_len};
 ghost use Rattle.replica_core.specs.Taking.{IsSized, IsStopIn, OnHalt, UnlessFaulted, UnlessHalted, one_updated};
 ghost use Rattle.replica_core.specs.declared.stops.ReplicaStop.TheVariants.{Gap as IsGap, Halt as Halts};
 ghost use Rattle.replica_steps.specs.Judging.{all_updated, follows, gap_in, stop_in, stop_or, updated};
@@ -21,7 +21,7 @@ use kdb_base::{Halt, Time};
 use kdb_disk::Disk;
 use kdb_places::may_apply;
 use kdb_store::{Database, entry_length};
-use princ_entries::{Entry, Op, copy_op};
+use princ_rows::{Entry, Op, copy_op};
 use std::alloc::Global;
 
 // Tells a proof that the log holds some entry at most, and does nothing.

@@ -15,8 +15,8 @@ use Rattle.kdb_base.specs.declared.moments.Point.{Point}
 use Rattle.kdb_places.proofs.Points.{committed_point, first_point}
 use Rattle.kdb_places.specs.Applying.{may_apply}
 use Rattle.kdb_places.specs.Places.{Contents, Place, base_marker, change, committed, contents_of, created, log_anew, next_point, no_point, point_of, replaced}
-use Rattle.princ_entries.specs.declared.entries.Entry.{Entry}
-use Rattle.princ_entries.specs.declared.entries.Op.{Op}
+use Rattle.princ_rows.specs.declared.entries.Entry.{Entry}
+use Rattle.princ_rows.specs.declared.entries.Op.{Op}
 use Rattle.princ_rows.specs.Effects.{effect}
 use Rattle.princ_rows.specs.Rows.{RowLists}
 use Rattle.replica_steps.specs.Judging.{all_updated, anew_for, is_taken, made_by_reply, run_on, then_all, update_or_stop, updated}

@@ -11,8 +11,8 @@ use Rattle.iprop_truths.specs.Truths.{Has, IsNext, IsOnePerPoint, IsTrueOf, AreL
 use Rattle.kdb_base.specs.Moments.{micros}
 use Rattle.kdb_base.specs.declared.moments.Point.{Point}
 use Rattle.kdb_places.specs.Places.{Contents, Place, committed, contents_of, last_point, point_of}
-use Rattle.princ_entries.specs.declared.entries.Entry.{Entry}
-use Rattle.princ_entries.specs.declared.entries.Op.{Op}
+use Rattle.princ_rows.specs.declared.entries.Entry.{Entry}
+use Rattle.princ_rows.specs.declared.entries.Op.{Op}
 use Rattle.replica_steps.proofs.Copies.{Follows, Lands, anew_copy, anew_same, follows_at, lands}
 use Rattle.replica_steps.specs.Judging.{Gap, Updated, all_updated, anew_for, follows, gap_in, has_next, is_taken, judged, stop_in, stop_or, then_all, update_or_stop, updated, wanted}
 use Rattle.replica_steps.specs.Replicas.{IsCopy}

@@ -9,8 +9,8 @@ use Rattle.kdb_base.specs.Moments.{micros}
 use Rattle.kdb_base.specs.declared.moments.Point.{Point}
 use Rattle.kdb_places.specs.Applying.{may_apply}
 use Rattle.kdb_places.specs.Places.{Place, committed, log_anew, no_point, point_of}
-use Rattle.princ_entries.specs.declared.entries.Entry.{Entry}
-use Rattle.princ_entries.specs.declared.entries.Op.{Op}
+use Rattle.princ_rows.specs.declared.entries.Entry.{Entry}
+use Rattle.princ_rows.specs.declared.entries.Op.{Op}
 
 -- serial 0 at 0.000000 without a database
 abbrev pub point_in : Option Place → Point

@@ -12,10 +12,10 @@ use Rattle.princ_record.specs.RowLimits.{IsRow, is_row_1}
 use Rattle.princ_record.specs.RowLaws.{row_1_from}
 use Rattle.princ_record.specs.declared.princs.Princ.{Princ as Principal}
 use Rattle.princ_rows.specs.Rows.{RowLists, princ_keys, policy_keys}
-use Rattle.princ_entries.specs.Entries.{IsOp}
-use Rattle.princ_entries.specs.declared.entries.Logged.{Logged}
-use Rattle.princ_entries.specs.declared.entries.Op.{Op}
-use Rattle.princ_entries.specs.declared.entries.Op.TheVariants.{PutPrinc, DropPrinc, Rename, PutPolicy, DropPolicy}
+use Rattle.princ_rows.specs.Entries.{IsOp}
+use Rattle.princ_rows.specs.declared.entries.Logged.{Logged}
+use Rattle.princ_rows.specs.declared.entries.Op.{Op}
+use Rattle.princ_rows.specs.declared.entries.Op.TheVariants.{PutPrinc, DropPrinc, Rename, PutPolicy, DropPolicy}
 use Rattle.update_log.specs.Logs.{Journal, marker_of}
 use Rattle.update_log.specs.Runs.{stands_in, stands_in_1}
 use Rattle.update_log.specs.Slots.{IsSpelled}

@@ -11,8 +11,8 @@ use Rattle.kdb_disk.specs.Files.{Files}
 use Rattle.kdb_control.specs.Choice.{Choice}
 use Rattle.kdb_control.specs.Force.{in_force}
 use Rattle.kdb_control.specs.declared.force.Force.TheVariants.{Is}
-use Rattle.princ_entries.specs.declared.entries.Logged.{Logged}
-use Rattle.princ_entries.specs.declared.entries.Op.{Op}
+use Rattle.princ_rows.specs.declared.entries.Logged.{Logged}
+use Rattle.princ_rows.specs.declared.entries.Op.{Op}
 use Rattle.update_log.specs.Logs.{Journal, log_of}
 use Rattle.update_log.specs.Runs.{log_in}
 use Rattle.update_log.specs.Scanning.{log_found, scanned, Scans}

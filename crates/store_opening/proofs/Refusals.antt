@@ -14,7 +14,7 @@ use Rattle.kdb_control.specs.declared.reading.ControlStop.TheVariants as stops
 use Rattle.kdb_control.specs.Force.{in_force}
 use Rattle.kdb_control.specs.declared.force.Force.{Force}
 use Rattle.kdb_control.specs.declared.force.Force.TheVariants.{Is}
-use Rattle.princ_entries.specs.declared.entries.Logged.{Logged}
+use Rattle.princ_rows.specs.declared.entries.Logged.{Logged}
 use Rattle.update_log.specs.Runs.{log_in}
 use Rattle.kdb_cells.specs.Scanning.{skipping}
 use Rattle.kdb_cells.specs.Sheets.{Sheet, count_of, sheet_in}

@@ -13,7 +13,7 @@ use Rattle.kdb_control.specs.Force.{in_force}
 use Rattle.kdb_control.specs.declared.force.Force.{Force}
 use Rattle.kdb_control.specs.declared.force.Force.TheVariants.{Nothing, Is}
 use Rattle.kdb_control.specs.Moments.{LeavesEither, IsInForce}
-use Rattle.princ_entries.specs.declared.entries.Logged.{Logged}
+use Rattle.princ_rows.specs.declared.entries.Logged.{Logged}
 use Rattle.update_log.specs.Logs.{Journal, Holds, HoldsIn, marker_of}
 use Rattle.update_log.specs.Moments.{HasLog, IsDurable}
 use Rattle.update_log.specs.Runs.{stands_in, stands_in_1, log_in}

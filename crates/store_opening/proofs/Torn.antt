@@ -5,7 +5,7 @@ use Rattle.kdb_disk.specs.View.{Torn}
 use Rattle.kdb_disk.proofs.Puts.{put-put, length-put, written-same, written-other}
 use Rattle.kdb_control.specs.Choice.{Choice}
 use Rattle.kdb_control.specs.Force.{in_force}
-use Rattle.princ_entries.specs.declared.entries.Logged.{Logged}
+use Rattle.princ_rows.specs.declared.entries.Logged.{Logged}
 use Rattle.update_log.specs.Runs.{log_in}
 use Rattle.kdb_cells.specs.Cells.{Cell, IsCell, unit_size, unit_text}
 use Rattle.kdb_cells.specs.FileCells.{MayStand}

@@ -9,7 +9,7 @@ use Rattle.kdb_control.specs.Choice.{Choice}
 use Rattle.kdb_control.specs.Force.{in_force}
 use Rattle.kdb_control.specs.declared.force.Force.TheVariants.{Is}
 use Rattle.kdb_disk.specs.Files.{Files}
-use Rattle.princ_entries.specs.declared.entries.Logged.{Logged}
+use Rattle.princ_rows.specs.declared.entries.Logged.{Logged}
 use Rattle.update_log.specs.Logs.{Journal, IsJournal, log_of}
 use Rattle.update_log.specs.Runs.{stands_in, log_in}
 use Rattle.kdb_cells.specs.Cells.{Cell}

@@ -20,7 +20,7 @@ use Rattle.kdb_control.specs.Choice.{Choice}
 use Rattle.kdb_control.specs.Force.{in_force}
 use Rattle.kdb_control.specs.declared.force.Force.TheVariants.{Is}
 use Rattle.kdb_disk.specs.Files.{Files}
-use Rattle.princ_entries.specs.declared.entries.Logged.{Logged}
+use Rattle.princ_rows.specs.declared.entries.Logged.{Logged}
 use Rattle.update_log.specs.Runs.{log_in}
 use Rattle.store_files.specs.Found.{Found, unit_changed, left_by, redone, is_placed, last_of, stash_in}
 

@@ -4,7 +4,7 @@ ghost use Rattle.std.specs.Prelude.{◌≡◌, ◌*◌, ℕ, List, Option, Some,
 ghost use Rattle.kdb_disk.specs.Files.{Files, written};
 ghost use Rattle.kdb_disk.specs.View.{Torn};
 ghost use Rattle.kdb_control.specs.Choice.{Choice};
-ghost use Rattle.princ_entries.specs.declared.entries.Logged.{Logged};
+ghost use Rattle.princ_rows.specs.declared.entries.Logged.{Logged};
 ghost use Rattle.kdb_cells.specs.Cells.{unit_size, unit_text};
 ghost use Rattle.kdb_cells.specs.FileCells.{MayStand};
 ghost use Rattle.kdb_cells.specs.Sheets.{Sheet};

@@ -1,6 +1,6 @@
 //! What the last entry of a log leaves in its unit, with the memory that it wants.
 ghost use Rattle.std.specs.Prelude.{◌≡◌, ◌≤◌, ℕ, Some, None, IfOk};
-ghost use Rattle.princ_entries.specs.Entries.{IsOp};
+ghost use Rattle.princ_rows.specs.Entries.{IsOp};
 ghost use Rattle.princ_record.specs.Policies.{IsPolicy};
 ghost use Rattle.princ_record.specs.RowLimits.{IsRow};
 ghost use Rattle.kdb_cells.specs.Cells.{IsCell, IsRowOf};

@@ -11,7 +11,7 @@ use Rattle.kdb_control.specs.Force.{in_force}
 use Rattle.kdb_control.specs.declared.force.Force.{Force}
 use Rattle.kdb_control.specs.declared.force.Force.TheVariants.{Nothing, Is}
 use Rattle.kdb_control.specs.Moments.{HasInForce, Erases}
-use Rattle.princ_entries.specs.declared.entries.Logged.{Logged}
+use Rattle.princ_rows.specs.declared.entries.Logged.{Logged}
 use Rattle.update_log.specs.Runs.{log_in}
 use Rattle.store_files.specs.Found.{stash_in, last_of, found_last, found_log, found_by, found_in}
 use Rattle.store_files.specs.Recovery.{HasNone, RecoversToNone, Destroys}

@@ -4,7 +4,7 @@ use Rattle.replica_core.specs.Taking.{told_reply}
 use Rattle.replica_core.proofs.Judgements.{judged_coded}
 use Rattle.replica_core.proofs.Moments.{nothing_made}
 use Rattle.replica_steps.specs.Judging.{made_by_reply}
-use Rattle.princ_entries.specs.declared.replies.ReplyCode.TheVariants as code
+use Rattle.princ_rows.specs.declared.replies.ReplyCode.TheVariants as code
 use Rattle.replica_core.proofs.taking.take.Goals as goal
 
 pub returns-in-Nil-clause-crash : goal.returns-in-Nil-clause-crash

@@ -6,8 +6,8 @@ use Rattle.iprop_truths.specs.Parts.{IsPart, end_of}
 use Rattle.kdb_base.specs.declared.moments.Point.{Point}
 use Rattle.kdb_disk.proofs.Runs.{then_on}
 use Rattle.kdb_places.specs.Places.{point_of}
-use Rattle.princ_entries.specs.Entries.{IsSent}
-use Rattle.princ_entries.specs.declared.entries.Entry.{Entry}
+use Rattle.princ_rows.specs.Entries.{IsSent}
+use Rattle.princ_rows.specs.declared.entries.Entry.{Entry}
 use Rattle.replica_core.specs.Taking.{IsStoppedAs, one_updated}
 use Rattle.replica_core.proofs.Gaps.{runs_on}
 use Rattle.replica_core.proofs.Moments.{nothing_leaves}

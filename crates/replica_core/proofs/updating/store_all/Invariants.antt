@@ -2,7 +2,7 @@ use Rattle.std.proofs.Common.{◌≡◌, ◌≤◌, true, false, length, None}
 use Rattle.std.specs.List.{All}
 use Rattle.kdb_disk.specs.Moments.{LeavesOnly}
 use Rattle.kdb_places.specs.Places.{point_of}
-use Rattle.princ_entries.specs.Entries.{IsSent}
+use Rattle.princ_rows.specs.Entries.{IsSent}
 use Rattle.replica_core.specs.Taking.{IsSized}
 use Rattle.replica_steps.specs.Judging.{all_updated, gap_in}
 use Rattle.store_files.specs.Kept.{IsOnDisk, place_kept}

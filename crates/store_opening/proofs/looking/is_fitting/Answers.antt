@@ -1,6 +1,6 @@
 use Rattle.std.proofs.Common.{Option, true, false, sym, ap, subst, ◌∙◌}
-use Rattle.princ_entries.specs.declared.entries.Entry.{Entry}
-use Rattle.princ_entries.specs.declared.entries.Op.{Op}
+use Rattle.princ_rows.specs.declared.entries.Entry.{Entry}
+use Rattle.princ_rows.specs.declared.entries.Op.{Op}
 use Rattle.update_log.specs.Logs.{marker_of}
 use Rattle.kdb_cells.specs.Cells.{IsCell}
 use Rattle.store_files.specs.Found.{left_by}

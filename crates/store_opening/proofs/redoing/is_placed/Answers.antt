@@ -1,6 +1,6 @@
 use Rattle.std.proofs.Common.{Option, ap, subst, sym, ◌∙◌}
 use Rattle.kdb_cells.specs.Cells.{IsCell}
-use Rattle.princ_entries.specs.declared.entries.Op.{Op}
+use Rattle.princ_rows.specs.declared.entries.Op.{Op}
 use Rattle.store_files.specs.Found.{left_by, is_placed}
 use Rattle.store_opening.proofs.redoing.is_placed.Goals as goal
 

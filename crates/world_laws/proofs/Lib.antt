@@ -1,0 +1,7 @@
+pub mod Losing
+pub mod Causing
+pub mod Rising
+pub mod Opening
+pub mod Adding
+pub mod Running
+pub mod Example

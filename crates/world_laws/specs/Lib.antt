@@ -1,0 +1,5 @@
+pub mod Lost
+pub mod Causes
+pub mod Strict
+pub mod Opened
+pub mod Examples

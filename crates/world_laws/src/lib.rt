@@ -1,0 +1,4 @@
+//! Laws of worlds, whatever happens in them.
+#![tactic(auto)]
+
+pub mod laws;
