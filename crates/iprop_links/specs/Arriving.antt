@@ -1,5 +1,5 @@
 -- What comes of the bytes that a connection gives: its first whole message, or that there is none.
-use Rattle.std.specs.Prelude.{ℕ, ◌≡◌, ◌≤◌, ◌++◌, true, List, [], drop, Option, Some, None, Result, Ok, Err, option_map}
+use Rattle.std.specs.Prelude.{ℕ, ◌≡◌, ◌≤◌, ◌+◌, ◌++◌, true, List, [], drop, length, Option, Some, None, Result, Ok, Err, option_map}
 use Rattle.iprop_links.specs.declared.inbox.Arrival.{Arrival}
 use Rattle.iprop_links.specs.declared.halts.LinkHalt.{LinkHalt}
 use Rattle.iprop_links.specs.declared.inbox.Arrival.TheVariants as arrival
@@ -16,6 +16,10 @@ pub record InboxState : Type 0 where
 -- the bytes that wait, and then what the connection is still to give, where the link tells it
 abbrev pub coming : List ℕ → Option Wire → Option (List ℕ)
 coming pending told = option_map (λ w. pending ++ w.left) told
+
+-- how many bytes were received, and are still to come of the connection, where the link tells it
+abbrev pub in_all : ℕ → Option Wire → Option ℕ
+in_all received told = option_map (λ w. length w.left + received) told
 
 -- of the bytes that were to come, from this state on: the message ends in them and the others are left; they end
 -- before a message does; or no message goes on so

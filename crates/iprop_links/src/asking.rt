@@ -1,6 +1,6 @@
 //! What a replica says on a connection, and what comes of it.
 ghost use Rattle.std.specs.Prelude.{◌≡◌, ◌≤◌, ◌⊎◌, ◌∷◌, [], length, option_map, List, ℕ, Option, Some, Err, Ok, IfErr, IfOk, OnErr, OnOk};
-ghost use Rattle.iprop_links.specs.Arriving.{ArrivesOf, Counts, coming};
+ghost use Rattle.iprop_links.specs.Arriving.{ArrivesOf, Counts, coming, in_all};
 ghost use Rattle.iprop_links.specs.Asking.{MaySay, greeting, later_in, sent_in};
 ghost use Rattle.iprop_wire.specs.Decoding.{fresh};
 ghost use Rattle.iprop_wire.specs.Frames.{most_behind};
@@ -78,6 +78,7 @@ pub fn poll_peer<L: Link>(
     ensures front { (w : Wire) → L.wire link.old ≡ Some w → OnErr result (MaySay (greeting name.now poll.now) w.sent (sent_in (L.wire link.new))) }
     ensures later { (w : Wire) → L.wire link.old ≡ Some w → OnOk result (later_in (L.wire link.new) ≡ Some (behind_first w.to_come)) }
     ensures fresh { (message : Heard) → result ≡ Ok (Arrival.Came message) → inbox.new.state ≡ fresh }
+    ensures received { (w : Wire) → L.wire link.old ≡ Some w → OnOk result (in_all inbox.new.received (L.wire link.new) ≡ Some (length (first_of w.to_come))) }
     ensures too_long { (w : Wire) → L.wire link.old ≡ Some w → result ≡ Err LinkHalt.InputTooLong → 4294967296 ≤ length (first_of w.to_come) }
     ensures faults { Counts (L.faults link.old) (L.faults link.new) (result ≡ Err LinkHalt.LinkFault) }
 {
@@ -97,6 +98,7 @@ pub fn ask_dump<L: Link>(
     ensures said { OnOk result (sent_in (L.wire link.new) ≡ sent_in (after_sent (L.wire link.old) (message_text Ask))) }
     ensures part { OnErr result ((sent_in (L.wire link.new) ≡ sent_in (L.wire link.old)) ⊎ (sent_in (L.wire link.new) ≡ sent_in (after_sent (L.wire link.old) (message_text Ask)))) }
     ensures later { later_in (L.wire link.new) ≡ later_in (L.wire link.old) }
+    ensures too_long { (n : ℕ) → in_all inbox.old.received (L.wire link.old) ≡ Some n → result ≡ Err LinkHalt.InputTooLong → 4294967296 ≤ n }
     ensures faults { Counts (L.faults link.old) (L.faults link.new) (result ≡ Err LinkHalt.LinkFault) }
 {
     send_message(alloc, link, &Message::Ask)?;

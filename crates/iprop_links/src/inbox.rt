@@ -1,6 +1,6 @@
 //! Messages received over a link.
 ghost use Rattle.std.specs.Prelude.{◌≡◌, ◌≤◌, ◌<◌, ◌+◌, [], true, false, length, option_map, Option, Some, None, Err, Ok, IfErr, IfOk};
-ghost use Rattle.iprop_links.specs.Arriving.{Arrives, Counts, HasGiven, Holds, IsOver, coming};
+ghost use Rattle.iprop_links.specs.Arriving.{Arrives, Counts, HasGiven, Holds, IsOver, coming, in_all};
 ghost use Rattle.iprop_wire.specs.Decoding.{fresh, is_going};
 ghost use Rattle.iprop_wire.specs.declared.messages.Message.{Message as Heard};
 ghost use Rattle.kdb_ports.specs.Links.{Wire};
@@ -89,7 +89,7 @@ impl Inbox {
         ensures same { coming self.new.pending (L.wire link.new) ≡ coming self.old.pending (L.wire link.old) }
         ensures over { result ≡ Ok false → IsOver (coming self.new.pending (L.wire link.new)) }
         ensures gave { HasGiven (L.wire link.old) (L.wire link.new) }
-        ensures received { option_map (λ w. length w.left + self.old.received) (L.wire link.old) ≡ option_map (λ w. length w.left + self.new.received) (L.wire link.new) }
+        ensures received { in_all self.old.received (L.wire link.old) ≡ in_all self.new.received (L.wire link.new) }
         ensures falls { result ≡ Ok true → self.old.received < self.new.received }
         ensures room { self.new.received ≤ 4294967296 }
         ensures too_long { result ≡ Err LinkHalt.InputTooLong → self.new.received ≡ 4294967296 }
@@ -118,7 +118,7 @@ impl Inbox {
         ensures arrives { IfOk result (λ a. Arrives a self.old.state (coming self.old.pending (L.wire link.old)) (coming self.new.pending (L.wire link.new))) }
         ensures fresh { (message : Heard) → result ≡ Ok (Arrival.Came message) → self.new.state ≡ fresh }
         ensures gave { HasGiven (L.wire link.old) (L.wire link.new) }
-        ensures received { option_map (λ w. length w.left + self.old.received) (L.wire link.old) ≡ option_map (λ w. length w.left + self.new.received) (L.wire link.new) }
+        ensures received { in_all self.old.received (L.wire link.old) ≡ in_all self.new.received (L.wire link.new) }
         ensures room { self.new.received ≤ 4294967296 }
         ensures too_long { result ≡ Err LinkHalt.InputTooLong → self.new.received ≡ 4294967296 }
         ensures faults { Counts (L.faults link.old) (L.faults link.new) (result ≡ Err LinkHalt.LinkFault) }

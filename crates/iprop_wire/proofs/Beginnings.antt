@@ -11,11 +11,11 @@ use Rattle.kdb_format.specs.Fields.{IsBytes}
 use Rattle.kdb_format.specs.Moments.{IsPoint, point}
 use Rattle.kdb_format.specs.Spellings.{big}
 use Rattle.policy_rules.specs.Names.{is_policy_name}
-use Rattle.princ_entries.specs.Entries.{IsSent}
-use Rattle.princ_entries.specs.declared.entries.Entry.{Entry}
-use Rattle.princ_entries.specs.declared.entries.Op.{Op}
-use Rattle.princ_entries.specs.declared.entries.Op.TheVariants.{DropPolicy}
-use Rattle.princ_entries.specs.declared.replies.ReplyCode.TheVariants.{UpdateOk, Nil}
+use Rattle.princ_rows.specs.Entries.{IsSent}
+use Rattle.princ_rows.specs.declared.entries.Entry.{Entry}
+use Rattle.princ_rows.specs.declared.entries.Op.{Op}
+use Rattle.princ_rows.specs.declared.entries.Op.TheVariants.{DropPolicy}
+use Rattle.princ_rows.specs.declared.replies.ReplyCode.TheVariants.{UpdateOk, Nil}
 use Rattle.iprop_wire.specs.Answers.{IsPart}
 use Rattle.iprop_wire.specs.Beginnings.{IsBeginning}
 use Rattle.iprop_wire.specs.Decoding.{Begun, Nothing, Updates, Pieces, Going, fed, fresh, is_of_dump, may_begin, may_come}

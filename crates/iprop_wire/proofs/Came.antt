@@ -14,12 +14,12 @@ use Rattle.kdb_format.specs.Moments.{point, IsPoint, point_at, point_field}
 use Rattle.kdb_format.specs.Numbers.{big-big_number, big-byte}
 use Rattle.kdb_format.specs.Readings.{big_at, whole}
 use Rattle.kdb_format.specs.Spellings.{big}
-use Rattle.princ_entries.specs.Entries.{IsSent, sent, sent_at}
-use Rattle.princ_entries.specs.EntryLaws.{sent_field}
-use Rattle.princ_entries.specs.Replies.{IsReply, MayCome}
-use Rattle.princ_entries.specs.declared.entries.Entry.{Entry}
-use Rattle.princ_entries.specs.declared.replies.ReplyCode.{ReplyCode}
-use Rattle.princ_entries.specs.declared.replies.ReplyCode.TheVariants.{UpdateOk, FullResyncNeeded, Busy, Nil, PermDenied}
+use Rattle.princ_rows.specs.Entries.{IsSent, sent, sent_at}
+use Rattle.princ_rows.specs.EntryLaws.{sent_field}
+use Rattle.princ_rows.specs.Replies.{IsReply, MayCome}
+use Rattle.princ_rows.specs.declared.entries.Entry.{Entry}
+use Rattle.princ_rows.specs.declared.replies.ReplyCode.{ReplyCode}
+use Rattle.princ_rows.specs.declared.replies.ReplyCode.TheVariants.{UpdateOk, FullResyncNeeded, Busy, Nil, PermDenied}
 use Rattle.iprop_wire.specs.Answers.{IsPart}
 use Rattle.iprop_wire.specs.Decoding.{Begun, Nothing, Updates, Pieces, State, Going, Waits, Broken, Spent, after_ask, after_dump_frame, after_first_frame, after_frame, after_head, after_piece, after_total, after_update, after_update_frame, brings, fed, fresh, head_at, is_length, may_come, or_broken, settled, taken}
 use Rattle.iprop_wire.specs.Frames.{Frame, frame, text_of, frame_text, longest_body, most_behind, hello_kind, poll_kind, ask_kind, reply_kind, update_kind, piece_kind, total_kind}

@@ -8,10 +8,10 @@ use Rattle.kdb_format.specs.Lengths.{length-counted}
 use Rattle.kdb_format.specs.Moments.{time, point}
 use Rattle.kdb_format.specs.Numbers.{length-big}
 use Rattle.kdb_format.specs.Spellings.{big, counted}
-use Rattle.princ_entries.specs.Entries.{op_text, sent, kind_of, key_of, row_of, IsSent}
-use Rattle.princ_entries.specs.EntryLaws.{key_short, row_short}
-use Rattle.princ_entries.specs.Replies.{number_of}
-use Rattle.princ_entries.specs.declared.entries.Entry.{Entry}
+use Rattle.princ_rows.specs.Entries.{op_text, sent, kind_of, key_of, row_of, IsSent}
+use Rattle.princ_rows.specs.EntryLaws.{key_short, row_short}
+use Rattle.princ_rows.specs.Replies.{number_of}
+use Rattle.princ_rows.specs.declared.entries.Entry.{Entry}
 use Rattle.iprop_wire.specs.Frames.{frame_text, most_behind}
 use Rattle.iprop_wire.specs.Messages.{head_text}
 use Rattle.iprop_wire.specs.declared.formats.Head.{Head}

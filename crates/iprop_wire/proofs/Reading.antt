@@ -13,13 +13,13 @@ use Rattle.kdb_format.specs.Moments.{point, IsPoint, point_field}
 use Rattle.kdb_format.specs.Numbers.{big-byte, big_number-big, length-big}
 use Rattle.kdb_format.specs.Readings.{whole}
 use Rattle.kdb_format.specs.Spellings.{big}
-use Rattle.princ_entries.specs.Entries.{IsSent, sent}
-use Rattle.princ_entries.specs.EntryLaws.{sent_field}
-use Rattle.princ_entries.specs.Replies.{IsReply, MayCome}
-use Rattle.princ_entries.specs.Replies.{Reply as ReplyParts}
-use Rattle.princ_entries.specs.declared.entries.Entry.{Entry}
-use Rattle.princ_entries.specs.declared.replies.ReplyCode.{ReplyCode}
-use Rattle.princ_entries.specs.declared.replies.ReplyCode.TheVariants.{UpdateOk, FullResyncNeeded, Busy, Nil, PermDenied}
+use Rattle.princ_rows.specs.Entries.{IsSent, sent}
+use Rattle.princ_rows.specs.EntryLaws.{sent_field}
+use Rattle.princ_rows.specs.Replies.{IsReply, MayCome}
+use Rattle.princ_rows.specs.Replies.{Reply as ReplyParts}
+use Rattle.princ_rows.specs.declared.entries.Entry.{Entry}
+use Rattle.princ_rows.specs.declared.replies.ReplyCode.{ReplyCode}
+use Rattle.princ_rows.specs.declared.replies.ReplyCode.TheVariants.{UpdateOk, FullResyncNeeded, Busy, Nil, PermDenied}
 use Rattle.iprop_wire.specs.Answers.{IsPart}
 use Rattle.iprop_wire.specs.Decoding.{Begun, Nothing, Updates, Pieces, State, Going, Waits, Broken, Spent, after_dump_frame, after_first_frame, after_frame, after_head, after_total, after_update, after_update_frame, fed, fresh, is_length, may_come, or_broken, settled, taken, waiting_in}
 use Rattle.iprop_wire.specs.Frames.{Frame, frame, text_of, frame_text, most_behind, hello_kind, poll_kind, ask_kind, reply_kind, update_kind, piece_kind, total_kind}

@@ -6,7 +6,7 @@ use Rattle.std.proofs.lemmas.List.{append-nil, length-drop, length-take, take-ap
 use Rattle.std.proofs.lemmas.List.Elements.{All-from_recursion}
 use Rattle.kdb_format.specs.Moments.{point}
 use Rattle.kdb_format.specs.Spellings.{big}
-use Rattle.princ_entries.specs.declared.entries.Entry.{Entry}
+use Rattle.princ_rows.specs.declared.entries.Entry.{Entry}
 use Rattle.iprop_wire.specs.Frames.{Frame, frame, text_of, frame_text, most_behind, hello_kind, poll_kind, ask_kind, reply_kind, piece_kind, total_kind}
 use Rattle.iprop_wire.specs.Messages.{dump_frames, head_of, head_text, message_text, pieces_text, update_text}
 use Rattle.iprop_wire.specs.Spelled.{AreFrames, AreOfDump, IsMessage, IsPiece, Spells, update_frame}

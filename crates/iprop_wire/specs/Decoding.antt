@@ -4,11 +4,11 @@ use Rattle.byteorder.specs.Endian.{big_number}
 use Rattle.kdb_base.specs.declared.moments.Point.{Point}
 use Rattle.kdb_format.specs.Moments.{point_at}
 use Rattle.kdb_format.specs.Readings.{Reading, ◌>>=◌, done, known, big_at, whole}
-use Rattle.princ_entries.specs.Entries.{sent_at}
-use Rattle.princ_entries.specs.Replies.{code_of}
-use Rattle.princ_entries.specs.declared.entries.Entry.{Entry}
-use Rattle.princ_entries.specs.declared.replies.ReplyCode.{ReplyCode}
-use Rattle.princ_entries.specs.declared.replies.ReplyCode.TheVariants.{UpdateOk, FullResyncNeeded, Busy, Nil, PermDenied}
+use Rattle.princ_rows.specs.Entries.{sent_at}
+use Rattle.princ_rows.specs.Replies.{code_of}
+use Rattle.princ_rows.specs.declared.entries.Entry.{Entry}
+use Rattle.princ_rows.specs.declared.replies.ReplyCode.{ReplyCode}
+use Rattle.princ_rows.specs.declared.replies.ReplyCode.TheVariants.{UpdateOk, FullResyncNeeded, Busy, Nil, PermDenied}
 use Rattle.iprop_wire.specs.Frames.{longest_body, hello_kind, poll_kind, ask_kind, reply_kind, update_kind, piece_kind, total_kind}
 use Rattle.iprop_wire.specs.declared.formats.Head.{Head}
 use Rattle.iprop_wire.specs.declared.messages.Message.{Message}

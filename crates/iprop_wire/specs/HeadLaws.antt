@@ -9,9 +9,9 @@ use Rattle.kdb_format.specs.Laws.{same_field, first_field, then_field, last_fiel
 use Rattle.kdb_format.specs.Moments.{point, IsPoint, point_at, point_field}
 use Rattle.kdb_format.specs.Readings.{Reading, ◌>>=◌, done, known, big_at}
 use Rattle.kdb_format.specs.Spellings.{big}
-use Rattle.princ_entries.specs.Replies.{number_of, code_of}
-use Rattle.princ_entries.specs.declared.replies.ReplyCode.{ReplyCode}
-use Rattle.princ_entries.specs.declared.replies.ReplyCode.TheVariants.{UpdateOk, FullResyncNeeded, Busy, Nil, PermDenied}
+use Rattle.princ_rows.specs.Replies.{number_of, code_of}
+use Rattle.princ_rows.specs.declared.replies.ReplyCode.{ReplyCode}
+use Rattle.princ_rows.specs.declared.replies.ReplyCode.TheVariants.{UpdateOk, FullResyncNeeded, Busy, Nil, PermDenied}
 use Rattle.iprop_wire.specs.Decoding.{head_at}
 use Rattle.iprop_wire.specs.Messages.{head_text}
 use Rattle.iprop_wire.specs.declared.formats.Head.{Head}

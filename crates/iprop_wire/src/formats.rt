@@ -13,7 +13,7 @@ use kdb_base::{MemoryOut, Point};
 use kdb_format::moments::{push_point, read_point};
 use kdb_format::writing::{push_u8, push_u32, push_u64};
 use kdb_format::{Format, FormatFault, Reader};
-use princ_entries::ReplyCode;
+use princ_rows::ReplyCode;
 use std::alloc::Global;
 
 /// What the first frame of a reply says.

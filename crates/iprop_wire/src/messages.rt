@@ -4,7 +4,7 @@ ghost use Rattle.std.specs.Prelude.{◌≡◌, ◌++◌, ◌≤◌, ◌<◌, ◌
 ghost use Rattle.iprop_wire.specs.declared.messages.Message.TheVariants.{Poll, Reply};
 ghost use Rattle.std.specs.List.{All, flat_map};
 ghost use Rattle.kdb_format.specs.Spellings.{big};
-ghost use Rattle.princ_entries.specs.Entries.{IsSent};
+ghost use Rattle.princ_rows.specs.Entries.{IsSent};
 ghost use Rattle.iprop_wire.specs.Frames.{frame_text, most_behind, reply_kind};
 ghost use Rattle.iprop_wire.specs.Messages.{FitsFrames, dump_frames, head_of, head_text, message_text, pieces_text, update_text};
 
@@ -12,8 +12,8 @@ use crate::formats::{Head, HeadFormat, PointFormat, TotalFormat};
 use kdb_base::{Blob, MemoryOut, Point};
 use kdb_format::Format;
 use kdb_format::writing::{push_bytes, push_u8, push_u32};
-use princ_entries::entries::SentFormat;
-use princ_entries::{Entry, PollReply};
+use princ_rows::entries::SentFormat;
+use princ_rows::{Entry, PollReply};
 use std::alloc::Global;
 
 /// The kinds of frames from a replica.

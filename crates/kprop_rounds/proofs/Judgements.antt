@@ -8,8 +8,8 @@ use Rattle.kdb_base.specs.declared.moments.Point.{Point}
 use Rattle.kdb_places.specs.Applying.{may_apply}
 use Rattle.kdb_places.specs.Places.{Place}
 use Rattle.kprop_rounds.specs.Words.{word_of}
-use Rattle.princ_entries.specs.declared.entries.Entry.{Entry}
-use Rattle.princ_entries.specs.declared.entries.Op.{Op}
+use Rattle.princ_rows.specs.declared.entries.Entry.{Entry}
+use Rattle.princ_rows.specs.declared.entries.Op.{Op}
 use Rattle.replica_steps.specs.Judging.{Judged, WrongPoint, Gap, Updated, Nil, Resync, Busy, Denied, all_updated, first_of, follows, gap_in, is_based, is_taken, judged, judged_other, judged_updates, made_by_reply, point_in, run_on, stop_at, stop_in, stop_or, updated, wanted}
 
 pub gap_never : (based : Bool) (at : Point) (us : List Entry) → gap_in based at us ≡ Some Resync → ⊥

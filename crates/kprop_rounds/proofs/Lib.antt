@@ -1,3 +1,5 @@
 mod Heard
 mod Judgements
 mod Ends
+mod Sayings
+mod Replied

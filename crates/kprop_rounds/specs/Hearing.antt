@@ -9,9 +9,9 @@ use Rattle.iprop_wire.specs.declared.messages.Message.TheVariants.{Hello, Poll, 
 use Rattle.kdb_places.specs.Places.{no_point}
 use Rattle.kprop_rounds.specs.declared.words.RoundWord.{RoundWord}
 use Rattle.kprop_rounds.specs.declared.words.RoundWord.TheVariants as word
-use Rattle.princ_entries.specs.Replies.{Reply as ReplyParts}
-use Rattle.princ_entries.specs.declared.replies.ReplyCode.{ReplyCode}
-use Rattle.princ_entries.specs.declared.replies.ReplyCode.TheVariants as code
+use Rattle.princ_rows.specs.Replies.{Reply as ReplyParts}
+use Rattle.princ_rows.specs.declared.replies.ReplyCode.{ReplyCode}
+use Rattle.princ_rows.specs.declared.replies.ReplyCode.TheVariants as code
 
 -- what the bytes of a connection lead to, as it arrives
 abbrev pub arrived : State → Result Message RoundWord

@@ -1,21 +1,22 @@
 -- What a round comes to, by what its connection gives.
-use Rattle.std.specs.Prelude.{ℕ, ◌≡◌, ◌⊎◌, Bool, true, false, List, [], ◌∷◌, ◌++◌, drop, Option, Some, None, option_map, Result, Ok, Err, IfOk, OnErr}
+use Rattle.std.specs.Prelude.{ℕ, ◌≡◌, ◌⊎◌, Bool, true, false, List, [], ◌∷◌, ◌++◌, drop, Option, Some, None, Result, Ok, Err, IfOk, OnErr, OnOk}
 use Rattle.dump_text.specs.Judged.{judged as dump_judged}
 use Rattle.dump_text.specs.declared.dumps.Dump.{Dump}
 use Rattle.dump_text.specs.declared.stops.DumpStop.{DumpStop}
 use Rattle.dump_text.specs.declared.stops.DumpStop.TheVariants as stop
+use Rattle.iprop_links.specs.Asking.{MaySay, greeting, later_in, sent_in}
 use Rattle.iprop_wire.specs.Decoding.{fed, fresh, taken}
 use Rattle.iprop_wire.specs.Messages.{message_text}
-use Rattle.iprop_wire.specs.declared.messages.Message.TheVariants.{Hello, Poll, Ask}
+use Rattle.iprop_wire.specs.declared.messages.Message.TheVariants.{Poll, Ask}
 use Rattle.kdb_disk.specs.Files.{Files}
 use Rattle.kdb_places.specs.Places.{Place}
-use Rattle.kdb_ports.specs.Links.{Wire}
+use Rattle.kdb_ports.specs.Links.{Wire, after_sent, behind_first, first_of}
 use Rattle.kprop_rounds.specs.Hearing.{arrived, then_dump, then_reply}
 use Rattle.kprop_rounds.specs.Words.{word_of}
 use Rattle.kprop_rounds.specs.declared.words.RoundHalt.{RoundHalt}
 use Rattle.kprop_rounds.specs.declared.words.RoundWord.{RoundWord}
 use Rattle.kprop_rounds.specs.declared.words.RoundWord.TheVariants as word
-use Rattle.princ_entries.specs.Replies.{Reply}
+use Rattle.princ_rows.specs.Replies.{Reply}
 use Rattle.replica_core.specs.Opened.{LeavesMade, told_dump}
 use Rattle.replica_core.specs.Taking.{told_reply}
 use Rattle.replica_steps.specs.Bridges.{MayBePart}
@@ -50,8 +51,12 @@ abbrev pub end_by_word : ℕ → Option Place → Reply → List ℕ → Option 
 end_by_word size place r rest (Some w) = record { word = w; asks = false; made = task_makes size place (Take (told_reply r)) }
 end_by_word size place r rest None = end_of_asking size place rest
 
+-- behind a reply, where these bytes are still to come
+abbrev pub end_of_reply : ℕ → Option Place → List ℕ → Reply → RoundEnd
+end_of_reply size place rest r = end_by_word size place r rest (word_of (judged size place (told_reply r)))
+
 abbrev pub end_by_reply : ℕ → Option Place → List ℕ → Result Reply RoundWord → RoundEnd
-end_by_reply size place rest (Ok r) = end_by_word size place r rest (word_of (judged size place (told_reply r)))
+end_by_reply size place rest (Ok r) = end_of_reply size place rest r
 end_by_reply size place rest (Err w) = ended false w
 
 -- the end of a round of a replica whose connection gives these bytes
@@ -60,36 +65,21 @@ round_end size place given = end_by_reply size place (drop (taken fresh given) g
 
 -- ---- what is sent
 
-abbrev pub greeting : List ℕ → Option Place → List ℕ
-greeting name place = message_text (Hello name) ++ message_text (Poll (point_in place))
-
 abbrev pub asking : Bool → List ℕ
 asking false = []
 asking true = message_text Ask
 
 abbrev pub round_text : List ℕ → Option Place → RoundEnd → List ℕ
-round_text name place end = greeting name place ++ asking end.asks
+round_text name place end = greeting name (Poll (point_in place)) ++ asking end.asks
 
--- what was sent on each connection, where it is told
-abbrev pub sent_in : Option Wire → Option (List (List ℕ))
-sent_in told = option_map (λ w. w.sent) told
+-- an asking behind what was sent, where there is one
+abbrev pub after_asking : Bool → Option Wire → Option Wire
+after_asking false told = told
+after_asking true told = after_sent told (message_text Ask)
 
--- what the connections of later dials give
-abbrev pub later_in : Option Wire → Option (List (List ℕ))
-later_in told = option_map (λ w. w.to_come) told
-
--- a front of the text was sent on a new connection, or none was made
-pub record IsFront (text front : List ℕ) : Type 0 where
-  pub rest : List ℕ
-  pub parts : text ≡ front ++ rest
-
-pub record SaidFront (text : List ℕ) (before : List (List ℕ)) (now : Option (List (List ℕ))) : Type 0 where
-  pub front : List ℕ
-  pub is_front : IsFront text front
-  pub is : now ≡ Some (front ∷ before)
-
-abbrev pub MaySay : List ℕ → List (List ℕ) → Option (List (List ℕ)) → Type 0
-MaySay text before now = (now ≡ Some before) ⊎ SaidFront text before now
+-- of an asking nothing was sent, or all of it
+abbrev pub MayAsk : Bool → Option Wire → Option Wire → Type 0
+MayAsk asks old new = (sent_in new ≡ sent_in old) ⊎ (sent_in new ≡ sent_in (after_asking asks old))
 
 -- ---- what comes of the replica
 
@@ -98,6 +88,18 @@ pub record EndsAs (result : Result RoundWord RoundHalt) (end : RoundEnd) (old ne
   pub word_is : IfOk result (λ w. w ≡ end.word)
   pub place_is : IfOk result (λ w. new ≡ place_after old end.made)
   pub part : OnErr result (MayBePart old end.made new)
+
+-- A round of a replica by this name, over a link that told these connections before: with this end, to this place.
+pub record IsRoundOf (result : Result RoundWord RoundHalt) (name : List ℕ) (end : RoundEnd) (before : Wire) (old new : Option Place) (after : Option Wire) : Type 0 where
+  pub ends : EndsAs result end old new
+  -- what was sent on the new connection is the text of the end, or a front of it where the round was stopped
+  pub said : OnOk result (sent_in after ≡ Some (round_text name old end ∷ before.sent))
+  pub front : OnErr result (MaySay (round_text name old end) before.sent (sent_in after))
+  pub later : OnOk result (later_in after ≡ Some (behind_first before.to_come))
+
+-- the end is the one of the bytes that the next connection gives
+abbrev pub IsRound : Result RoundWord RoundHalt → List ℕ → ℕ → Wire → Option Place → Option Place → Option Wire → Type 0
+IsRound result name size before old new after = IsRoundOf result name (round_end size old (first_of before.to_come)) before old new after
 
 -- the files stand for what there was, or for a place that a reply or a dump makes
 pub record LeavesSome (size : ℕ) (place : Option Place) (files : Files) : Type 0 where

@@ -44,6 +44,7 @@ pub fn install<D: Disk>(
     ensures size { replica.new.size ≡ replica.old.size }
     ensures call { IsCall D.Disk disk.old disk.new (result ≡ Err RoundHalt.DiskFault) }
     ensures no_link { result ≡ Err RoundHalt.LinkFault → ⊥ }
+    ensures no_input { result ≡ Err RoundHalt.InputTooLong → ⊥ }
 {
     match read_dump(alloc, text) {
         Ok(dump) => match replica.load(alloc, disk, dump) {

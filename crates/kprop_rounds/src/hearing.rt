@@ -6,7 +6,7 @@ use crate::words::RoundWord;
 use iprop_links::Arrival;
 use iprop_wire::Message;
 use kdb_base::Blob;
-use princ_entries::{PollReply, ReplyCode};
+use princ_rows::{PollReply, ReplyCode};
 
 /// The message, where one came.
 fn heard(arrival: Arrival) -> Result<Message, RoundWord>

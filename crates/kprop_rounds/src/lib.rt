@@ -7,5 +7,5 @@ pub mod rounds;
 pub mod words;
 
 pub use dumps::{install, read_dump};
-pub use rounds::{pull, take};
+pub use rounds::{pull, round, take};
 pub use words::{RoundHalt, RoundWord};

@@ -1,14 +1,14 @@
 //! A round of a replica.
-ghost use Rattle.std.specs.Prelude.{◌≡◌, ◌≤◌, ◌⊎◌, ◌∷◌, false, length, List, ℕ, None, Ok, Some, Err, IfOk, OnErr, OnOk};
-ghost use Rattle.iprop_links.specs.Arriving.{Counts, coming};
-ghost use Rattle.iprop_links.specs.Asking.{MaySay, later_in, sent_in};
+ghost use Rattle.std.specs.Prelude.{◌≡◌, ◌≤◌, ◌⊎◌, ◌∷◌, [], false, length, List, ℕ, None, Ok, Some, Err, IfOk, OnErr, OnOk};
+ghost use Rattle.iprop_links.specs.Arriving.{Counts, coming, in_all};
+ghost use Rattle.iprop_links.specs.Asking.{later_in, sent_in};
 ghost use Rattle.iprop_wire.specs.Decoding.{fresh};
 ghost use Rattle.iprop_wire.specs.Frames.{most_behind};
 ghost use Rattle.iprop_wire.specs.Messages.{message_text};
 ghost use Rattle.iprop_wire.specs.declared.messages.Message.TheVariants.{Ask};
 ghost use Rattle.kdb_disk.specs.Frames.{IsCall, IsCrashSafe};
-ghost use Rattle.kdb_ports.specs.Links.{Wire, after_sent, behind_first, first_of};
-ghost use Rattle.kprop_rounds.specs.Rounds.{EndsAs, LeavesSome, end_of_asking, round_end, round_text};
+ghost use Rattle.kdb_ports.specs.Links.{Wire, after_sent, first_of};
+ghost use Rattle.kprop_rounds.specs.Rounds.{EndsAs, IsRound, LeavesSome, MayAsk, after_asking, end_of_asking, end_of_reply, round_end};
 ghost use Rattle.kprop_rounds.specs.Words.{word_of};
 ghost use Rattle.replica_core.specs.Opened.{IsHeldOn, LeavesMade, is_broken, place_of};
 ghost use Rattle.replica_core.specs.Taking.{judgement_of, told_reply};
@@ -22,7 +22,7 @@ use crate::words::{RoundHalt, RoundWord};
 use iprop_links::{Inbox, ask_dump, poll_peer};
 use kdb_disk::Disk;
 use kdb_ports::Link;
-use princ_entries::PollReply;
+use princ_rows::PollReply;
 use replica_core::{Replica, ReplicaStop, Taken4};
 use std::alloc::Global;
 
@@ -59,6 +59,7 @@ pub fn take<D: Disk>(
     ensures size { replica.new.size ≡ replica.old.size }
     ensures call { IsCall D.Disk disk.old disk.new (result ≡ Err RoundHalt.DiskFault) }
     ensures no_link { result ≡ Err RoundHalt.LinkFault → ⊥ }
+    ensures no_input { result ≡ Err RoundHalt.InputTooLong → ⊥ }
 {
     match replica.take_reply(alloc, disk, reply) {
         Ok(taken) => Ok(word_of(taken)),
@@ -87,6 +88,7 @@ pub fn pull<L: Link, D: Disk>(
     ensures said { OnOk result (sent_in (L.wire link.new) ≡ sent_in (after_sent (L.wire link.old) (message_text Ask))) }
     ensures part { OnErr result ((sent_in (L.wire link.new) ≡ sent_in (L.wire link.old)) ⊎ (sent_in (L.wire link.new) ≡ sent_in (after_sent (L.wire link.old) (message_text Ask)))) }
     ensures later { later_in (L.wire link.new) ≡ later_in (L.wire link.old) }
+    ensures too_long { (n : ℕ) → in_all inbox.old.received (L.wire link.old) ≡ Some n → result ≡ Err RoundHalt.InputTooLong → 4294967296 ≤ n }
     ensures on { D.tells → OnOk result (IsHeldOn replica.new.database (D.view disk.new)) }
     ensures whole { OnOk result (is_broken replica.new.database replica.new.failed ≡ false) }
     ensures size { replica.new.size ≡ replica.old.size }
@@ -99,5 +101,115 @@ pub fn pull<L: Link, D: Disk>(
             Err(word) => Ok(word),
         },
         Err(halt) => Err(RoundHalt::from(halt)),
+    }
+}
+
+/// Takes the reply to a poll, and pulls the dump that it asks for.
+fn answer<L: Link, D: Disk>(
+    alloc: Global,
+    replica: &mut Replica,
+    inbox: &mut Inbox,
+    link: &mut L,
+    disk: &mut D,
+    reply: PollReply,
+) -> Result<RoundWord, RoundHalt>
+    requires on { D.tells → IsHeldOn replica.old.database (D.view disk.old) }
+    requires whole { is_broken replica.old.database replica.old.failed ≡ false }
+    requires inbox { inbox.old.state ≡ fresh }
+    ensures ends { (rest : List ℕ) → coming inbox.old.pending (L.wire link.old) ≡ Some rest
+        → EndsAs result (end_of_reply replica.old.size (place_of replica.old) rest reply) (place_of replica.old) (place_of replica.new) }
+    ensures crash { (rest : List ℕ) → coming inbox.old.pending (L.wire link.old) ≡ Some rest
+        → IsCrashSafe D.Disk disk.old disk.new (LeavesMade (place_of replica.old) (end_of_reply replica.old.size (place_of replica.old) rest reply).made) }
+    ensures some { IsCrashSafe D.Disk disk.old disk.new (LeavesSome replica.old.size (place_of replica.old)) }
+    ensures said { (rest : List ℕ) → coming inbox.old.pending (L.wire link.old) ≡ Some rest
+        → OnOk result (sent_in (L.wire link.new) ≡ sent_in (after_asking (end_of_reply replica.old.size (place_of replica.old) rest reply).asks (L.wire link.old))) }
+    ensures part { (rest : List ℕ) → coming inbox.old.pending (L.wire link.old) ≡ Some rest
+        → OnErr result (MayAsk (end_of_reply replica.old.size (place_of replica.old) rest reply).asks (L.wire link.old) (L.wire link.new)) }
+    ensures later { later_in (L.wire link.new) ≡ later_in (L.wire link.old) }
+    ensures too_long { (n : ℕ) → in_all inbox.old.received (L.wire link.old) ≡ Some n → result ≡ Err RoundHalt.InputTooLong → 4294967296 ≤ n }
+    ensures on { D.tells → OnOk result (IsHeldOn replica.new.database (D.view disk.new)) }
+    ensures whole { OnOk result (is_broken replica.new.database replica.new.failed ≡ false) }
+    ensures size { replica.new.size ≡ replica.old.size }
+    ensures call { IsCall D.Disk disk.old disk.new (result ≡ Err RoundHalt.DiskFault) }
+    ensures faults { Counts (L.faults link.old) (L.faults link.new) (result ≡ Err RoundHalt.LinkFault) }
+{
+    match take(alloc, replica, disk, reply) {
+        Ok(Some(word)) => Ok(word),
+        Ok(None) => pull(alloc, replica, inbox, link, disk),
+        Err(halt) => Err(halt),
+    }
+}
+
+/// A round in an inbox to which nothing came yet.
+fn round_in<L: Link, D: Disk>(
+    alloc: Global,
+    replica: &mut Replica,
+    inbox: &mut Inbox,
+    link: &mut L,
+    disk: &mut D,
+    name: &[u8],
+) -> Result<RoundWord, RoundHalt>
+    requires on { D.tells → IsHeldOn replica.old.database (D.view disk.old) }
+    requires whole { is_broken replica.old.database replica.old.failed ≡ false }
+    requires name { length name.now ≤ most_behind }
+    requires inbox { inbox.old ≡ record { state = fresh; pending = []; received = 0 } }
+    ensures round { (w : Wire) → L.wire link.old ≡ Some w
+        → IsRound result name.now replica.old.size w (place_of replica.old) (place_of replica.new) (L.wire link.new) }
+    ensures crash { (w : Wire) → L.wire link.old ≡ Some w
+        → IsCrashSafe D.Disk disk.old disk.new (LeavesMade (place_of replica.old) (round_end replica.old.size (place_of replica.old) (first_of w.to_come)).made) }
+    ensures some { IsCrashSafe D.Disk disk.old disk.new (LeavesSome replica.old.size (place_of replica.old)) }
+    ensures on { D.tells → OnOk result (IsHeldOn replica.new.database (D.view disk.new)) }
+    ensures whole { OnOk result (is_broken replica.new.database replica.new.failed ≡ false) }
+    ensures size { replica.new.size ≡ replica.old.size }
+    ensures too_long { (w : Wire) → L.wire link.old ≡ Some w → result ≡ Err RoundHalt.InputTooLong → 4294967296 ≤ length (first_of w.to_come) }
+    ensures call { IsCall D.Disk disk.old disk.new (result ≡ Err RoundHalt.DiskFault) }
+    ensures faults { Counts (L.faults link.old) (L.faults link.new) (result ≡ Err RoundHalt.LinkFault) }
+{
+    match poll_peer(alloc, link, inbox, name, &replica.poll_message()) {
+        Ok(arrival) => match heard_reply(arrival) {
+            Ok(reply) => answer(alloc, replica, inbox, link, disk, reply),
+            Err(word) => Ok(word),
+        },
+        Err(halt) => Err(RoundHalt::from(halt)),
+    }
+}
+
+/// A round: on a new connection the replica says who it is and polls at its own point; the reply is taken, and where
+/// it has to load a whole database, it asks for the dump on the same connection and loads it.
+///
+/// # Errors
+///
+/// `LinkFault` and `DiskFault` where one of them failed, and then the replica is to be opened again; `InputTooLong` where
+/// 4294967296 bytes were received and no end had come; `MemoryOut` where memory is wanted and not given.
+pub fn round<L: Link, D: Disk>(
+    alloc: Global,
+    replica: &mut Replica,
+    link: &mut L,
+    disk: &mut D,
+    name: &[u8],
+) -> Result<RoundWord, RoundHalt>
+    requires on { D.tells → IsHeldOn replica.old.database (D.view disk.old) }
+    requires whole { is_broken replica.old.database replica.old.failed ≡ false }
+    requires name { length name.now ≤ most_behind }
+    // By the bytes that the next connection gives, where the link tells them.
+    ensures round { (w : Wire) → L.wire link.old ≡ Some w
+        → IsRound result name.now replica.old.size w (place_of replica.old) (place_of replica.new) (L.wire link.new) }
+    ensures crash { (w : Wire) → L.wire link.old ≡ Some w
+        → IsCrashSafe D.Disk disk.old disk.new (LeavesMade (place_of replica.old) (round_end replica.old.size (place_of replica.old) (first_of w.to_come)).made) }
+    // Of any link: what some reply or dump makes.
+    ensures some { IsCrashSafe D.Disk disk.old disk.new (LeavesSome replica.old.size (place_of replica.old)) }
+    ensures on { D.tells → OnOk result (IsHeldOn replica.new.database (D.view disk.new)) }
+    ensures whole { OnOk result (is_broken replica.new.database replica.new.failed ≡ false) }
+    ensures size { replica.new.size ≡ replica.old.size }
+    ensures too_long { (w : Wire) → L.wire link.old ≡ Some w → result ≡ Err RoundHalt.InputTooLong → 4294967296 ≤ length (first_of w.to_come) }
+    ensures call { IsCall D.Disk disk.old disk.new (result ≡ Err RoundHalt.DiskFault) }
+    ensures faults { Counts (L.faults link.old) (L.faults link.new) (result ≡ Err RoundHalt.LinkFault) }
+{
+    match Inbox::new(alloc) {
+        Ok(inbox) => {
+            let mut inbox = inbox;
+            round_in(alloc, replica, &mut inbox, link, disk, name)
+        }
+        Err(_) => Err(RoundHalt::MemoryOut),
     }
 }

@@ -1,0 +1,48 @@
+use Rattle.std.proofs.Common.{Err, ap, subst, ◌∙◌}
+use Rattle.kdb_base.specs.declared.outcomes.Stop.{Stop}
+use Rattle.kprop_runs.proofs.Running.{halted_run, open_some, opened_run, opened_some, refused_run}
+use Rattle.replica_core.specs.Opened.{Opened}
+use Rattle.replica_core.specs.Opening.{AnswersOpened}
+use Rattle.std.specs.Prelude.{Result}
+use Rattle.store_files.specs.Found.{recovers}
+use Rattle.kprop_runs.proofs.runs.open_and_run.Goals as goal
+
+-- ---- it was opened
+
+pub returns-in-Ok-clause-run : goal.returns-in-Ok-clause-run
+returns-in-Ok-clause-run g c tells w told =
+    opened_run c.args.asked.now (recovers (g.D.Disk.view c.args.disk.now).seen) (g.D.Disk.view c.args.disk.now) (g.D.Disk.view c.recover.new.disk) (c.recover.ensures.moments tells)
+    c.in-Ok.opened (c.in-Ok.ensures.answer tells) (g.D.Disk.view c.run_rounds.new.disk)
+    w (g.K.Sink.taken c.args.sink.now) (g.L.Link.wire c.run_rounds.new.link) (g.K.Sink.taken c.run_rounds.new.sink) c.run_rounds.result
+    (c.run_rounds.ensures.rounds w told) (c.run_rounds.ensures.stands tells w told) ((c.run_rounds.ensures.crash w told).told tells)
+
+pub returns-in-Ok-clause-some : goal.returns-in-Ok-clause-some
+returns-in-Ok-clause-some g c tells =
+    opened_some c.args.asked.now (recovers (g.D.Disk.view c.args.disk.now).seen) (g.D.Disk.view c.args.disk.now) (g.D.Disk.view c.recover.new.disk) (c.recover.ensures.moments tells)
+    c.in-Ok.opened (c.in-Ok.ensures.answer tells) (g.D.Disk.view c.run_rounds.new.disk) (c.run_rounds.ensures.some.told tells)
+
+-- ---- it was refused
+
+pub returns-in-Err-Refused-clause-run : goal.returns-in-Err-Refused-clause-run
+returns-in-Err-Refused-clause-run g c tells w told =
+    let is = c.in-Err-Refused.is ∙ ap Err c.in-Err-Refused.field-0-is in
+    let found = recovers (g.D.Disk.view c.args.disk.now).seen in
+    refused_run c.args.asked.now found (g.D.Disk.view c.args.disk.now) (g.D.Disk.view c.recover.new.disk) (c.recover.ensures.moments tells)
+    c.in-Err-Refused.refusal (subst (λ (r : Result Opened Stop). AnswersOpened c.args.asked.now.size r found) is (c.recover.ensures.answer tells)) (c.recover.ensures.refused_keeps tells c.in-Err-Refused.refusal is)
+    w (g.K.Sink.taken c.args.sink.now) (g.L.Link.wire c.args.link.now) (g.K.Sink.taken c.refuse.new.sink) c.refuse.result told
+    c.refuse.ensures.ok c.refuse.ensures.value c.refuse.ensures.err
+
+pub returns-in-Err-Refused-clause-some : goal.returns-in-Err-Refused-clause-some
+returns-in-Err-Refused-clause-some g c tells =
+    open_some c.args.asked.now (recovers (g.D.Disk.view c.args.disk.now).seen) (g.D.Disk.view c.args.disk.now) (g.D.Disk.view c.recover.new.disk) (c.recover.ensures.moments tells)
+
+-- ---- it was stopped
+
+pub returns-in-Err-Halt-clause-run : goal.returns-in-Err-Halt-clause-run
+returns-in-Err-Halt-clause-run g c tells w told =
+    halted_run c.args.asked.now (recovers (g.D.Disk.view c.args.disk.now).seen) (g.D.Disk.view c.args.disk.now) (g.D.Disk.view c.recover.new.disk) (c.recover.ensures.moments tells)
+    w (g.K.Sink.taken c.args.sink.now) (g.L.Link.wire c.args.link.now) c.from.result told
+
+pub returns-in-Err-Halt-clause-some : goal.returns-in-Err-Halt-clause-some
+returns-in-Err-Halt-clause-some g c tells =
+    open_some c.args.asked.now (recovers (g.D.Disk.view c.args.disk.now).seen) (g.D.Disk.view c.args.disk.now) (g.D.Disk.view c.recover.new.disk) (c.recover.ensures.moments tells)

@@ -1,0 +1,35 @@
+use Rattle.std.proofs.Common.{Option, subst, sym}
+use Rattle.kadm_replies.specs.Refusals.{refusal_text}
+use Rattle.kdb_base.specs.declared.outcomes.Refusal.TheVariants.{BadLine}
+use Rattle.kdb_disk.proofs.Runs.{kept}
+use Rattle.kdb_disk.specs.Moments.{LeavesOnly}
+use Rattle.kprop_runs.proofs.Running.{like_here, refusal_is, refusal_run}
+use Rattle.kprop_runs.specs.Openings.{opening_by}
+use Rattle.kprop_runs.specs.Runs.{HasRun, RunLeavesSome}
+use Rattle.kprop_runs.specs.declared.words.Asked.{Asked}
+use Rattle.store_files.specs.Found.{recovers}
+use Rattle.kprop_runs.proofs.runs.run_asked.Goals as goal
+
+pub returns-in-Some-clause-run : goal.returns-in-Some-clause-run
+returns-in-Some-clause-run g c tells w told =
+    let found = recovers (g.D.Disk.view c.args.disk.now).seen in
+    subst (λ (a : Option Asked). HasRun (opening_by a found) found w (g.K.Sink.taken c.args.sink.now) (g.D.Disk.view c.args.disk.now) (g.D.Disk.view c.open_and_run.new.disk)
+    (g.L.Link.wire c.open_and_run.new.link) (g.K.Sink.taken c.open_and_run.new.sink) c.open_and_run.result) (sym c.in-Some.is) (c.open_and_run.ensures.run tells w told)
+
+pub returns-in-None-clause-run : goal.returns-in-None-clause-run
+returns-in-None-clause-run g c tells w told =
+    let found = recovers (g.D.Disk.view c.args.disk.now).seen in
+    subst (λ (a : Option Asked). HasRun (opening_by a found) found w (g.K.Sink.taken c.args.sink.now) (g.D.Disk.view c.args.disk.now) (g.D.Disk.view c.args.disk.now)
+    (g.L.Link.wire c.args.link.now) (g.K.Sink.taken c.refuse.new.sink) c.refuse.result) (sym c.in-None.is)
+    (refusal_run BadLine found w (g.K.Sink.taken c.args.sink.now) (g.D.Disk.view c.args.disk.now) (g.D.Disk.view c.args.disk.now)
+    (g.L.Link.wire c.args.link.now) (g.K.Sink.taken c.refuse.new.sink) c.refuse.result told (kept (g.D.Disk.view c.args.disk.now))
+    c.refuse.ensures.ok c.refuse.ensures.value c.refuse.ensures.err)
+
+pub returns-in-None-clause-some : goal.returns-in-None-clause-some
+returns-in-None-clause-some g c tells =
+    let now = g.D.Disk.view c.args.disk.now in
+    subst (λ (a : Option Asked). LeavesOnly now now (RunLeavesSome (opening_by a (recovers now.seen)) (recovers now.seen) now)) (sym c.in-None.is) (like_here now)
+
+pub returns-in-None-clause-other : goal.returns-in-None-clause-other
+returns-in-None-clause-other g c none =
+    refusal_is (refusal_text BadLine) (g.K.Sink.taken c.args.sink.now) (g.K.Sink.taken c.refuse.new.sink) c.refuse.result c.refuse.ensures.ok c.refuse.ensures.value c.refuse.ensures.err

@@ -1,0 +1,15 @@
+//! A replica's run: a stated number of rounds over a link, each told in a line.
+#![tactic(auto)]
+
+pub mod halts;
+pub mod laws;
+pub mod lines;
+pub mod rounds;
+pub mod runs;
+#[cfg(test)]
+mod tests;
+pub mod words;
+
+pub use halts::RunHalt;
+pub use runs::run_replica;
+pub use words::{Asked, read_asked};

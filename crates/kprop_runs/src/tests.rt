@@ -1,0 +1,197 @@
+//! Whole runs of a replica in memory.
+
+use crate::run_replica;
+use iprop_wire::{Message, write_message};
+use kdb_base::{Blob, Fails, Status};
+use kdb_disk::MemoryDisk;
+use kdb_ports::{MemoryLink, MemorySink};
+use std::alloc::Global;
+use std::collections::VecDeque;
+use std::process::Abort;
+use std::test::Fail;
+
+/// The whole database has to be loaded, behind the point of no database.
+const RESYNC: &[u8] =
+    b"\x00\x00\x00\x12\x11\x02\x00\x00\x00\x00\x00\x00\x00\x00\x00\x00\x00\x00\x00\x00\x00\x00";
+
+/// There is nothing new behind serial 4 at 1700000000.
+const NIL: &[u8] =
+    b"\x00\x00\x00\x12\x11\x04\x00\x00\x00\x04\x65\x53\xf1\x00\x00\x00\x00\x00\x00\x00\x00\x00";
+
+/// A database at serial 4 with the principal bob.
+const DUMP: &[u8] = b"kdb dump 2\nrealm EXAMPLE.ORG\npoint 4 1700000000.000000\n\
+princ 000f626f62404558414d504c452e4f5247000000000000000000000000000000000000000000020002\
+001400f15365626f62404558414d504c452e4f524700000800020100000000000000\nend 1\n";
+
+/// A dump whose third line is no point.
+const BAD: &[u8] = b"kdb dump 2\nrealm EXAMPLE.ORG\npoint\n";
+
+/// A database at serial 2 with the principals amy and bob.
+const TWO: &[u8] = b"kdb dump 2\nrealm EXAMPLE.ORG\npoint 2 1700000000.000000\n\
+princ 000f616d79404558414d504c452e4f5247000000000000000000000000000000000000000000020002\
+001400f15365626f62404558414d504c452e4f524700000800020100000000000000\n\
+princ 000f626f62404558414d504c452e4f5247000000000000000000000000000000000000000000020002\
+001400f15365626f62404558414d504c452e4f524700000800020100000000000000\nend 2\n";
+
+/// Two updates behind serial 2 at 1700000000, by which bob and then amy are deleted.
+const UPDATES: &[u8] =
+    b"\x00\x00\x00\x12\x11\x00\x00\x00\x00\x02\x65\x53\xf1\x00\x00\x00\x00\x00\x00\x00\x00\x02\
+\x00\x00\x00\x21\x14\x00\x00\x00\x03\x65\x53\xf1\x00\x00\x00\x00\x00\x02\x00\x0fbob@EXAMPLE.ORG\x00\x00\
+\x00\x00\x00\x21\x14\x00\x00\x00\x04\x65\x53\xf1\x00\x00\x00\x00\x00\x02\x00\x0famy@EXAMPLE.ORG\x00\x00";
+
+/// The words of a run.
+const WORDS: &str = "replica/one@EXAMPLE.ORG 2 1000";
+
+/// The reply that the whole database has to be loaded, and this dump behind it.
+fn resync(alloc: Global, dump: &[u8]) -> Result<Blob, Fail> {
+    let message = Message::DumpText(Blob::from_bytes(alloc, dump)?);
+    let frames = write_message(alloc, &message)?;
+    let mut text = RESYNC.to_vec(alloc)?;
+    text.extend_from_slice(frames.as_slice())?;
+    Ok(Blob::from_vec(text))
+}
+
+/// What the connections of a link give: this first, and then each of the others.
+fn gives_of(alloc: Global, first: Blob, others: &[&[u8]]) -> Result<VecDeque<Blob>, Fail> {
+    let mut gives = VecDeque::new(alloc);
+    gives.push_back(first)?;
+    for other in others {
+        gives.push_back(Blob::from_bytes(alloc, other)?)?;
+    }
+    Ok(gives)
+}
+
+/// A link with such connections.
+fn link_of(alloc: Global, first: Blob, others: &[&[u8]]) -> Result<MemoryLink, Fail> {
+    let gives = gives_of(alloc, first, others)?;
+    Ok(MemoryLink::new(alloc, gives, Fails::none(alloc))?)
+}
+
+fn words_of(alloc: Global, line: &str) -> Result<Vec<Vec<u8>>, Fail> {
+    let mut words = Vec::new(alloc);
+    for word in line.split(' ') {
+        words.push(word.as_bytes().to_vec(alloc)?)?;
+    }
+    Ok(words)
+}
+
+/// Runs on an empty disk, and compares what was written.
+fn check(
+    rt: &impl Abort,
+    alloc: Global,
+    line: &str,
+    link: &mut MemoryLink,
+    status: Status,
+    text: &[u8],
+) -> Result<(), Fail> {
+    let words = words_of(alloc, line)?;
+    let mut sink = MemorySink::new(alloc, Fails::none(alloc))?;
+    let mut disk = MemoryDisk::new(alloc, Fails::none(alloc))?;
+    let ended = run_replica(alloc, &words, link, &mut sink, &mut disk);
+    assert_eq!(rt; sink.written(), text);
+    assert_eq!(rt; ended, status);
+    Ok(())
+}
+
+#[test]
+fn a_dump_is_loaded_and_nothing_comes_behind(rt: HostRuntime) -> Result<(), Fail> {
+    let alloc = rt.alloc();
+    let mut link = link_of(alloc, resync(alloc, DUMP)?, &[NIL])?;
+    let text = b"- round 1 loaded 4 1700000000.000000\n\
+- round 2 nil 4 1700000000.000000\nok 4 1700000000.000000\n";
+    check(&rt, alloc, WORDS, &mut link, Status::Done, text)?;
+    assert!(rt; link.sent(1).is_some());
+    assert!(rt; link.sent(2).is_none());
+    Ok(())
+}
+
+#[test]
+fn what_is_refused_is_told(rt: HostRuntime) -> Result<(), Fail> {
+    let alloc = rt.alloc();
+    let mut link = link_of(alloc, resync(alloc, BAD)?, &[b"\x00\x00\x00\x00"])?;
+    let text = b"- round 1 refused DumpBad 3 0 0.000000\n\
+- round 2 refused BadFrame 0 0.000000\nok 0 0.000000\n";
+    check(&rt, alloc, WORDS, &mut link, Status::Refused, text)?;
+    let mut link = link_of(alloc, resync(alloc, DUMP)?, &[RESYNC])?;
+    let text = b"- round 1 loaded 4 1700000000.000000\n\
+- round 2 cut 4 1700000000.000000\nok 4 1700000000.000000\n";
+    check(&rt, alloc, WORDS, &mut link, Status::Done, text)
+}
+
+#[test]
+fn updates_are_taken_once(rt: HostRuntime) -> Result<(), Fail> {
+    let alloc = rt.alloc();
+    let mut link = link_of(alloc, resync(alloc, TWO)?, &[UPDATES, UPDATES])?;
+    let text = b"- round 1 loaded 2 1700000000.000000\n\
+- round 2 updated 2 4 1700000000.000000\n\
+- round 3 refused WrongPoint 4 1700000000.000000\nok 4 1700000000.000000\n";
+    let words = "replica/one@EXAMPLE.ORG 3 1000";
+    check(&rt, alloc, words, &mut link, Status::Refused, text)
+}
+
+#[test]
+fn a_dump_that_ends_early_loads_nothing(rt: HostRuntime) -> Result<(), Fail> {
+    let alloc = rt.alloc();
+    let whole = resync(alloc, DUMP)?;
+    let part = whole.as_slice().first_chunk::<60>();
+    assert!(rt; part.is_some());
+    let Some(part) = part else { return Ok(()) };
+    let mut link = link_of(alloc, Blob::from_bytes(alloc, part)?, &[NIL])?;
+    let text = b"- round 1 cut 0 0.000000\n\
+- round 2 refused WrongPoint 0 0.000000\nok 0 0.000000\n";
+    check(&rt, alloc, WORDS, &mut link, Status::Refused, text)
+}
+
+#[test]
+fn a_call_of_the_link_that_fails_ends_the_run(rt: HostRuntime) -> Result<(), Fail> {
+    let alloc = rt.alloc();
+    let whole = b"- round 1 loaded 4 1700000000.000000\n\
+- round 2 nil 4 1700000000.000000\nok 4 1700000000.000000\n";
+    let words = words_of(alloc, WORDS)?;
+    let mut went_through = false;
+    for call in 0..16 {
+        let gives = gives_of(alloc, resync(alloc, DUMP)?, &[NIL])?;
+        let mut fails = Vec::new(alloc);
+        fails.push(call)?;
+        let mut link = MemoryLink::new(alloc, gives, Fails::from_vec(fails))?;
+        let mut sink = MemorySink::new(alloc, Fails::none(alloc))?;
+        let mut disk = MemoryDisk::new(alloc, Fails::none(alloc))?;
+        let ended = run_replica(alloc, &words, &mut link, &mut sink, &mut disk);
+        assert!(rt; whole.starts_with(sink.written()));
+        went_through = went_through || ended == Status::Done;
+        let awaited = if went_through {
+            Status::Done
+        } else {
+            Status::LinkFault
+        };
+        assert_eq!(rt; ended, awaited);
+    }
+    assert!(rt; went_through);
+    Ok(())
+}
+
+#[test]
+fn other_words_are_refused(rt: HostRuntime) -> Result<(), Fail> {
+    let alloc = rt.alloc();
+    for line in [
+        "replica/one@EXAMPLE.ORG 2",
+        "replica/one@EXAMPLE.ORG 2 1000 x",
+        "replica/one 2 1000",
+        "replica/one@EXAMPLE.ORG 4294967296 1000",
+        "replica/one@EXAMPLE.ORG 2 1",
+        "replica/one@EXAMPLE.ORG 2 10001",
+        "replica/one@EXAMPLE.ORG -1 1000",
+    ] {
+        let mut link = link_of(alloc, resync(alloc, DUMP)?, &[NIL])?;
+        check(
+            &rt,
+            alloc,
+            line,
+            &mut link,
+            Status::Refused,
+            b"err 1 BadLine\n",
+        )?;
+        assert!(rt; link.sent(0).is_none());
+    }
+    Ok(())
+}
