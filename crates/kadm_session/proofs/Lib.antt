@@ -1,6 +1,6 @@
 pub mod Coming
-pub mod Drawing
 pub mod Naming
+pub mod Leaving
 pub mod Making
 pub mod Moving
 pub mod Lines
@@ -8,3 +8,6 @@ pub mod Renewed
 pub mod Going
 pub mod Turning
 pub mod StashAsked
+pub mod Reaching
+pub mod Showing
+pub mod Happening

@@ -1,12 +1,15 @@
 -- A line that rekeys many, as it is told.
-use Rattle.std.proofs.Common.{◌≡◌, ◌∙◌, ℕ, suc, List, [], ◌∷◌, refl, ap, sym, subst, arith}
+use Rattle.std.proofs.Common.{◌≡◌, ◌∙◌, ℕ, suc, List, [], ◌∷◌, refl, ap, sym, subst, inr, arith}
 use Rattle.std.specs.Prelude.{Option, Some, None, Result, Ok, Err, IfOk, IfSome, option_map}
 use Rattle.std.specs.List.{Contains}
 use Rattle.iprop_truths.specs.Parts.{end_of}
 use Rattle.kadm_commands.specs.declared.replies.Reply.{Reply}
 use Rattle.kdb_base.specs.Moment.{Moment}
+use Rattle.kdb_disk.proofs.Runs.{weaken}
+use Rattle.kdb_disk.specs.Frames.{IsCrashSafe}
 use Rattle.kdb_disk.specs.declared.disk.Disk.{Ghosts}
 use Rattle.kdb_histories.specs.Seen.{Seen, seen}
+use Rattle.kdb_model.specs.Laws.{IsMoment}
 use Rattle.kdb_places.specs.Places.{Place}
 use Rattle.kdb_plain.specs.Lists.{princ_names}
 use Rattle.kdb_plain.specs.declared.states.State.{State}
@@ -15,7 +18,8 @@ use Rattle.primary_answers.specs.Listing.{names_told}
 use Rattle.primary_core.specs.Opened.{Opened, place_of}
 use Rattle.store_files.specs.Recovery.{RecoversTo}
 use Rattle.kadm_session.specs.Deciding.{AreMade, Answers, Decides, IsHalfway, IsLineSafe, MayRest}
-use Rattle.kadm_session.specs.Draws.{Draws, told_draws}
+use Rattle.session_base.specs.Draws.{Draws, told_draws}
+use Rattle.kadm_session.specs.Events.{AreRekeyings, IsPerformed, LineReaches, RecoversWhere, RekeyingsReach}
 use Rattle.kadm_session.specs.Rekeying.{begun, rekeyed, rekeyed_reply}
 use Rattle.kadm_session.specs.RekeyedNames.{AreRekeyed, IsRekeyed, IsRekeyedPart, IsRekeyedSafe}
 use Rattle.kadm_session.specs.Steps.{draws_after, places_by, reply_to, seen_after}
@@ -41,16 +45,27 @@ halfway_as g new asked does told at is half = subst (λ (a : Asked). IsHalfway g
 
 -- ---- many
 
+performed_told : (glob : Option (List ℕ)) (words : List (List ℕ)) (moments : Option (ℕ → Moment)) (stream : Option (ℕ → ℕ)) (now : Moment) (o : Opened) (s : State)
+    → words ≡ names_told glob (princ_names s.princs) → IsMoment now → IfSome moments (λ f. now ≡ f 0)
+    → IfSome stream (λ bytes. AreRekeyings words now (begun (seen (place_of o) s) bytes))
+    → IfSome (told_draws moments stream) (λ draws. IsPerformed (Rekeys glob) draws (seen (place_of o) s))
+performed_told glob words None stream now o s names moment first are = tt
+performed_told glob words (Some moments) None now o s names moment first are = tt
+performed_told glob words (Some moments) (Some bytes) now o s names moment first are =
+    let p = begun (seen (place_of o) s) bytes in
+    (subst IsMoment first moment, subst (λ (w : List (List ℕ)). AreRekeyings w (moments 0) p) names (subst (λ (m : Moment). AreRekeyings words m p) first are))
+
 -- they were rekeyed at the moment that came next
 pub decides_rekeyed : (glob : Option (List ℕ)) (words : List (List ℕ)) (moments moments' : Option (ℕ → Moment)) (stream left : Option (ℕ → ℕ)) (now : Moment) (o new : Opened) (s : State) (answer : Reply)
-    → words ≡ names_told glob (princ_names s.princs) → IfSome moments (λ f. now ≡ f 0) → moments' ≡ option_map later_moments moments
+    → IsMoment now → words ≡ names_told glob (princ_names s.princs) → IfSome moments (λ f. now ≡ f 0) → moments' ≡ option_map later_moments moments
     → IsRekeyed words now stream (seen (place_of o) s) answer new left
     → Decides (Rekeys glob) (told_draws moments stream) (seen (place_of o) s) (Some answer) new (told_draws moments' left)
 unfolding reply_to seen_after draws_after
-decides_rekeyed glob words moments moments' stream left now o new s answer names first others done = record {
+decides_rekeyed glob words moments moments' stream left now o new s answer moment names first others done = record {
   later = done.later;
   stands = done.stands;
   answers = by moments stream first others done.are;
+  performed = performed_told glob words moments stream now o s names moment first done.performed;
 }
   where
     by : (m : Option (ℕ → Moment)) (b : Option (ℕ → ℕ)) → IfSome m (λ f. now ≡ f 0) → moments' ≡ option_map later_moments m
@@ -65,21 +80,41 @@ decides_rekeyed glob words moments moments' stream left now o new s answer names
     )
 
 pub decides_matched : {E : Type 0} (result : Result Reply E) (glob : Option (List ℕ)) (words : List (List ℕ)) (moments moments' : Option (ℕ → Moment)) (stream left : Option (ℕ → ℕ)) (now : Moment) (o new : Opened) (s : State)
-    → words ≡ names_told glob (princ_names s.princs) → IfSome moments (λ f. now ≡ f 0) → moments' ≡ option_map later_moments moments
+    → IsMoment now → words ≡ names_told glob (princ_names s.princs) → IfSome moments (λ f. now ≡ f 0) → moments' ≡ option_map later_moments moments
     → IfOk result (λ answer. IsRekeyed words now stream (seen (place_of o) s) answer new left)
     → IfOk result (λ answer. Decides (Rekeys glob) (told_draws moments stream) (seen (place_of o) s) (Some answer) new (told_draws moments' left))
-decides_matched (Ok answer) glob words moments moments' stream left now o new s names first others done = decides_rekeyed glob words moments moments' stream left now o new s answer names first others done
-decides_matched (Err halt) glob words moments moments' stream left now o new s names first others done = tt
+decides_matched (Ok answer) glob words moments moments' stream left now o new s moment names first others done = decides_rekeyed glob words moments moments' stream left now o new s answer moment names first others done
+decides_matched (Err halt) glob words moments moments' stream left now o new s moment names first others done = tt
+
+reaches_told : {D : Type 0} (g : Ghosts D) (old new : D) (glob : Option (List ℕ)) (words : List (List ℕ)) (moments : Option (ℕ → Moment)) (stream : Option (ℕ → ℕ)) (now : Moment) (o : Opened) (s : State)
+    → words ≡ names_told glob (princ_names s.princs) → IsMoment now → IfSome moments (λ f. now ≡ f 0)
+    → IfSome stream (λ bytes. IsCrashSafe g old new (RecoversWhere (RekeyingsReach words now (begun (seen (place_of o) s) bytes))))
+    → IfSome (told_draws moments stream) (λ draws. IsCrashSafe g old new (RecoversWhere (LineReaches (Rekeys glob) draws (seen (place_of o) s))))
+reaches_told g old new glob words None stream now o s names moment first safe = tt
+reaches_told g old new glob words (Some moments) None now o s names moment first safe = tt
+reaches_told g old new glob words (Some moments) (Some bytes) now o s names moment first safe =
+    let p = begun (seen (place_of o) s) bytes in
+    record {
+      told = λ tells. weaken (safe.told tells) (λ c found. record {
+        place = found.place;
+        is = found.is;
+        reached = inr (
+          subst IsMoment first moment,
+          subst (λ (w : List (List ℕ)). RekeyingsReach w (moments 0) p found.place) names (subst (λ (m : Moment). RekeyingsReach words m p found.place) first found.reached),
+        );
+      });
+    }
 
 pub line_rekeyed : {D : Type 0} (g : Ghosts D) (old new : D) (glob : Option (List ℕ)) (words : List (List ℕ)) (moments : Option (ℕ → Moment)) (stream : Option (ℕ → ℕ)) (now : Moment) (o : Opened) (s : State)
-    → words ≡ names_told glob (princ_names s.princs) → IfSome moments (λ f. now ≡ f 0)
+    → IsMoment now → words ≡ names_told glob (princ_names s.princs) → IfSome moments (λ f. now ≡ f 0)
     → IsRekeyedSafe g old new words now stream (seen (place_of o) s)
     → IsLineSafe g old new (Rekeys glob) (told_draws moments stream) (seen (place_of o) s)
 unfolding places_by
-line_rekeyed g old new glob words moments stream now o s names first safe = record {
+line_rekeyed g old new glob words moments stream now o s moment names first safe = record {
   made = safe.made;
   are = by moments stream first safe.are;
   safe = safe.safe;
+  reaches = reaches_told g old new glob words moments stream now o s names moment first safe.reaches;
 }
   where
     by : (m : Option (ℕ → Moment)) (b : Option (ℕ → ℕ)) → IfSome m (λ f. now ≡ f 0)

@@ -1,66 +1,37 @@
 -- What was decided and made, as the ask of a line.
-use Rattle.std.proofs.Common.{◌≡◌, ◌∙◌, ℕ, List, [], ◌∷◌, Bool, true, false, if◌then◌else◌, refl, ap, sym, subst, inl}
+use Rattle.std.proofs.Common.{◌≡◌, ◌∙◌, ℕ, List, [], ◌∷◌, Bool, true, false, if◌then◌else◌, refl, ap, sym, subst, inr}
 use Rattle.std.proofs.lemmas.Option.{same_Some}
 use Rattle.std.specs.Prelude.{Option, Some, None, Result, Ok, Err, IfOk, IfSome, OnOk, option_map}
 use Rattle.iprop_truths.specs.Parts.{end_of}
 use Rattle.kadm_commands.specs.declared.commands.Command.{Command}
 use Rattle.kadm_commands.specs.declared.replies.Reply.{Reply}
 use Rattle.kdb_base.specs.Moment.{Moment}
-use Rattle.kdb_disk.specs.Files.{Files}
 use Rattle.kdb_disk.specs.Frames.{IsCrashSafe}
-use Rattle.kdb_disk.specs.Moments.{LeavesOnly}
 use Rattle.kdb_disk.specs.declared.disk.Disk.{Ghosts}
-use Rattle.kdb_disk.proofs.Runs.{started}
+use Rattle.kdb_disk.proofs.Runs.{weaken}
 use Rattle.kdb_histories.specs.Asks.{Ask, Replied, clock_of}
+use Rattle.kdb_histories.specs.Calls.{Perform}
+use Rattle.kdb_histories.specs.Leaving.{MayReach}
 use Rattle.kdb_histories.specs.Moves.{IsLeft}
 use Rattle.kdb_histories.specs.Seen.{Seen, after_ask, answer_at, changed, entry_point, is_due, made_at, seen}
 use Rattle.kdb_histories.specs.Stages.{places}
+use Rattle.kdb_model.specs.Laws.{IsMoment}
 use Rattle.kdb_places.specs.Places.{Place}
 use Rattle.kdb_plain.specs.declared.states.State.{State}
 use Rattle.kdb_ports.specs.Told.{later_bytes, later_moments}
 use Rattle.performed_plans.specs.Ready.{change_places}
-use Rattle.primary_core.specs.Opened.{HasState, IsDecided, MayMake, Opened, made_for, masters_behind, masters_brought, place_of}
+use Rattle.primary_core.specs.Opened.{HasState, IsDecided, MayLeave, MayMake, Opened, made_for, masters_behind, masters_brought, place_of}
 use Rattle.primary_core.specs.declared.decided.DecidedChange.{DecidedChange}
-use Rattle.princ_entries.specs.declared.entries.Op.{Op}
-use Rattle.store_files.specs.Found.{recovers}
-use Rattle.store_files.specs.Recovery.{LeavesPart, RecoversTo}
+use Rattle.princ_rows.specs.declared.entries.Op.{Op}
+use Rattle.store_files.specs.Recovery.{LeavesPart}
 use Rattle.kadm_session.specs.Deciding.{AreMade, Answers, Decides, IsLineSafe, StandsAt}
-use Rattle.kadm_session.specs.Draws.{Draws, bytes_of, told_draws}
+use Rattle.session_base.specs.Draws.{bytes_of, told_draws}
+use Rattle.kadm_session.specs.Events.{IsDone, IsPerformed, LineReaches, Performed, RecoversWhere}
 use Rattle.kadm_session.specs.Steps.{ask_at, draws_after, places_by, reply_in_answer, reply_to, seen_after}
 use Rattle.kadm_session.specs.declared.commands.Judged.{Judged}
-use Rattle.kadm_session.specs.declared.intake.Asked.{Asked}
-use Rattle.kadm_session.specs.declared.replies.Printed.{Printed}
+use Rattle.session_base.specs.declared.replies.Printed.{Printed}
 use Rattle.kadm_session.specs.declared.intake.Asked.TheVariants.{Does}
-
--- ---- a crash leaves the place where nothing is done
-
-pub leaves_first : (p : Place) (places : List Place) (c : Files) → recovers c ≡ Ok p → LeavesPart p places c
-unfolding LeavesPart
-leaves_first p [] c is = is
-leaves_first p (q ∷ places) c is = inl is
-
-pub crash_still : {D : Type 0} (g : Ghosts D) (old new : D) (p : Place) (places : List Place) → new ≡ old → (g.tells → RecoversTo p (g.view old)) → IsCrashSafe g old new (LeavesPart p places)
-crash_still {D} g old new p places same recovered = record {
-  told = λ tells.
-      subst (λ (x : D). LeavesOnly (g.view old) (g.view x) (LeavesPart p places)) (sym same)
-      (started (g.view old) (LeavesPart p places) (λ c image. leaves_first p places c (recovered tells c image)));
-}
-
-made_told : Asked → Option Draws → Seen → List Place
-made_told asked None at = []
-made_told asked (Some draws) at = places_by asked draws at
-
-made_so : (asked : Asked) (told : Option Draws) (at : Seen) → AreMade asked told at (made_told asked told at)
-unfolding made_told
-made_so asked None at = tt
-made_so asked (Some draws) at = refl
-
-pub safe_still : {D : Type 0} (g : Ghosts D) (old new : D) (asked : Asked) (told : Option Draws) (at : Seen) → new ≡ old → (g.tells → RecoversTo at.place (g.view old)) → IsLineSafe g old new asked told at
-safe_still g old new asked told at same recovered = record {
-  made = made_told asked told at;
-  are = made_so asked told at;
-  safe = crash_still g old new at.place (made_told asked told at) same recovered;
-}
+use Rattle.kadm_session.proofs.Leaving.{crash_made, made_leaves, performed_done, performed_own}
 
 -- ---- nothing is to be made, or a change
 
@@ -88,9 +59,21 @@ places_are law o ask reply change made s now clock some is has =
     ∙ law ask made.op (place_of o)
     ∙ ap (λ (m : Moment). change_places m made.op (place_of o)) clock
 
--- a crash leaves the place of before, or one of the change
-pub crash_changing : {D : Type 0} (g : Ghosts D) (old new : D) (p : Place) (made others : List Place) → others ≡ made → IsCrashSafe g old new (LeavesPart p made) → IsCrashSafe g old new (LeavesPart p others)
-crash_changing g old new p made others same safe = subst (λ (places : List Place). IsCrashSafe g old new (LeavesPart p places)) (sym same) safe
+-- a crash leaves what it may leave of the ask
+pub crash_changing : {D : Type 0} (g : Ghosts D) (old new : D) (o : Opened) (ask : Ask) (reply : Reply) (change : Option DecidedChange) (s : State) (made : List Place) → IsDecided o ask reply change → HasState o s
+    → places (made_at ask (seen (place_of o) s)) ≡ made → IsCrashSafe g old new (LeavesPart (place_of o) made) → IsCrashSafe g old new (MayLeave (place_of o) s (Perform ask))
+crash_changing g old new o ask reply change s made is has same safe =
+    let p = place_of o in
+    made_leaves g old new p s ask (Replied reply) (made_at ask (seen p s)) (performed_own p s ask (Replied reply) (made_for ask change p) (is.performs s has))
+    (subst (λ (ps : List Place). IsCrashSafe g old new (LeavesPart p ps)) (sym same) safe)
+
+-- the reply that was printed is the ask's
+pub performed_same : {E : Type 0} (r : Result Printed E) (o : Opened) (ask : Ask) (change : Option DecidedChange) (s : State) (given : Printed) → IfOk r (λ printed. printed ≡ given)
+    → IsDecided o ask given.reply change → HasState o s → IfOk r (λ printed. Performed ask (seen (place_of o) s) (Replied printed.reply))
+performed_same (Ok printed) o ask change s given same is has =
+    subst (λ (x : Printed). Performed ask (seen (place_of o) s) (Replied x.reply)) (sym same)
+    (performed_own (place_of o) s ask (Replied given.reply) (made_for ask change (place_of o)) (is.performs s has))
+performed_same (Err halt) o ask change s given same is has = tt
 
 -- what is open has come to the change's place
 pub stands_changed :
@@ -135,57 +118,84 @@ change_realm clock op p = realm_by (is_due op p) p _ _ _ refl refl
 
 -- ---- as it is told
 
--- a command that was done at this moment with these bytes
-pub decides_done : (cmd : Command) (moments moments' : Option (ℕ → Moment)) (stream stream' : Option (ℕ → ℕ)) (now : Moment) (random : List ℕ) (at : Seen) (answer : Reply) (o : Opened)
-    → IfSome moments (λ f. now ≡ f 0) → moments' ≡ option_map later_moments moments
+-- where it was done at this moment with these bytes
+performed_told : (cmd : Command) (moments : Option (ℕ → Moment)) (stream : Option (ℕ → ℕ)) (now : Moment) (random : List ℕ) (at : Seen) → IsMoment now
+    → IfSome moments (λ f. now ≡ f 0) → IfSome stream (λ f. random ≡ bytes_of 2048 f) → IsDone (ask_at cmd now random at) at
+    → IfSome (told_draws moments stream) (λ draws. IsPerformed (Does cmd) draws at)
+performed_told cmd None stream now random at moment first bytes done = tt
+performed_told cmd (Some moments) None now random at moment first bytes done = tt
+performed_told cmd (Some moments) (Some stream) now random at moment first bytes done =
+    (subst IsMoment first moment, subst (λ (ask : Ask). IsDone ask at) (λ i. ask_at cmd (first i) (bytes i) at) done)
+
+-- a command that was done so
+pub decides_done : (cmd : Command) (moments moments' : Option (ℕ → Moment)) (stream stream' : Option (ℕ → ℕ)) (now : Moment) (random : List ℕ) (p : Place) (s : State) (answer : Reply) (o : Opened)
+    → IsMoment now → IfSome moments (λ f. now ≡ f 0) → moments' ≡ option_map later_moments moments
     → IfSome stream (λ f. random ≡ bytes_of 2048 f) → stream' ≡ option_map (later_bytes 2048) stream
-    → answer_at (ask_at cmd now random at) at ≡ Replied answer → StandsAt o (after_ask (ask_at cmd now random at) at)
-    → Decides (Does cmd) (told_draws moments stream) at (Some answer) o (told_draws moments' stream')
+    → Performed (ask_at cmd now random (seen p s)) (seen p s) (Replied answer) → StandsAt o (after_ask (ask_at cmd now random (seen p s)) (seen p s))
+    → Decides (Does cmd) (told_draws moments stream) (seen p s) (Some answer) o (told_draws moments' stream')
 unfolding reply_to seen_after draws_after
-decides_done cmd moments moments' stream stream' now random at answer o first others bytes rest answered stands = record {
-  later = after_ask (ask_at cmd now random at) at;
+decides_done cmd moments moments' stream stream' now random p s answer o moment first others bytes rest performs stands = record {
+  later = after_ask (ask_at cmd now random (seen p s)) (seen p s);
   stands = stands;
   answers = by moments stream first others bytes rest;
+  performed = performed_told cmd moments stream now random (seen p s) moment first bytes (performed_done (ask_at cmd now random (seen p s)) p s (Replied answer) performs);
 }
   where
     by : (m : Option (ℕ → Moment)) (b : Option (ℕ → ℕ)) → IfSome m (λ f. now ≡ f 0) → moments' ≡ option_map later_moments m
         → IfSome b (λ f. random ≡ bytes_of 2048 f) → stream' ≡ option_map (later_bytes 2048) b
-        → Answers (Does cmd) (told_draws m b) at (Some answer) (after_ask (ask_at cmd now random at) at) (told_draws moments' stream')
+        → Answers (Does cmd) (told_draws m b) (seen p s) (Some answer) (after_ask (ask_at cmd now random (seen p s)) (seen p s)) (told_draws moments' stream')
     by None b f o' g r = ap (λ (m : Option (ℕ → Moment)). told_draws m stream') o'
     by (Some moments) None f o' g r = λ i. told_draws (o' i) (r i)
     by (Some moments) (Some bytes) f o' g r = (
-      ap (λ (a : Option Reply). a) (sym (ap reply_in_answer answered)) ∙ (λ i. reply_in_answer (answer_at (ask_at cmd (f i) (g i) at) at)),
-      λ i. after_ask (ask_at cmd (f i) (g i) at) at,
+      ap reply_in_answer performs.answers ∙ (λ i. reply_in_answer (answer_at (ask_at cmd (f i) (g i) (seen p s)) (seen p s))),
+      λ i. after_ask (ask_at cmd (f i) (g i) (seen p s)) (seen p s),
       λ i. told_draws (o' i) (r i),
     )
 
 -- where it was done
-pub decides_drawn : {E : Type 0} (result : Result Printed E) (cmd : Command) (moments moments' : Option (ℕ → Moment)) (stream stream' : Option (ℕ → ℕ)) (now : Moment) (random : List ℕ) (at : Seen) (o : Opened)
-    → IfSome moments (λ f. now ≡ f 0) → moments' ≡ option_map later_moments moments
+pub decides_drawn : {E : Type 0} (result : Result Printed E) (cmd : Command) (moments moments' : Option (ℕ → Moment)) (stream stream' : Option (ℕ → ℕ)) (now : Moment) (random : List ℕ) (p : Place) (s : State) (o : Opened)
+    → IsMoment now → IfSome moments (λ f. now ≡ f 0) → moments' ≡ option_map later_moments moments
     → IfSome stream (λ f. random ≡ bytes_of 2048 f) → stream' ≡ option_map (later_bytes 2048) stream
-    → IfOk result (λ printed. answer_at (ask_at cmd now random at) at ≡ Replied printed.reply) → OnOk result (StandsAt o (after_ask (ask_at cmd now random at) at))
-    → IfOk result (λ printed. Decides (Does cmd) (told_draws moments stream) at (Some printed.reply) o (told_draws moments' stream'))
-decides_drawn (Ok printed) cmd moments moments' stream stream' now random at o first others bytes rest answered stands =
-    decides_done cmd moments moments' stream stream' now random at printed.reply o first others bytes rest answered stands
-decides_drawn (Err halt) cmd moments moments' stream stream' now random at o first others bytes rest answered stands = tt
+    → IfOk result (λ printed. Performed (ask_at cmd now random (seen p s)) (seen p s) (Replied printed.reply)) → OnOk result (StandsAt o (after_ask (ask_at cmd now random (seen p s)) (seen p s)))
+    → IfOk result (λ printed. Decides (Does cmd) (told_draws moments stream) (seen p s) (Some printed.reply) o (told_draws moments' stream'))
+decides_drawn (Ok printed) cmd moments moments' stream stream' now random p s o moment first others bytes rest performs stands =
+    decides_done cmd moments moments' stream stream' now random p s printed.reply o moment first others bytes rest performs stands
+decides_drawn (Err halt) cmd moments moments' stream stream' now random p s o moment first others bytes rest performs stands = tt
 
 pub bytes_seen : (stream : Option (ℕ → ℕ)) (drawn random : List ℕ) (n : ℕ) → random ≡ drawn → IfSome stream (λ f. drawn ≡ bytes_of n f) → IfSome stream (λ f. random ≡ bytes_of n f)
 bytes_seen None drawn random n same is = tt
 bytes_seen (Some f) drawn random n same is = same ∙ is
 
-pub safe_done : {D : Type 0} (g : Ghosts D) (old new : D) (cmd : Command) (moments : Option (ℕ → Moment)) (stream : Option (ℕ → ℕ)) (now : Moment) (random : List ℕ) (at : Seen)
-    → IfSome moments (λ f. now ≡ f 0) → IfSome stream (λ f. random ≡ bytes_of 2048 f)
-    → IsCrashSafe g old new (LeavesPart at.place (places (made_at (ask_at cmd now random at) at)))
-    → IsLineSafe g old new (Does cmd) (told_draws moments stream) at
+reaches_told : {D : Type 0} (g : Ghosts D) (old new : D) (cmd : Command) (moments : Option (ℕ → Moment)) (stream : Option (ℕ → ℕ)) (now : Moment) (random : List ℕ) (p : Place) (s : State)
+    → IsMoment now → IfSome moments (λ f. now ≡ f 0) → IfSome stream (λ f. random ≡ bytes_of 2048 f)
+    → IsCrashSafe g old new (MayLeave p s (Perform (ask_at cmd now random (seen p s))))
+    → IfSome (told_draws moments stream) (λ draws. IsCrashSafe g old new (RecoversWhere (LineReaches (Does cmd) draws (seen p s))))
+reaches_told g old new cmd None stream now random p s moment first bytes safe = tt
+reaches_told g old new cmd (Some moments) None now random p s moment first bytes safe = tt
+reaches_told g old new cmd (Some moments) (Some stream) now random p s moment first bytes safe = record {
+  told = λ tells.
+      let at = seen p s in
+      weaken (safe.told tells) (λ c leaves. record {
+        place = leaves.place;
+        is = leaves.is;
+        reached = inr (subst IsMoment first moment, subst (λ (ask : Ask). MayReach p s (Perform ask) leaves.place) (λ i. ask_at cmd (first i) (bytes i) at) leaves.may);
+      });
+}
+
+pub safe_done : {D : Type 0} (g : Ghosts D) (old new : D) (cmd : Command) (moments : Option (ℕ → Moment)) (stream : Option (ℕ → ℕ)) (now : Moment) (random : List ℕ) (p : Place) (s : State)
+    → IsMoment now → IfSome moments (λ f. now ≡ f 0) → IfSome stream (λ f. random ≡ bytes_of 2048 f)
+    → IsCrashSafe g old new (MayLeave p s (Perform (ask_at cmd now random (seen p s))))
+    → IsLineSafe g old new (Does cmd) (told_draws moments stream) (seen p s)
 unfolding places_by
-safe_done g old new cmd moments stream now random at first bytes safe = record {
-  made = places (made_at (ask_at cmd now random at) at);
+safe_done g old new cmd moments stream now random p s moment first bytes safe = record {
+  made = places (made_at (ask_at cmd now random (seen p s)) (seen p s));
   are = by moments stream first bytes;
-  safe = safe;
+  safe = crash_made g old new (ask_at cmd now random (seen p s)) p s safe;
+  reaches = reaches_told g old new cmd moments stream now random p s moment first bytes safe;
 }
   where
     by : (m : Option (ℕ → Moment)) (b : Option (ℕ → ℕ)) → IfSome m (λ f. now ≡ f 0) → IfSome b (λ f. random ≡ bytes_of 2048 f)
-        → AreMade (Does cmd) (told_draws m b) at (places (made_at (ask_at cmd now random at) at))
+        → AreMade (Does cmd) (told_draws m b) (seen p s) (places (made_at (ask_at cmd now random (seen p s)) (seen p s)))
     by None b f g' = tt
     by (Some moments) None f g' = tt
-    by (Some moments) (Some bytes) f g' = λ i. places (made_at (ask_at cmd (f i) (g' i) at) at)
+    by (Some moments) (Some bytes) f g' = λ i. places (made_at (ask_at cmd (f i) (g' i) (seen p s)) (seen p s))

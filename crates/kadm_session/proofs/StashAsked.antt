@@ -1,23 +1,22 @@
 -- The command that writes the stash, as the ask of a line.
-use Rattle.std.proofs.Common.{◌≡◌, ◌∙◌, ◌||◌, ℕ, List, [], ◌∷◌, Bool, true, false, refl, ap, sym, subst, inl, inr}
+use Rattle.std.proofs.Common.{◌≡◌, ◌∙◌, ◌||◌, ℕ, List, Bool, true, false, refl, ap, sym, subst}
 use Rattle.std.specs.Prelude.{None, Result, Ok, IfOk}
 use Rattle.command_plans.specs.KeptEntries.{kept_entry_of}
-use Rattle.iprop_truths.specs.Parts.{IsPart, end_of}
+use Rattle.iprop_truths.specs.Parts.{end_of}
 use Rattle.kadm_commands.specs.declared.commands.Command.{Command}
 use Rattle.kadm_commands.specs.declared.commands.Command.TheVariants as command
 use Rattle.kadm_commands.specs.declared.replies.Reply.{Reply}
 use Rattle.kadm_session.specs.Deciding.{StandsAt}
+use Rattle.kadm_session.specs.Events.{Performed}
 use Rattle.kadm_session.specs.Input.{is_event, is_stash}
 use Rattle.kadm_session.specs.Steps.{ask_at, local_client}
 use Rattle.kdb_base.specs.Moment.{Moment}
-use Rattle.kdb_disk.specs.Files.{Files}
 use Rattle.kdb_disk.specs.Frames.{IsCrashSafe}
 use Rattle.kdb_disk.specs.declared.disk.Disk.{Ghosts}
-use Rattle.kdb_disk.proofs.Runs.{weaken}
 use Rattle.kdb_histories.specs.Asks.{Answer, Ask, Enters, Keeps, Kind, Replied, Stashes, kept_op}
 use Rattle.kdb_histories.specs.Calls.{Leads, Perform, Performs}
-use Rattle.kdb_histories.specs.Leaving.{Does, MayReach}
-use Rattle.kdb_histories.specs.Seen.{after_ask, answer_at, made_at, moment_at, outcome_at, planned, seen, stash_of}
+use Rattle.kdb_histories.specs.Leaving.{Does}
+use Rattle.kdb_histories.specs.Seen.{after_ask, moment_at, outcome_at, planned, seen, stash_of}
 use Rattle.kdb_histories.specs.Stages.{Stage, places}
 use Rattle.kdb_places.specs.Places.{Place}
 use Rattle.kdb_plain.specs.declared.states.State.{State}
@@ -25,8 +24,7 @@ use Rattle.mkey_admin.specs.KeptMasters.{kept_masters_of}
 use Rattle.primary_core.specs.Deciding.{is_judged}
 use Rattle.primary_core.specs.Opened.{HasState, MayLeave, Opened, command_ask, place_of}
 use Rattle.princ_name.specs.Names.{NameParts}
-use Rattle.store_files.specs.Found.{recovers}
-use Rattle.store_files.specs.Recovery.{LeavesPart}
+use Rattle.kadm_session.proofs.Leaving.{performed_own}
 
 -- ---- which command it is
 
@@ -109,12 +107,13 @@ stash_stands {E} o new s client clock random r told same is done has =
       shows = subst (HasState new) (sym (stash_stays (place_of o) s clock random (Replied told) does.made does.makes)) has;
     }
 
-pub stash_answer : {E : Type 0} (o new : Opened) (s : State) (client : NameParts) (clock : Moment) (random : List ℕ) (r : Result Reply E) (told printed : Reply) → client ≡ local_client o.kept.realm → r ≡ Ok told → printed ≡ told
+pub stash_performs : {E : Type 0} (o new : Opened) (s : State) (client : NameParts) (clock : Moment) (random : List ℕ) (r : Result Reply E) (told printed : Reply) → client ≡ local_client o.kept.realm → r ≡ Ok told → printed ≡ told
     → IfOk r (λ x. Does (place_of o) s (Perform (command_ask client None command.Stash clock random)) (Replied x) (place_of new))
-    → answer_at (ask_at command.Stash clock random (seen (place_of o) s)) (seen (place_of o) s) ≡ Replied printed
-stash_answer {E} o new s client clock random r told printed same is as_told done =
+    → Performed (ask_at command.Stash clock random (seen (place_of o) s)) (seen (place_of o) s) (Replied printed)
+stash_performs {E} o new s client clock random r told printed same is as_told done =
     let does = done_as o new s client clock random r told same is done in
-    sym does.makes.answers ∙ ap (λ (x : Reply). Replied x) (sym as_told)
+    let ask = ask_at command.Stash clock random (seen (place_of o) s) in
+    subst (λ (x : Reply). Performed ask (seen (place_of o) s) (Replied x)) (sym as_told) (performed_own (place_of o) s ask (Replied told) does.made does.makes)
 
 -- the realm stays
 pub stash_realm : (o new : Opened) (s : State) → HasState o s → HasState new s → new.kept.realm ≡ o.kept.realm
@@ -122,30 +121,9 @@ stash_realm o new s has later = sym later.shows.realm ∙ has.shows.realm
 
 -- ---- what a crash leaves
 
-part_leaves : (p : Place) (made : List Place) (q : Place) (c : Files) → IsPart p made q → recovers c ≡ Ok q → LeavesPart p made c
-unfolding LeavesPart
-part_leaves p [] q c same is = is ∙ ap (λ (x : Place). Ok x) same
-part_leaves p (next ∷ others) q c (inl same) is = inl (is ∙ ap (λ (x : Place). Ok x) same)
-part_leaves p (next ∷ others) q c (inr part) is = inr (part_leaves next others q c part is)
-
-first_part : (p : Place) (made : List Place) → IsPart p made p
-first_part p [] = refl
-first_part p (next ∷ others) = inl refl
-
--- what an ask may leave is a place that it makes
-leaves_made : (p : Place) (s : State) (ask : Ask) (c : Files) → MayLeave p s (Perform ask) c → LeavesPart p (places (made_at ask (seen p s))) c
-leaves_made p s ask c may = by may.may
-  where
-    by : MayReach p s (Perform ask) may.place → LeavesPart p (places (made_at ask (seen p s))) c
-    by (inl same) = part_leaves p (places (made_at ask (seen p s))) may.place c (subst (λ (q : Place). IsPart p (places (made_at ask (seen p s))) q) (sym same) (first_part p (places (made_at ask (seen p s))))) may.is
-    by (inr stops) = part_leaves p (places (made_at ask (seen p s))) may.place c (subst (λ (made : List Stage). IsPart p (places made) may.place) stops.makes.is stops.part) may.is
-
--- and so of a call by this client
+-- the same of a call by this client
 pub stash_crash : {D : Type 0} (g : Ghosts D) (old new : D) (o : Opened) (s : State) (client : NameParts) (clock : Moment) (random : List ℕ) → client ≡ local_client o.kept.realm
     → IsCrashSafe g old new (MayLeave (place_of o) s (Perform (command_ask client None command.Stash clock random)))
-    → IsCrashSafe g old new (LeavesPart (place_of o) (places (made_at (ask_at command.Stash clock random (seen (place_of o) s)) (seen (place_of o) s))))
+    → IsCrashSafe g old new (MayLeave (place_of o) s (Perform (ask_at command.Stash clock random (seen (place_of o) s))))
 stash_crash g old new o s client clock random same safe =
-    let ask = ask_at command.Stash clock random (seen (place_of o) s) in
-    record {
-      told = λ tells. weaken ((subst (λ (a : Ask). IsCrashSafe g old new (MayLeave (place_of o) s (Perform a))) (asked client o s clock random same) safe).told tells) (λ c may. leaves_made (place_of o) s ask c may);
-    }
+    subst (λ (a : Ask). IsCrashSafe g old new (MayLeave (place_of o) s (Perform a))) (asked client o s clock random same) safe

@@ -2,7 +2,7 @@
 use Rattle.std.proofs.Common.{◌≡◌, ◌∙◌, ℕ, List, [], ◌∷◌, ◌||◌, Bool, true, false, refl, ap, sym, subst, inl, arith}
 use Rattle.std.proofs.Math.Bool.{or-false}
 use Rattle.std.proofs.lemmas.Option.{same_Some}
-use Rattle.std.specs.Prelude.{Option, Some, None, Result, Ok, Err, IfOk, drop, take}
+use Rattle.std.specs.Prelude.{Option, Some, None, Result, Ok, Err, IfOk, OnOk, drop, take}
 use Rattle.kadm_lines.specs.Reader.{ReaderState}
 use Rattle.std.specs.List.{Contains}
 use Rattle.kdb_disk.proofs.Runs.{started, weaken}
@@ -15,18 +15,20 @@ use Rattle.kdb_places.specs.Places.{Place}
 use Rattle.kdb_plain.specs.declared.states.State.{State}
 use Rattle.kdb_ports.proofs.Told.{after_told-nil}
 use Rattle.primary_core.specs.Opened.{HasState, Opened, place_of}
-use Rattle.store_files.specs.Recovery.{LeavesPart, RecoversTo}
-use Rattle.kadm_session.specs.Courses.{AnsweredBetween, AnsweredWhole, Course, Ending, EndsAs, Follows, GoesOnFrom, IsAtRest, IsBetweenLines, IsStopped, Leaves, MayStop, Rests, RestsBetween, Stage, Stops, course, end_with, ending, rests_before, rests_between_by, rests_by}
+use Rattle.store_files.specs.Found.{recovers}
+use Rattle.store_files.specs.Recovery.{RecoversTo}
+use Rattle.kadm_session.specs.Courses.{AnsweredBetween, AnsweredWhole, Course, Ending, EndsAs, Follows, GoesOnFrom, IsAtRest, IsBetweenLines, IsDoneWhole, Leaves, MayStop, Rests, RestsBetween, Stops, course, end_with, ending, rests_before, rests_between_by, rests_by}
+use Rattle.session_base.specs.Stages.{IsStopped, Stage}
 use Rattle.kadm_session.specs.Deciding.{IsHalfway, MayRest}
-use Rattle.kadm_session.specs.Draws.{Draws}
+use Rattle.session_base.specs.Draws.{Draws}
 use Rattle.kadm_session.specs.Intake.{Comes, NoCommand, before_commands, coming}
-use Rattle.kadm_session.specs.Steps.{Said, places_by, places_made, said}
+use Rattle.kadm_session.specs.Events.{ArePerformed, IsReached}
+use Rattle.kadm_session.specs.Steps.{Said, places_by, said}
 use Rattle.kadm_session.specs.Turns.{GoesOn}
 use Rattle.kadm_session.specs.declared.intake.Asked.{Asked}
 use Rattle.kadm_session.specs.declared.intake.Next.{Next}
 use Rattle.kadm_session.specs.declared.intake.Next.TheVariants as next
-use Rattle.kadm_session.proofs.Going.{here}
-use Rattle.kadm_session.proofs.Making.{leaves_first}
+use Rattle.kadm_session.proofs.Leaving.{leaves_first}
 
 -- ---- the first of the commands, where they are told or not
 
@@ -41,13 +43,14 @@ comes_first answer asked read realm realm' old new told left is same stays comes
 
 follows_unknown : (taken taken' : Option (List ℕ)) (refused refused' : Bool) (told left : Option Draws) (at later : Seen)
     → Follows (course taken refused None told at) (course taken' refused' None left later)
-unfolding ending Stops RestsBetween Rests Leaves
+unfolding ending Stops RestsBetween Rests Leaves IsDoneWhole
 follows_unknown taken taken' refused refused' told left at later = record {
   ends = refl;
   stops = λ out first others h. tt;
   between = λ out place h. tt;
   rests = λ out place h. tt;
   leaves = λ c h. tt;
+  done = λ h. tt;
 }
 
 pub goes_on_all : (asked : Asked) (old new : Option (List Asked)) (taken taken' : Option (List ℕ)) (refused refused' : Bool) (told left : Option Draws) (at : Seen) (o : Opened)
@@ -118,8 +121,8 @@ here_rests [] draws at = (0, omega arith, refl)
 here_rests (asked ∷ commands) draws at = (0, omega arith, refl)
 
 none_answered : (taken : Option (List ℕ)) (commands : List Asked) (draws : Draws) (at : Seen) → AnsweredBetween taken commands draws at taken at.place
-unfolding said
-none_answered taken commands draws at = record { count = 0; within = omega arith; out_is = sym (after_told-nil taken); place_is = refl }
+unfolding said ArePerformed
+none_answered taken commands draws at = record { count = 0; within = omega arith; out_is = sym (after_told-nil taken); place_is = refl; performed = tt }
 
 between_here : (taken : Option (List ℕ)) (refused : Bool) (commands : Option (List Asked)) (told : Option Draws) (at : Seen)
     → RestsBetween (course taken refused commands told at) taken at.place
@@ -137,6 +140,7 @@ answered_between taken out commands draws at later between =
       within = between.within;
       out_is = between.out_is;
       place_is = subst (λ (p : Place). Contains (rests_before (drop between.count commands) so_far.draws so_far.at) p) (sym between.place_is) (here_rests (drop between.count commands) so_far.draws so_far.at);
+      performed = between.performed;
     }
 
 rests_by_between : (c : Course) (out : Option (List ℕ)) (place : Place) → RestsBetween c out place → Rests c out place
@@ -151,23 +155,28 @@ rests_by_between c out place between = by c.commands c.draws between
 pub between_rests : (c : Course) (out : Option (List ℕ)) (now : View) → IsBetweenLines c out now → IsAtRest c out now
 between_rests c out now between = record { place = between.place; may = rests_by_between c out between.place between.may; stands = between.stands }
 
+reached_here : (commands : List Asked) (draws : Draws) (at : Seen) → IsReached commands draws at at.place
+unfolding IsReached
+reached_here [] draws at = refl
+reached_here (asked ∷ commands) draws at = inl (inl refl)
+
 leaves_where_it_is : (taken : Option (List ℕ)) (refused : Bool) (commands : Option (List Asked)) (told : Option Draws) (at : Seen) (c : Files)
-    → LeavesPart at.place [] c → Leaves (course taken refused commands told at) c
-unfolding Leaves LeavesPart
+    → recovers c ≡ Ok at.place → Leaves (course taken refused commands told at) c
+unfolding Leaves
 leaves_where_it_is taken refused None told at c is = tt
 leaves_where_it_is taken refused (Some commands) None at c is = tt
-leaves_where_it_is taken refused (Some commands) (Some draws) at c is = here at.place (places_made commands draws at) c is
+leaves_where_it_is taken refused (Some commands) (Some draws) at c is = record { place = at.place; is = is; reached = reached_here commands draws at }
 
 -- nothing was done
 pub leaves_here : (taken : Option (List ℕ)) (refused : Bool) (commands : Option (List Asked)) (told : Option Draws) (at : Seen) (now : View)
     → RecoversTo at.place now → LeavesOnly now now (Leaves (course taken refused commands told at))
 leaves_here taken refused commands told at now recovered =
-    started now (Leaves (course taken refused commands told at)) (λ c image. leaves_where_it_is taken refused commands told at c (leaves_first at.place [] c (recovered c image)))
+    started now (Leaves (course taken refused commands told at)) (λ c image. leaves_where_it_is taken refused commands told at c (recovered c image))
 
 -- ---- the whole session, by what follows
 
 pub follows_itself : (c : Course) → Follows c c
-follows_itself c = record { ends = refl; stops = λ out first others h. h; between = λ out place h. h; rests = λ out place h. h; leaves = λ files h. h }
+follows_itself c = record { ends = refl; stops = λ out first others h. h; between = λ out place h. h; rests = λ out place h. h; leaves = λ files h. h; done = λ h. h }
 
 pub follows_then : (a b c : Course) → Follows a b → Follows b c → Follows a c
 follows_then a b c one two = record {
@@ -176,6 +185,7 @@ follows_then a b c one two = record {
   between = λ out place h. one.between out place (two.between out place h);
   rests = λ out place h. one.rests out place (two.rests out place h);
   leaves = λ files h. one.leaves files (two.leaves files h);
+  done = λ h. one.done (two.done h);
 }
 
 -- what is open shows a state from which the course goes on, and a line more was answered
@@ -222,9 +232,9 @@ rests_on c o taken refused commands told out now was rest = record { place = res
 
 may_rest_halfway : (taken : Option (List ℕ)) (refused : Bool) (asked : Asked) (more : List Asked) (told : Option Draws) (at : Seen) (place : Place)
     → MayRest asked told at place → Rests (course taken refused (Some (asked ∷ more)) told at) taken place
-unfolding Rests said
+unfolding Rests said ArePerformed
 may_rest_halfway taken refused asked more None at place may = tt
-may_rest_halfway taken refused asked more (Some draws) at place may = record { count = 0; within = omega arith; out_is = sym (after_told-nil taken); place_is = may }
+may_rest_halfway taken refused asked more (Some draws) at place may = record { count = 0; within = omega arith; out_is = sym (after_told-nil taken); place_is = may; performed = tt }
 
 -- a line stopped halfway, and nothing was written
 pub rests_halfway : {D : Type 0} (g : Ghosts D) (new : D) (taken : Option (List ℕ)) (refused : Bool) (asked : Asked) (more : List Asked) (told : Option Draws) (at : Seen)
@@ -264,6 +274,17 @@ ends_here taken refused (Some commands) (Some draws) o s end none has e =
     let same : end_with taken refused nothing ≡ end = ap (end_with taken refused) (sym is) ∙ same_Some (end_with taken refused (said commands draws at)) end e in
     subst (λ (x : Ending). EndsAs taken refused o (Some draws) x) same
     (record { out_is = sym (after_told-nil taken); refused_is = sym (or-false refused); place_is = refl; shows = has; draws_are = refl })
+
+done_here : (taken : Option (List ℕ)) (refused : Bool) (commands : Option (List Asked)) (told : Option Draws) (at : Seen) → NoCommand commands → IsDoneWhole (course taken refused commands told at)
+unfolding IsDoneWhole ArePerformed
+done_here taken refused None told at none = tt
+done_here taken refused (Some commands) None at none = tt
+done_here taken refused (Some commands) (Some draws) at none = subst (λ (c : List Asked). ArePerformed c draws at) (sym none) tt
+
+-- and all were performed
+pub done_from : (c : Course) (o : Opened) (taken : Option (List ℕ)) (refused : Bool) (commands : Option (List Asked)) (told : Option Draws)
+    → GoesOnFrom c o taken refused commands told → NoCommand commands → IsDoneWhole c
+done_from c o taken refused commands told was none = was.follows.done (done_here taken refused commands told (seen (place_of o) was.state) none)
 
 pub ended_from : (c : Course) (o : Opened) (taken : Option (List ℕ)) (refused : Bool) (commands : Option (List Asked)) (told : Option Draws) (end : Ending)
     → GoesOnFrom c o taken refused commands told → NoCommand commands → ending c ≡ Some end → EndsAs taken refused o told end
@@ -311,3 +332,8 @@ pub one_ended : {E : Type 0} (c : Course) (o : Opened) (taken : Option (List ℕ
     → IfOk r (λ now_refused. GoesOnFrom c o taken (false || now_refused) (Some []) told) → ending c ≡ Some end → IfOk r (λ refused. EndsAs taken refused o told end)
 one_ended {E} c o taken told end (Ok refused) goes e = ended_from c o taken refused (Some []) told end goes refl e
 one_ended {E} c o taken told end (Err halt) goes e = tt
+
+pub one_done : {E : Type 0} (c : Course) (o : Opened) (taken : Option (List ℕ)) (told : Option Draws) (r : Result Bool E)
+    → IfOk r (λ now_refused. GoesOnFrom c o taken (false || now_refused) (Some []) told) → OnOk r (IsDoneWhole c)
+one_done {E} c o taken told (Ok refused) goes = done_from c o taken refused (Some []) told goes refl
+one_done {E} c o taken told (Err halt) goes = tt

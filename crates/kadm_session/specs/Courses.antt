@@ -1,6 +1,7 @@
 -- The course of a session from some point on: how it ends, where it may stop early, and what a crash may leave of the disk.
-use Rattle.std.specs.Prelude.{ℕ, ◌≡◌, ◌≤◌, ◌+◌, ◌⊎◌, Bool, ◌||◌, List, [], ◌∷◌, ◌++◌, Option, Some, None, Ok, drop, length, take, ⊤}
-use Rattle.kadm_session.specs.Draws.{Draws}
+use Rattle.std.specs.Prelude.{ℕ, ◌≡◌, ◌≤◌, ◌+◌, ◌⊎◌, Bool, ◌||◌, List, [], ◌∷◌, ◌++◌, Option, Some, None, drop, length, take, ⊤}
+use Rattle.session_base.specs.Draws.{Draws}
+use Rattle.kadm_session.specs.Events.{ArePerformed, IsPerformed, IsReached, RecoversWhere}
 use Rattle.kadm_session.specs.Steps.{Said, draws_after, halfway, places_by, places_made, said, seen_after, text_to}
 use Rattle.kadm_session.specs.declared.intake.Asked.{Asked}
 use Rattle.kdb_disk.specs.Files.{Files}
@@ -12,8 +13,8 @@ use Rattle.kdb_ports.specs.Told.{after_told}
 use Rattle.kdb_plain.specs.declared.states.State.{State}
 use Rattle.primary_core.specs.Opened.{HasState, Opened, place_of}
 use Rattle.std.specs.List.{Contains}
-use Rattle.store_files.specs.Found.{recovers}
-use Rattle.store_files.specs.Recovery.{LeavesPart, RecoversTo}
+use Rattle.session_base.specs.Stages.{Stage}
+use Rattle.store_files.specs.Recovery.{RecoversTo}
 
 -- What the sink has taken, whether a refusal was written, what still comes of the input, what the clock and the source of random bytes
 -- will give, each where it is told, and the place with the state that its rows show.
@@ -56,22 +57,19 @@ pub record EndsAs (out : Option (List ℕ)) (refused : Bool) (o : Opened) (draws
 
 -- ---- where it may stop early
 
--- what is in the sink, and of which places a crash leaves one: the first, or one of those that follow it
-abbrev pub Stage : Type 1
-Stage = Option (List ℕ) → Place → List Place → Type 0
+-- Nothing of the reply was written, and a crash leaves the place before the line or one that the line makes. Or a part of the reply was: the
+-- line was performed, and a crash leaves the place after it alone.
+abbrev pub StopsInLine : Option (List ℕ) → Asked → Draws → Seen → Stage
+StopsInLine taken asked draws at out first others =
+    ((out ≡ taken) × (first ≡ at.place) × (others ≡ places_by asked draws at))
+    ⊎ (IsPerformed asked draws at × SaidPart (text_to asked draws at) taken out × (first ≡ (seen_after asked draws at).place) × (others ≡ []))
 
--- Nothing of the reply was written, and a crash leaves the place before the line or one that the line makes. Or a part of the reply was,
--- and it leaves the place after it alone.
-abbrev pub StopsAt : Option (List ℕ) → List ℕ → Place → List Place → Place → Stage
-StopsAt taken text before made later out first others =
-    ((out ≡ taken) × (first ≡ before) × (others ≡ made)) ⊎ (SaidPart text taken out × (first ≡ later) × (others ≡ []))
-
--- at one of these commands, or after all of them
+-- at one of these commands, where those before it were performed, or after all of them
 unfoldable pub MayStop : Option (List ℕ) → List Asked → Draws → Seen → Stage
 MayStop taken [] draws at out first others = (out ≡ taken) × (first ≡ at.place) × (others ≡ [])
 MayStop taken (asked ∷ commands) draws at out first others =
-    StopsAt taken (text_to asked draws at) at.place (places_by asked draws at) (seen_after asked draws at).place out first others
-    ⊎ MayStop (after_told taken (text_to asked draws at)) commands (draws_after asked draws at) (seen_after asked draws at) out first others
+    StopsInLine taken asked draws at out first others
+    ⊎ (IsPerformed asked draws at × MayStop (after_told taken (text_to asked draws at)) commands (draws_after asked draws at) (seen_after asked draws at) out first others)
 
 abbrev pub stops_by : Option (List ℕ) → Option (List Asked) → Option Draws → Seen → Stage
 stops_by taken None draws at out first others = ⊤
@@ -82,17 +80,6 @@ stops_by taken (Some commands) (Some draws) at out first others = MayStop taken 
 unfoldable pub Stops : Course → Stage
 Stops c out first others = stops_by c.taken c.commands c.draws c.at out first others
 
--- whatever a crash leaves recovers to the first place or to one of those that follow it
-pub record StandsPart (first : Place) (others : List Place) (now : View) : Type 0 where
-  pub each : (c : Files) → now.images c → LeavesPart first others c
-
--- a session has stopped so, with this in its sink, and what a crash leaves of its disk is one of these places
-pub record IsStopped (stage : Stage) (out : Option (List ℕ)) (now : View) : Type 0 where
-  pub first : Place
-  pub others : List Place
-  pub may : stage out first others
-  pub stands : StandsPart first others now
-
 -- ---- where it rests between two lines
 
 -- So many of the commands were done, and the replies to them are written in full. Of the next one nothing was done.
@@ -101,6 +88,7 @@ pub record AnsweredBetween (taken : Option (List ℕ)) (commands : List Asked) (
   pub within : count ≤ length commands
   pub out_is : out ≡ after_told taken (said (take count commands) draws at).bytes
   pub place_is : later ≡ (said (take count commands) draws at).at.place
+  pub performed : ArePerformed (take count commands) draws at
 
 abbrev pub rests_between_by : Option (List ℕ) → Option (List Asked) → Option Draws → Seen → Option (List ℕ) → Place → Type 0
 rests_between_by taken None draws at out later = ⊤
@@ -131,6 +119,7 @@ pub record AnsweredWhole (taken : Option (List ℕ)) (commands : List Asked) (dr
   pub within : count ≤ length commands
   pub out_is : out ≡ after_told taken (said (take count commands) draws at).bytes
   pub place_is : Contains (rests_before (drop count commands) (said (take count commands) draws at).draws (said (take count commands) draws at).at) later
+  pub performed : ArePerformed (take count commands) draws at
 
 abbrev pub rests_by : Option (List ℕ) → Option (List Asked) → Option Draws → Seen → Option (List ℕ) → Place → Type 0
 rests_by taken None draws at out later = ⊤
@@ -149,19 +138,26 @@ pub record IsAtRest (c : Course) (out : Option (List ℕ)) (now : View) : Type 0
 
 -- ---- what a crash may leave at any moment of it
 
--- the files recover to one of these places
-pub record RecoversToOne (places : List Place) (c : Files) : Type 0 where
-  pub place : Place
-  pub among : Contains places place
-  pub is : recovers c ≡ Ok place
-
+-- a place that the events of the lines reach
 abbrev pub leaves_by : Option (List Asked) → Option Draws → Seen → Files → Type 0
 leaves_by None draws at c = ⊤
 leaves_by (Some commands) None at c = ⊤
-leaves_by (Some commands) (Some draws) at c = RecoversToOne (at.place ∷ places_made commands draws at) c
+leaves_by (Some commands) (Some draws) at c = RecoversWhere (IsReached commands draws at) c
 
 unfoldable pub Leaves : Course → Files → Type 0
 Leaves c files = leaves_by c.commands c.draws c.at files
+
+-- ---- what was done of it
+
+-- each line was performed, as an event of the primary's history or as several of them
+abbrev pub performed_by : Option (List Asked) → Option Draws → Seen → Type 0
+performed_by None draws at = ⊤
+performed_by (Some commands) None at = ⊤
+performed_by (Some commands) (Some draws) at = ArePerformed commands draws at
+
+-- the same, where the commands, the clock and the random bytes are told
+unfoldable pub IsDoneWhole : Course → Type 0
+IsDoneWhole c = performed_by c.commands c.draws c.at
 
 -- ---- one course from another
 
@@ -172,6 +168,7 @@ pub record Follows (earlier later : Course) : Type 0 where
   pub between : (out : Option (List ℕ)) (place : Place) → RestsBetween later out place → RestsBetween earlier out place
   pub rests : (out : Option (List ℕ)) (place : Place) → Rests later out place → Rests earlier out place
   pub leaves : (c : Files) → Leaves later c → Leaves earlier c
+  pub done : IsDoneWhole later → IsDoneWhole earlier
 
 -- What is open shows a state from which the course goes on.
 pub record GoesOnFrom (earlier : Course) (o : Opened) (taken : Option (List ℕ)) (refused : Bool) (commands : Option (List Asked)) (draws : Option Draws) : Type 0 where
@@ -181,8 +178,8 @@ pub record GoesOnFrom (earlier : Course) (o : Opened) (taken : Option (List ℕ)
 
 -- ---- the plain statement
 
--- What was written is a front of the replies to the first so many commands, and a crash leaves the place after these commands, or one that
--- the next of them makes, of whose reply nothing was written.
+-- What was written is a front of the replies to the first so many commands, which were performed, and a crash leaves the place after these
+-- commands, or one that the next of them makes, of whose reply nothing was written.
 pub record HasStoppedAfter (taken : List ℕ) (commands : List Asked) (draws : Draws) (at : Seen) (out : Option (List ℕ)) (first : Place) (others : List Place) : Type 0 where
   -- the commands of which a byte may have been written, and those that may be done
   pub answered : ℕ
@@ -194,5 +191,6 @@ pub record HasStoppedAfter (taken : List ℕ) (commands : List Asked) (draws : D
   pub unwritten : List ℕ
   pub out_is : out ≡ Some (taken ++ written)
   pub replies : (said (take answered commands) draws at).bytes ≡ written ++ unwritten
+  pub performed : ArePerformed (take answered commands) draws at
   pub first_is : first ≡ (said (take answered commands) draws at).at.place
   pub others_are : places_made (take done commands) draws at ≡ places_made (take answered commands) draws at ++ others

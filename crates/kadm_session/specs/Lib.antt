@@ -1,12 +1,11 @@
-pub mod Draws
 pub mod Input
 pub mod Intake
-pub mod Replies
 pub mod Rekeying
 pub mod Renewing
 pub mod Steps
+pub mod Events
+pub mod Runs
 pub mod Deciding
 pub mod RekeyedNames
 pub mod Courses
 pub mod Turns
-pub mod Halts

@@ -3,7 +3,7 @@ use Rattle.std.specs.Prelude.{ℕ, ◌+◌, List, [], ◌∷◌, ◌++◌, Optio
 use Rattle.kadm_commands.specs.declared.replies.Reply.{Reply}
 use Rattle.kadm_commands.specs.declared.replies.Reply.TheVariants as reply
 use Rattle.kadm_commands.specs.declared.replies.Totals.{Totals}
-use Rattle.kadm_session.specs.Draws.{bytes_of}
+use Rattle.session_base.specs.Draws.{bytes_of}
 use Rattle.kdb_base.specs.Moment.{Moment}
 use Rattle.kdb_base.specs.declared.outcomes.Refusal.{Refusal}
 use Rattle.kdb_histories.specs.Asks.{Answer, Ask, Moved, NotMoved, RekeyedNow}

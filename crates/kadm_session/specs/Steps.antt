@@ -4,10 +4,10 @@ use Rattle.std.specs.Prelude.{ℕ, Bool, true, false, ◌||◌, List, [], ◌∷
 use Rattle.kadm_commands.specs.declared.commands.Command.{Command}
 use Rattle.kadm_commands.specs.declared.replies.Reply.{Reply}
 use Rattle.kadm_commands.specs.declared.replies.Reply.TheVariants as reply
-use Rattle.kadm_session.specs.Draws.{Draws, behind_command, behind_moment, block_in, moment_in}
+use Rattle.session_base.specs.Draws.{Draws, behind_command, behind_moment, block_in, moment_in}
 use Rattle.kadm_session.specs.Rekeying.{Progress, begun, rekeyed, rekeyed_reply}
 use Rattle.kadm_session.specs.Renewing.{after_reset, places_reset, reset_reply}
-use Rattle.kadm_session.specs.Replies.{text_of}
+use Rattle.session_base.specs.Replies.{text_of}
 use Rattle.kadm_session.specs.declared.intake.Asked.{Asked}
 use Rattle.kadm_session.specs.declared.intake.Asked.TheVariants.{Nothing, Refused, Does, Rekeys, ResetsLog}
 use Rattle.kdb_base.specs.Moment.{Moment}

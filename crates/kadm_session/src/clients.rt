@@ -7,7 +7,11 @@ use princ_name::{Name, parse_name};
 use std::alloc::Global;
 
 /// The administrator at the machine itself, in a database of this realm.
-pub(crate) fn local_client(alloc: Global, realm: &[u8]) -> Result<Name, MemoryOut>
+///
+/// # Errors
+///
+/// `MemoryOut` where memory is wanted and not given.
+pub fn local_client(alloc: Global, realm: &[u8]) -> Result<Name, MemoryOut>
     requires { IsRealm realm.now }
     ensures { IfOk result (λ client. client ≡ local_client realm.now) }
 {

@@ -4,26 +4,24 @@ ghost use Rattle.std.specs.Prelude.{◌≡◌, ◌≢◌, true, false, Err, IfEr
 ghost use Rattle.kadm_commands.specs.Commands.{IsCommand};
 ghost use Rattle.kadm_replies.specs.Replies.{reply_text};
 ghost use Rattle.kadm_session.specs.Deciding.{Decides, IsLineSafe, StandsAt};
-ghost use Rattle.kadm_session.specs.Draws.{told_draws};
-ghost use Rattle.kadm_session.specs.Halts.{Counts, IsPerformHalt};
+ghost use Rattle.session_base.specs.Draws.{told_draws};
+ghost use Rattle.kadm_session.specs.Events.{Performed};
+ghost use Rattle.session_base.specs.Halts.{Counts, IsPerformHalt};
 ghost use Rattle.kadm_session.specs.Input.{IsLineCommand};
 ghost use Rattle.kadm_session.specs.Steps.{ask_at, local_client};
 ghost use Rattle.kadm_session.specs.declared.intake.Asked.TheVariants.{Does};
 ghost use Rattle.kdb_disk.specs.Frames.{IsCall, IsCrashSafe};
 ghost use Rattle.kdb_histories.specs.Asks.{Ask, Replied, clock_of};
-ghost use Rattle.kdb_histories.specs.Seen.{after_ask, answer_at, made_at, seen};
-ghost use Rattle.kdb_histories.specs.Stages.{places};
+ghost use Rattle.kdb_histories.specs.Calls.{Perform};
+ghost use Rattle.kdb_histories.specs.Seen.{after_ask, seen};
 ghost use Rattle.kdb_plain.specs.declared.states.State.{State};
 ghost use Rattle.primary_core.specs.Deciding.{is_judged};
-ghost use Rattle.primary_core.specs.Opened.{HasState, IsDecided, MayMake, command_ask, place_of};
+ghost use Rattle.primary_core.specs.Opened.{HasState, IsDecided, MayLeave, MayMake, command_ask, place_of};
 ghost use Rattle.primary_core.specs.declared.decided.DecidedChange.{DecidedChange as Changes};
 ghost use Rattle.store_files.specs.Kept.{IsOnDisk};
-ghost use Rattle.store_files.specs.Recovery.{LeavesPart};
 
 use crate::clients::local_client;
-use crate::draws::draw;
-use crate::halts::SessionHalt;
-use crate::replies::{Printed, print};
+use crate::moments::holds_moment;
 use crate::stashing::{is_stash, restash};
 use kadm_commands::{Command, Reply};
 use kadm_plan::{Ready, prepare};
@@ -34,14 +32,15 @@ use performed_plans::laws::changes_make_places;
 use primary_core::laws::decisions_are_asked;
 use primary_core::{Decided, DecidedChange, Primary};
 use princ_name::Name;
+use session_base::{Printed, SessionHalt, draw, print};
 use std::alloc::Global;
 use store_files::laws::what_is_kept_is_recovered;
 
-// What a command comes to: its reply with its bytes, and the change that is to be made first, where there is one.
+/// What a command comes to: its reply with its bytes, and the change that is to be made first, where there is one.
 #[derive(Drop)]
-struct Judged {
-    printed: Printed,
-    change: Option<DecidedChange>,
+pub struct Judged {
+    pub printed: Printed,
+    pub change: Option<DecidedChange>,
 }
 
 // Prints the reply of a change.
@@ -98,8 +97,12 @@ fn judge_for(
     }
 }
 
-// What a command of the local administrator comes to.
-fn judge(
+/// What a command of the local administrator comes to, at a moment of the clock and with a block of random bytes.
+///
+/// # Errors
+///
+/// `MemoryOut` where memory is wanted and not given.
+pub fn judge(
     alloc: Global,
     primary: &Primary,
     ready: &Ready,
@@ -120,8 +123,13 @@ fn judge(
     }
 }
 
-// Makes the change, where there is one, and gives the reply that was printed.
-fn carry_out<D: Disk>(
+/// Makes the change, where there is one, and gives the reply that was printed.
+///
+/// # Errors
+///
+/// `DiskFault` where a call of the disk fails, and `MemoryOut` where memory is wanted and not given; then nothing was
+/// done.
+pub fn carry_out<D: Disk>(
     alloc: Global,
     primary: &mut Primary,
     disk: &mut D,
@@ -133,7 +141,7 @@ fn carry_out<D: Disk>(
     requires may { (change : Changes) → judged.change ≡ Some change → MayMake primary.old now change }
     ensures same { IfOk result (λ printed. printed ≡ judged.printed) }
     ensures stands { (ask : Ask) (s : State) → clock_of ask ≡ now → IsDecided primary.old ask judged.printed.reply judged.change → HasState primary.old s → OnOk result (StandsAt primary.new (after_ask ask (seen (place_of primary.old) s))) }
-    ensures crash { (ask : Ask) (s : State) → clock_of ask ≡ now → IsDecided primary.old ask judged.printed.reply judged.change → HasState primary.old s → IsCrashSafe D.Disk disk.old disk.new (LeavesPart (place_of primary.old) (places (made_at ask (seen (place_of primary.old) s)))) }
+    ensures crash { (ask : Ask) (s : State) → clock_of ask ≡ now → IsDecided primary.old ask judged.printed.reply judged.change → HasState primary.old s → IsCrashSafe D.Disk disk.old disk.new (MayLeave (place_of primary.old) s (Perform ask)) }
     ensures on { D.tells → OnOk result (IsOnDisk primary.new.kept (D.view disk.new)) }
     ensures whole { OnOk result (primary.new.kept.broken ≡ false) }
     ensures realm { OnOk result (primary.new.kept.realm ≡ primary.old.kept.realm) }
@@ -169,9 +177,9 @@ fn perform_judged<D: Disk>(
     requires random { length random.now ≡ 2048 }
     requires on { D.tells → IsOnDisk primary.old.kept (D.view disk.old) }
     requires whole { primary.old.kept.broken ≡ false }
-    ensures reply { (s : State) → HasState primary.old s → IfOk result (λ printed. answer_at (ask_at ready.now.command now random.now (seen (place_of primary.old) s)) (seen (place_of primary.old) s) ≡ Replied printed.reply) }
+    ensures performs { (s : State) → HasState primary.old s → IfOk result (λ printed. Performed (ask_at ready.now.command now random.now (seen (place_of primary.old) s)) (seen (place_of primary.old) s) (Replied printed.reply)) }
     ensures stands { (s : State) → HasState primary.old s → OnOk result (StandsAt primary.new (after_ask (ask_at ready.now.command now random.now (seen (place_of primary.old) s)) (seen (place_of primary.old) s))) }
-    ensures crash { (s : State) → HasState primary.old s → IsCrashSafe D.Disk disk.old disk.new (LeavesPart (place_of primary.old) (places (made_at (ask_at ready.now.command now random.now (seen (place_of primary.old) s)) (seen (place_of primary.old) s)))) }
+    ensures crash { (s : State) → HasState primary.old s → IsCrashSafe D.Disk disk.old disk.new (MayLeave (place_of primary.old) s (Perform (ask_at ready.now.command now random.now (seen (place_of primary.old) s)))) }
     ensures text { IfOk result (λ printed. printed.text ≡ reply_text printed.reply) }
     ensures on { D.tells → OnOk result (IsOnDisk primary.new.kept (D.view disk.new)) }
     ensures whole { OnOk result (primary.new.kept.broken ≡ false) }
@@ -182,7 +190,6 @@ fn perform_judged<D: Disk>(
     ensures call { IsCall D.Disk disk.old disk.new (result ≡ Err SessionHalt.DiskFault) }
 {
     what_is_kept_is_recovered(disk);
-    decisions_are_asked();
     match judge(alloc, primary, ready, now, random) {
         Ok(judged) => carry_out(alloc, primary, disk, judged, now),
         Err(_) => Err(SessionHalt::MemoryOut),
@@ -202,9 +209,9 @@ fn perform_at<D: Disk>(
     requires random { length random.now ≡ 2048 }
     requires on { D.tells → IsOnDisk primary.old.kept (D.view disk.old) }
     requires whole { primary.old.kept.broken ≡ false }
-    ensures reply { (s : State) → HasState primary.old s → IfOk result (λ printed. answer_at (ask_at ready.now.command now random.now (seen (place_of primary.old) s)) (seen (place_of primary.old) s) ≡ Replied printed.reply) }
+    ensures performs { (s : State) → HasState primary.old s → IfOk result (λ printed. Performed (ask_at ready.now.command now random.now (seen (place_of primary.old) s)) (seen (place_of primary.old) s) (Replied printed.reply)) }
     ensures stands { (s : State) → HasState primary.old s → OnOk result (StandsAt primary.new (after_ask (ask_at ready.now.command now random.now (seen (place_of primary.old) s)) (seen (place_of primary.old) s))) }
-    ensures crash { (s : State) → HasState primary.old s → IsCrashSafe D.Disk disk.old disk.new (LeavesPart (place_of primary.old) (places (made_at (ask_at ready.now.command now random.now (seen (place_of primary.old) s)) (seen (place_of primary.old) s)))) }
+    ensures crash { (s : State) → HasState primary.old s → IsCrashSafe D.Disk disk.old disk.new (MayLeave (place_of primary.old) s (Perform (ask_at ready.now.command now random.now (seen (place_of primary.old) s)))) }
     ensures text { IfOk result (λ printed. printed.text ≡ reply_text printed.reply) }
     ensures on { D.tells → OnOk result (IsOnDisk primary.new.kept (D.view disk.new)) }
     ensures whole { OnOk result (primary.new.kept.broken ≡ false) }
@@ -248,6 +255,7 @@ fn perform_ready<D: Disk, C: Clock, E: Entropy>(
     match draw(alloc, entropy, 2048) {
         Ok(random) => {
             let now = clock.now();
+            holds_moment(now);
             perform_at(alloc, primary, disk, ready, now, random.as_slice())
         }
         Err(halt) => Err(halt),

@@ -3,16 +3,16 @@
 ghost use Rattle.std.specs.Prelude.{◌≡◌, ◌≢◌, ◌<◌, List, ℕ, Option, Some, Ok, Err, IfErr, IfOk, IsTrue};
 ghost use Rattle.kadm_commands.specs.Commands.{IsCommand};
 ghost use Rattle.kadm_lines.specs.Reader.{work_left};
-ghost use Rattle.kadm_session.specs.Halts.{Counts, IsReadHalt};
+ghost use Rattle.session_base.specs.Halts.{Counts, IsReadHalt};
 ghost use Rattle.kadm_session.specs.Input.{asked_else, asked_for, asked_in, is_event, line_bytes, without_return, IsAsked};
 ghost use Rattle.kadm_session.specs.Intake.{coming, Comes, IsValid, HasTaken};
 
-use crate::halts::SessionHalt;
 use kadm_commands::Command;
 use kadm_lines::{IntakeFault, LineReader, NextLine};
 use kadm_wire::parse_line;
 use kdb_base::{Blob, MemoryOut, Refusal, Stop};
 use kdb_ports::Source;
+use session_base::SessionHalt;
 use std::alloc::Global;
 
 /// What a session is asked for. It does not print itself: what it would print may be a password.

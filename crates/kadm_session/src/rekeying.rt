@@ -4,26 +4,23 @@ ghost use Rattle.std.specs.Prelude.{◌≡◌, ◌≢◌, ◌<◌, ◌≤◌, �
 ghost use Rattle.std.specs.List.{All};
 ghost use Rattle.kadm_replies.specs.Replies.{reply_text};
 ghost use Rattle.kadm_session.specs.Deciding.{Decides, IsHalfway, IsLineSafe};
-ghost use Rattle.kadm_session.specs.Draws.{told_draws};
-ghost use Rattle.kadm_session.specs.Halts.{Counts, IsPerformHalt};
+ghost use Rattle.session_base.specs.Draws.{told_draws};
+ghost use Rattle.session_base.specs.Halts.{Counts, IsPerformHalt};
 ghost use Rattle.kadm_session.specs.Rekeying.{counted, rekey_ask};
 ghost use Rattle.kadm_session.specs.RekeyedNames.{IsMoved, IsMovedBy, IsMoveSafe, IsRekeyed, IsRekeyedPart, IsRekeyedSafe, sum_of};
 ghost use Rattle.kadm_session.specs.declared.intake.Asked.TheVariants.{Rekeys};
 ghost use Rattle.kdb_disk.specs.Frames.{IsCall, IsCrashSafe};
-ghost use Rattle.kdb_histories.specs.Seen.{made_at, seen};
-ghost use Rattle.kdb_histories.specs.Stages.{places};
+ghost use Rattle.kdb_histories.specs.Calls.{Perform};
+ghost use Rattle.kdb_histories.specs.Seen.{seen};
 ghost use Rattle.kdb_plain.specs.Lists.{princ_names};
 ghost use Rattle.kdb_plain.specs.declared.states.State.{State};
 ghost use Rattle.primary_answers.specs.Listing.{names_told};
-ghost use Rattle.primary_core.specs.Opened.{HasState, place_of};
+ghost use Rattle.primary_core.specs.Opened.{HasState, MayLeave, place_of};
 ghost use Rattle.princ_name.specs.Printed.{IsPrinted, is_master};
 ghost use Rattle.store_files.specs.Kept.{IsOnDisk};
-ghost use Rattle.store_files.specs.Recovery.{LeavesPart};
 
 use crate::clients::local_client;
-use crate::draws::draw;
-use crate::halts::SessionHalt;
-use crate::replies::{Printed, print};
+use crate::moments::holds_moment;
 use kadm_commands::{NameList, Reply, Totals};
 use kdb_base::{Blob, MemoryOut, Refusal, Stop, Time};
 use kdb_disk::Disk;
@@ -32,6 +29,7 @@ use primary_core::Primary;
 use primary_rekeying::rekey_now;
 use princ_name::laws::printed_form_spells_the_name;
 use rekey_work::Settled;
+use session_base::{Printed, SessionHalt, draw, print};
 use std::alloc::Global;
 use store_files::laws::what_is_kept_is_recovered;
 
@@ -76,7 +74,7 @@ fn rekey_with<D: Disk>(
     requires on { D.tells → IsOnDisk primary.old.kept (D.view disk.old) }
     requires whole { primary.old.kept.broken ≡ false }
     ensures done { (s : State) → HasState primary.old s → IfOk result (λ done. IsMoved (rekey_ask now random.now name.now) totals (seen (place_of primary.old) s) done primary.new) }
-    ensures crash { (s : State) → HasState primary.old s → IsCrashSafe D.Disk disk.old disk.new (LeavesPart (place_of primary.old) (places (made_at (rekey_ask now random.now name.now) (seen (place_of primary.old) s)))) }
+    ensures crash { (s : State) → HasState primary.old s → IsCrashSafe D.Disk disk.old disk.new (MayLeave (place_of primary.old) s (Perform (rekey_ask now random.now name.now))) }
     ensures few { IfOk result (λ done. IfOk done (λ more. sum_of more ≤ sum_of totals + 1)) }
     ensures on { D.tells → OnOk result (IsOnDisk primary.new.kept (D.view disk.new)) }
     ensures whole { OnOk result (primary.new.kept.broken ≡ false) }
@@ -220,6 +218,7 @@ fn rekey_matching<D: Disk, C: Clock, E: Entropy>(
     match names_of(alloc, primary, glob) {
         Ok(names) => {
             let now = clock.now();
+            holds_moment(now);
             rekey_all(alloc, primary, disk, entropy, names.as_slice(), now)
         }
         Err(_) => Err(SessionHalt::MemoryOut),

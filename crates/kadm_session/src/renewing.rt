@@ -1,28 +1,28 @@
 //! The log begun anew on request. The reply is printed before that: its point is known.
 
-ghost use Rattle.std.specs.Prelude.{◌≡◌, ◌≢◌, ◌∷◌, [], false, Err, IfErr, IfOk, OnOk, Option, Some, ℕ};
+ghost use Rattle.std.specs.Prelude.{◌≡◌, ◌≢◌, false, Err, IfErr, IfOk, OnOk, Option, Some, ℕ};
 ghost use Rattle.kadm_replies.specs.Replies.{reply_text};
 ghost use Rattle.kadm_session.specs.Deciding.{Decides, IsLineSafe, StandsAt};
-ghost use Rattle.kadm_session.specs.Draws.{told_draws};
-ghost use Rattle.kadm_session.specs.Halts.{IsPerformHalt};
-ghost use Rattle.kadm_session.specs.Renewing.{renewed, renewed_place};
+ghost use Rattle.session_base.specs.Draws.{told_draws};
+ghost use Rattle.session_base.specs.Halts.{IsPerformHalt};
+ghost use Rattle.kadm_session.specs.Renewing.{renewed};
 ghost use Rattle.kadm_session.specs.declared.intake.Asked.TheVariants.{ResetsLog};
 ghost use Rattle.kdb_disk.specs.Frames.{IsCall, IsCrashSafe};
+ghost use Rattle.kdb_histories.specs.Calls.{HasTimeLeft, ResetLog};
 ghost use Rattle.kdb_histories.specs.Seen.{reset_point, seen};
 ghost use Rattle.kdb_model.specs.Calls.{is_last};
 ghost use Rattle.kdb_places.specs.Places.{point_of};
 ghost use Rattle.kdb_plain.specs.declared.states.State.{State};
-ghost use Rattle.primary_core.specs.Opened.{HasState, place_of};
+ghost use Rattle.primary_core.specs.Opened.{HasState, MayLeave, place_of};
 ghost use Rattle.store_files.specs.Kept.{IsOnDisk};
-ghost use Rattle.store_files.specs.Recovery.{LeavesPart};
 
-use crate::halts::SessionHalt;
-use crate::replies::{Printed, print};
+use crate::moments::holds_moment;
 use kadm_commands::Reply;
 use kdb_base::{Point, Refusal, Stop, Time};
 use kdb_disk::Disk;
 use kdb_ports::Clock;
 use primary_core::Primary;
+use session_base::{Printed, SessionHalt, print};
 use std::alloc::Global;
 use store_files::laws::what_is_kept_is_recovered;
 
@@ -39,7 +39,8 @@ fn reset<D: Disk>(
     requires whole { primary.old.kept.broken ≡ false }
     ensures same { IfOk result (λ given. given ≡ printed) }
     ensures stands { (s : State) → HasState primary.old s → OnOk result (StandsAt primary.new (renewed now (seen (place_of primary.old) s))) }
-    ensures crash { (s : State) → HasState primary.old s → IsCrashSafe D.Disk disk.old disk.new (LeavesPart (place_of primary.old) (renewed_place now (place_of primary.old) ∷ [])) }
+    ensures crash { (s : State) → HasState primary.old s → IsCrashSafe D.Disk disk.old disk.new (MayLeave (place_of primary.old) s (ResetLog now)) }
+    ensures time { OnOk result (HasTimeLeft (place_of primary.old)) }
     ensures on { D.tells → OnOk result (IsOnDisk primary.new.kept (D.view disk.new)) }
     ensures whole { OnOk result (primary.new.kept.broken ≡ false) }
     ensures realm { OnOk result (primary.new.kept.realm ≡ primary.old.kept.realm) }
@@ -72,7 +73,8 @@ fn renew_at<D: Disk>(
     ensures reply { IfOk result (λ printed. printed.reply ≡ Reply.Done (reset_point now (place_of primary.old))) }
     ensures text { IfOk result (λ printed. printed.text ≡ reply_text printed.reply) }
     ensures stands { (s : State) → HasState primary.old s → OnOk result (StandsAt primary.new (renewed now (seen (place_of primary.old) s))) }
-    ensures crash { (s : State) → HasState primary.old s → IsCrashSafe D.Disk disk.old disk.new (LeavesPart (place_of primary.old) (renewed_place now (place_of primary.old) ∷ [])) }
+    ensures crash { (s : State) → HasState primary.old s → IsCrashSafe D.Disk disk.old disk.new (MayLeave (place_of primary.old) s (ResetLog now)) }
+    ensures time { OnOk result (HasTimeLeft (place_of primary.old)) }
     ensures on { D.tells → OnOk result (IsOnDisk primary.new.kept (D.view disk.new)) }
     ensures whole { OnOk result (primary.new.kept.broken ≡ false) }
     ensures realm { OnOk result (primary.new.kept.realm ≡ primary.old.kept.realm) }
@@ -112,6 +114,7 @@ pub(crate) fn renew<D: Disk, C: Clock>(
 {
     what_is_kept_is_recovered(disk);
     let now = clock.now();
+    holds_moment(now);
     match primary.base_point(now) {
         Some(base) => renew_at(alloc, primary, disk, base, now),
         None => match print(alloc, Reply::Refused(Refusal::TimeEnd)) {

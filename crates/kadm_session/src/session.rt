@@ -2,13 +2,14 @@
 
 ghost use Rattle.std.specs.Prelude.{◌≡◌, ◌≢◌, ◌<◌, ◌∷◌, ◌||◌, IsTrue, Bool, false, List, [], ℕ, Option, Some, None, Ok, Err, IfErr, IfOk, OnOk, OnErr};
 ghost use Rattle.kadm_lines.specs.Reader.{work_left};
-ghost use Rattle.kadm_session.specs.Courses.{Ending, EndsAs, GoesOnFrom, IsAtRest, IsBetweenLines, IsStopped, Leaves, Stops, course, ending};
+ghost use Rattle.kadm_session.specs.Courses.{Ending, EndsAs, GoesOnFrom, IsAtRest, IsBetweenLines, IsDoneWhole, Leaves, Stops, course, ending};
+ghost use Rattle.session_base.specs.Stages.{IsStopped};
 ghost use Rattle.kadm_session.specs.Deciding.{Decides, IsHalfway, IsLineSafe};
-ghost use Rattle.kadm_session.specs.Draws.{told_draws};
-ghost use Rattle.kadm_session.specs.Halts.{Counts, IsAnswerHalt, IsPerformHalt};
+ghost use Rattle.session_base.specs.Draws.{told_draws};
+ghost use Rattle.session_base.specs.Halts.{Counts, IsAnswerHalt, IsPerformHalt};
 ghost use Rattle.kadm_session.specs.Input.{IsAsked};
 ghost use Rattle.kadm_session.specs.Intake.{coming, NoCommand, HasTaken};
-ghost use Rattle.kadm_session.specs.Replies.{reply_in, text_in, text_of};
+ghost use Rattle.session_base.specs.Replies.{reply_in, text_in, text_of};
 ghost use Rattle.kadm_session.specs.Steps.{is_refusal, refuses};
 ghost use Rattle.kadm_session.specs.Turns.{GoesOn};
 ghost use Rattle.kadm_session.specs.declared.intake.Asked.{Asked as Asks};
@@ -20,16 +21,15 @@ ghost use Rattle.primary_core.specs.Opened.{HasState, place_of};
 ghost use Rattle.store_files.specs.Kept.{IsOnDisk};
 
 use crate::commands::perform;
-use crate::halts::SessionHalt;
 use crate::intake::{Asked, Next, next_command};
 use crate::rekeying::rekey;
 use crate::renewing::renew;
-use crate::replies::{Printed, print, write_any};
 use kadm_commands::Reply;
 use kadm_lines::LineReader;
 use kdb_disk::Disk;
 use kdb_ports::{Clock, Entropy, Sink, Source};
 use primary_core::Primary;
+use session_base::{Printed, SessionHalt, print, write_any};
 use std::alloc::Global;
 use store_files::laws::what_is_kept_is_recovered;
 
@@ -223,6 +223,9 @@ pub fn serve<S: Source, K: Sink, D: Disk, C: Clock, E: Entropy>(
     ensures ended { (s : State) (end : Ending) → HasState primary.old s
         → ending (course (K.taken sink.old) false (coming primary.old.kept.realm reader.old (S.left source.old)) (told_draws (C.moments clock.old) (E.stream entropy.old)) (seen (place_of primary.old) s)) ≡ Some end
         → IfOk result (λ refused. EndsAs (K.taken sink.new) refused primary.new (told_draws (C.moments clock.new) (E.stream entropy.new)) end) }
+    // What each line asks for was done as events of the primary's history.
+    ensures done { (s : State) → HasState primary.old s → OnOk result
+        (IsDoneWhole (course (K.taken sink.old) false (coming primary.old.kept.realm reader.old (S.left source.old)) (told_draws (C.moments clock.old) (E.stream entropy.old)) (seen (place_of primary.old) s))) }
     ensures on { D.tells → OnOk result (IsOnDisk primary.new.kept (D.view disk.new)) }
     ensures whole { OnOk result (primary.new.kept.broken ≡ false) }
 
@@ -242,7 +245,7 @@ pub fn serve<S: Source, K: Sink, D: Disk, C: Clock, E: Entropy>(
     ensures at_limit { D.tells → (s : State) → HasState primary.old s → result ≡ Err SessionHalt.InputTooLong
         → IsBetweenLines (course (K.taken sink.old) false (coming primary.old.kept.realm reader.old (S.left source.old)) (told_draws (C.moments clock.old) (E.stream entropy.old)) (seen (place_of primary.old) s)) (K.taken sink.new) (D.view disk.new) }
 
-    // A crash at any moment leaves a place of the session.
+    // A crash at any moment leaves a place of the session, which the events of its lines reach.
     ensures moments { D.tells → (s : State) → HasState primary.old s → LeavesOnly (D.view disk.old) (D.view disk.new)
         (Leaves (course (K.taken sink.old) false (coming primary.old.kept.realm reader.old (S.left source.old)) (told_draws (C.moments clock.old) (E.stream entropy.old)) (seen (place_of primary.old) s))) }
 
@@ -291,6 +294,8 @@ pub fn serve_one<K: Sink, D: Disk, C: Clock, E: Entropy>(
     ensures ended { (s : State) (end : Ending) → HasState primary.old s
         → ending (course (K.taken sink.old) false (Some (asked.now ∷ [])) (told_draws (C.moments clock.old) (E.stream entropy.old)) (seen (place_of primary.old) s)) ≡ Some end
         → IfOk result (λ refused. EndsAs (K.taken sink.new) refused primary.new (told_draws (C.moments clock.new) (E.stream entropy.new)) end) }
+    ensures done { (s : State) → HasState primary.old s → OnOk result
+        (IsDoneWhole (course (K.taken sink.old) false (Some (asked.now ∷ [])) (told_draws (C.moments clock.old) (E.stream entropy.old)) (seen (place_of primary.old) s))) }
     ensures on { D.tells → OnOk result (IsOnDisk primary.new.kept (D.view disk.new)) }
     ensures whole { OnOk result (primary.new.kept.broken ≡ false) }
     ensures stopped { D.tells → (s : State) → HasState primary.old s → OnErr result

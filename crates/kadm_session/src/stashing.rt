@@ -4,27 +4,26 @@ ghost use Rattle.std.specs.Prelude.{◌≡◌, ◌≢◌, false, true, Err, IfEr
 ghost use Rattle.kadm_commands.specs.declared.commands.Command.TheVariants.{Stash};
 ghost use Rattle.kadm_replies.specs.Replies.{reply_text};
 ghost use Rattle.kadm_session.specs.Deciding.{StandsAt};
-ghost use Rattle.kadm_session.specs.Halts.{IsPerformHalt};
+ghost use Rattle.kadm_session.specs.Events.{Performed};
+ghost use Rattle.session_base.specs.Halts.{IsPerformHalt};
 ghost use Rattle.kadm_session.specs.Input.{is_stash};
 ghost use Rattle.kadm_session.specs.Steps.{ask_at, local_client, refuses};
 ghost use Rattle.kdb_disk.specs.Frames.{IsCall, IsCrashSafe};
 ghost use Rattle.kdb_histories.specs.Asks.{Replied};
-ghost use Rattle.kdb_histories.specs.Seen.{after_ask, answer_at, made_at, seen};
-ghost use Rattle.kdb_histories.specs.Stages.{places};
+ghost use Rattle.kdb_histories.specs.Calls.{Perform};
+ghost use Rattle.kdb_histories.specs.Seen.{after_ask, seen};
 ghost use Rattle.kdb_plain.specs.declared.states.State.{State};
-ghost use Rattle.primary_core.specs.Opened.{HasState, place_of};
+ghost use Rattle.primary_core.specs.Opened.{HasState, MayLeave, place_of};
 ghost use Rattle.primary_core.specs.Refusing.{IsStashReply};
 ghost use Rattle.store_files.specs.Kept.{IsOnDisk};
-ghost use Rattle.store_files.specs.Recovery.{LeavesPart};
 
 use crate::clients::local_client;
-use crate::halts::SessionHalt;
-use crate::replies::{Printed, print};
 use kadm_commands::{Command, Reply};
 use kdb_base::{MemoryOut, Time};
 use kdb_disk::Disk;
 use primary_core::Primary;
 use princ_name::Name;
+use session_base::{Printed, SessionHalt, print};
 use std::alloc::Global;
 use store_files::laws::what_is_kept_is_recovered;
 
@@ -61,9 +60,9 @@ fn restash_for<D: Disk>(
     requires client { client.now ≡ local_client primary.old.kept.realm }
     requires on { D.tells → IsOnDisk primary.old.kept (D.view disk.old) }
     requires whole { primary.old.kept.broken ≡ false }
-    ensures reply { (s : State) (random : List ℕ) → HasState primary.old s → IfOk result (λ printed. answer_at (ask_at Stash now random (seen (place_of primary.old) s)) (seen (place_of primary.old) s) ≡ Replied printed.reply) }
+    ensures performs { (s : State) (random : List ℕ) → HasState primary.old s → IfOk result (λ printed. Performed (ask_at Stash now random (seen (place_of primary.old) s)) (seen (place_of primary.old) s) (Replied printed.reply)) }
     ensures stands { (s : State) (random : List ℕ) → HasState primary.old s → OnOk result (StandsAt primary.new (after_ask (ask_at Stash now random (seen (place_of primary.old) s)) (seen (place_of primary.old) s))) }
-    ensures crash { (s : State) (random : List ℕ) → HasState primary.old s → IsCrashSafe D.Disk disk.old disk.new (LeavesPart (place_of primary.old) (places (made_at (ask_at Stash now random (seen (place_of primary.old) s)) (seen (place_of primary.old) s)))) }
+    ensures crash { (s : State) (random : List ℕ) → HasState primary.old s → IsCrashSafe D.Disk disk.old disk.new (MayLeave (place_of primary.old) s (Perform (ask_at Stash now random (seen (place_of primary.old) s)))) }
     ensures text { IfOk result (λ printed. printed.text ≡ reply_text printed.reply) }
     ensures on { D.tells → OnOk result (IsOnDisk primary.new.kept (D.view disk.new)) }
     ensures whole { OnOk result (primary.new.kept.broken ≡ false) }
@@ -96,9 +95,9 @@ pub(crate) fn restash<D: Disk>(
 ) -> Result<Printed, SessionHalt>
     requires on { D.tells → IsOnDisk primary.old.kept (D.view disk.old) }
     requires whole { primary.old.kept.broken ≡ false }
-    ensures reply { (s : State) (random : List ℕ) → HasState primary.old s → IfOk result (λ printed. answer_at (ask_at Stash now random (seen (place_of primary.old) s)) (seen (place_of primary.old) s) ≡ Replied printed.reply) }
+    ensures performs { (s : State) (random : List ℕ) → HasState primary.old s → IfOk result (λ printed. Performed (ask_at Stash now random (seen (place_of primary.old) s)) (seen (place_of primary.old) s) (Replied printed.reply)) }
     ensures stands { (s : State) (random : List ℕ) → HasState primary.old s → OnOk result (StandsAt primary.new (after_ask (ask_at Stash now random (seen (place_of primary.old) s)) (seen (place_of primary.old) s))) }
-    ensures crash { (s : State) (random : List ℕ) → HasState primary.old s → IsCrashSafe D.Disk disk.old disk.new (LeavesPart (place_of primary.old) (places (made_at (ask_at Stash now random (seen (place_of primary.old) s)) (seen (place_of primary.old) s)))) }
+    ensures crash { (s : State) (random : List ℕ) → HasState primary.old s → IsCrashSafe D.Disk disk.old disk.new (MayLeave (place_of primary.old) s (Perform (ask_at Stash now random (seen (place_of primary.old) s)))) }
     ensures text { IfOk result (λ printed. printed.text ≡ reply_text printed.reply) }
     ensures on { D.tells → OnOk result (IsOnDisk primary.new.kept (D.view disk.new)) }
     ensures whole { OnOk result (primary.new.kept.broken ≡ false) }

@@ -1,15 +1,15 @@
 use Rattle.std.proofs.Common.{◌∙◌, ap, refl}
-use Rattle.kdb_histories.specs.Seen.{made_at, seen}
-use Rattle.kdb_histories.specs.Stages.{places}
+use Rattle.kdb_histories.specs.Calls.{Perform}
 use Rattle.kdb_places.specs.Places.{Place}
 use Rattle.primary_core.specs.Opened.{place_of}
 use Rattle.performed_plans.specs.Ready.{change_places}
-use Rattle.kadm_session.proofs.Making.{change_realm, crash_changing, crash_still, places_are, shows_changed, stands_changed, stands_still}
+use Rattle.kadm_session.proofs.Leaving.{may_still}
+use Rattle.kadm_session.proofs.Making.{change_realm, crash_changing, places_are, shows_changed, stands_changed, stands_still}
 use Rattle.kadm_session.proofs.commands.carry_out.Goals as goal
 
 pub returns-in-None-clause-crash : goal.returns-in-None-clause-crash
 returns-in-None-clause-crash g c = λ ask s clock is has.
-    crash_still g.D.Disk c.args.disk.now c.args.disk.now (place_of c.args.primary.now) (places (made_at ask (seen (place_of c.args.primary.now) s))) refl
+    may_still g.D.Disk c.args.disk.now c.args.disk.now (place_of c.args.primary.now) s (Perform ask) refl
     (λ told. c.what_is_kept_is_recovered.ensures c.args.primary.now.kept (c.requires.on told))
 
 pub returns-in-Ok-clause-realm : goal.returns-in-Ok-clause-realm
@@ -35,13 +35,13 @@ returns-in-Ok-clause-stands g c = λ ask s clock is has.
 pub returns-in-Ok-clause-crash : goal.returns-in-Ok-clause-crash
 returns-in-Ok-clause-crash g c = λ ask s clock is has.
     let o = c.args.primary.now in
-    crash_changing g.D.Disk c.args.disk.now c.make.new.disk (place_of o) (change_places c.args.now c.in-Some.change.op (place_of o)) (places (made_at ask (seen (place_of o) s)))
+    crash_changing g.D.Disk c.args.disk.now c.make.new.disk o ask c.args.judged.printed.reply c.args.judged.change s (change_places c.args.now c.in-Some.change.op (place_of o)) is has
     (places_are c.changes_make_places.ensures o ask c.args.judged.printed.reply c.args.judged.change c.in-Some.change s c.args.now clock c.in-Some.is is has)
     c.make.ensures.crash
 
 pub returns-in-Err-clause-crash : goal.returns-in-Err-clause-crash
 returns-in-Err-clause-crash g c = λ ask s clock is has.
     let o = c.args.primary.now in
-    crash_changing g.D.Disk c.args.disk.now c.make.new.disk (place_of o) (change_places c.args.now c.in-Some.change.op (place_of o)) (places (made_at ask (seen (place_of o) s)))
+    crash_changing g.D.Disk c.args.disk.now c.make.new.disk o ask c.args.judged.printed.reply c.args.judged.change s (change_places c.args.now c.in-Some.change.op (place_of o)) is has
     (places_are c.changes_make_places.ensures o ask c.args.judged.printed.reply c.args.judged.change c.in-Some.change s c.args.now clock c.in-Some.is is has)
     c.make.ensures.crash

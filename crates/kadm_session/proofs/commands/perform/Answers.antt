@@ -1,9 +1,9 @@
 use Rattle.std.proofs.Common.{refl}
 use Rattle.kdb_histories.specs.Seen.{seen}
 use Rattle.primary_core.specs.Opened.{place_of}
-use Rattle.kadm_session.specs.Draws.{told_draws}
+use Rattle.session_base.specs.Draws.{told_draws}
 use Rattle.kadm_session.specs.declared.intake.Asked.TheVariants.{Does}
-use Rattle.kadm_session.proofs.Making.{safe_still}
+use Rattle.kadm_session.proofs.Leaving.{safe_still}
 use Rattle.kadm_session.proofs.commands.perform.Goals as goal
 
 pub returns-in-Err-clause-safe : goal.returns-in-Err-clause-safe

@@ -6,14 +6,15 @@ use Rattle.kdb_histories.specs.Seen.{Seen}
 use Rattle.kdb_places.specs.Places.{Place}
 use Rattle.kdb_ports.specs.Parts.{SaidPart}
 use Rattle.kadm_session.specs.Courses.{HasStoppedAfter, MayStop}
-use Rattle.kadm_session.specs.Draws.{Draws}
+use Rattle.session_base.specs.Draws.{Draws}
+use Rattle.kadm_session.specs.Events.{ArePerformed, IsPerformed}
 use Rattle.kadm_session.specs.Steps.{draws_after, places_by, places_made, said, seen_after, text_to}
 use Rattle.kadm_session.specs.declared.intake.Asked.{Asked}
 use Rattle.kadm_session.proofs.laws.stops_are_fronts.Goals as goal
 
 after_all : (taken : List ℕ) (draws : Draws) (at : Seen) (out : Option (List ℕ)) (first : Place) (others : List Place)
     → out ≡ Some taken → first ≡ at.place → others ≡ [] → HasStoppedAfter taken [] draws at out first others
-unfolding said places_made
+unfolding said places_made ArePerformed
 after_all taken draws at out first others is first_is none = record {
   answered = 0;
   done = 0;
@@ -24,13 +25,14 @@ after_all taken draws at out first others is first_is none = record {
   unwritten = [];
   out_is = is ∙ ap Some (sym (append-nil taken));
   replies = refl;
+  performed = tt;
   first_is = first_is;
   others_are = sym none;
 }
 
 in_change : (taken : List ℕ) (asked : Asked) (commands : List Asked) (draws : Draws) (at : Seen) (out : Option (List ℕ)) (first : Place) (others : List Place)
     → out ≡ Some taken → first ≡ at.place → others ≡ places_by asked draws at → HasStoppedAfter taken (asked ∷ commands) draws at out first others
-unfolding said places_made
+unfolding said places_made ArePerformed
 in_change taken asked commands draws at out first others is first_is made = record {
   answered = 0;
   done = 1;
@@ -41,15 +43,16 @@ in_change taken asked commands draws at out first others is first_is made = reco
   unwritten = [];
   out_is = is ∙ ap Some (sym (append-nil taken));
   replies = refl;
+  performed = tt;
   first_is = first_is;
   others_are = append-nil (places_by asked draws at) ∙ sym made;
 }
 
 in_reply : (taken : List ℕ) (asked : Asked) (commands : List Asked) (draws : Draws) (at : Seen) (out : Option (List ℕ)) (first : Place) (others : List Place)
-    → SaidPart (text_to asked draws at) (Some taken) out → first ≡ (seen_after asked draws at).place → others ≡ []
+    → IsPerformed asked draws at → SaidPart (text_to asked draws at) (Some taken) out → first ≡ (seen_after asked draws at).place → others ≡ []
     → HasStoppedAfter taken (asked ∷ commands) draws at out first others
-unfolding said places_made
-in_reply taken asked commands draws at out first others part first_is none =
+unfolding said places_made ArePerformed
+in_reply taken asked commands draws at out first others performed part first_is none =
     let text = text_to asked draws at in
     let made = places_by asked draws at ++ [] in
     record {
@@ -62,15 +65,16 @@ in_reply taken asked commands draws at out first others part first_is none =
       unwritten = drop part.count text;
       out_is = part.part;
       replies = append-nil text ∙ sym (take-append-drop part.count text);
+      performed = (performed, tt);
       first_is = first_is;
       others_are = sym (append-nil made) ∙ ap (λ (places : List Place). made ++ places) (sym none);
     }
 
 in_others : (taken : List ℕ) (asked : Asked) (commands : List Asked) (draws : Draws) (at : Seen) (out : Option (List ℕ)) (first : Place) (others : List Place)
-    → HasStoppedAfter (taken ++ text_to asked draws at) commands (draws_after asked draws at) (seen_after asked draws at) out first others
+    → IsPerformed asked draws at → HasStoppedAfter (taken ++ text_to asked draws at) commands (draws_after asked draws at) (seen_after asked draws at) out first others
     → HasStoppedAfter taken (asked ∷ commands) draws at out first others
-unfolding said places_made
-in_others taken asked commands draws at out first others rest =
+unfolding said places_made ArePerformed
+in_others taken asked commands draws at out first others performed rest =
     let text = text_to asked draws at in
     let made = places_by asked draws at in
     let before = places_made (take rest.answered commands) (draws_after asked draws at) (seen_after asked draws at) in
@@ -84,6 +88,7 @@ in_others taken asked commands draws at out first others rest =
       unwritten = rest.unwritten;
       out_is = rest.out_is ∙ ap Some (append_assoc taken text rest.written);
       replies = ap (λ (bytes : List ℕ). text ++ bytes) rest.replies ∙ sym (append_assoc text rest.written rest.unwritten);
+      performed = (performed, rest.performed);
       first_is = rest.first_is;
       others_are = ap (λ (places : List Place). made ++ places) rest.others_are ∙ sym (append_assoc made before others);
     }
@@ -93,10 +98,10 @@ stopped_after : (taken : List ℕ) (commands : List Asked) (draws : Draws) (at :
 unfolding MayStop
 stopped_after taken [] draws at out first others h = after_all taken draws at out first others h.0 h.1 h.2
 stopped_after taken (asked ∷ commands) draws at out first others (inl (inl h)) = in_change taken asked commands draws at out first others h.0 h.1 h.2
-stopped_after taken (asked ∷ commands) draws at out first others (inl (inr h)) = in_reply taken asked commands draws at out first others h.0 h.1 h.2
+stopped_after taken (asked ∷ commands) draws at out first others (inl (inr h)) = in_reply taken asked commands draws at out first others h.0 h.1 h.2 h.3
 stopped_after taken (asked ∷ commands) draws at out first others (inr h) =
-    in_others taken asked commands draws at out first others
-    (stopped_after (taken ++ text_to asked draws at) commands (draws_after asked draws at) (seen_after asked draws at) out first others h)
+    in_others taken asked commands draws at out first others h.0
+    (stopped_after (taken ++ text_to asked draws at) commands (draws_after asked draws at) (seen_after asked draws at) out first others h.1)
 
 pub returns : goal.returns
 returns c = stopped_after

@@ -4,8 +4,8 @@ use Rattle.kadm_commands.specs.declared.replies.Reply.{Reply}
 use Rattle.kdb_histories.specs.Seen.{seen}
 use Rattle.primary_core.specs.Opened.{place_of}
 use Rattle.kadm_session.specs.Deciding.{Decides}
-use Rattle.kadm_session.specs.Draws.{told_draws}
-use Rattle.kadm_session.specs.declared.halts.SessionHalt.TheVariants.{MemoryOut, DrawFault}
+use Rattle.session_base.specs.Draws.{told_draws}
+use Rattle.session_base.specs.declared.halts.SessionHalt.TheVariants.{MemoryOut, DrawFault}
 use Rattle.kadm_session.specs.declared.intake.Asked.TheVariants.{Rekeys}
 use Rattle.kadm_session.proofs.Lines.{halfway_done}
 use Rattle.kadm_session.proofs.Turning.{err_on}

@@ -3,8 +3,8 @@ use Rattle.std.proofs.lemmas.List.{drop_all}
 use Rattle.kdb_histories.specs.Seen.{seen}
 use Rattle.primary_core.specs.Opened.{Opened, place_of}
 use Rattle.princ_name.specs.Printed.{IsPrinted}
-use Rattle.kadm_session.specs.declared.halts.SessionHalt.TheVariants.{MemoryOut, DrawFault}
-use Rattle.kadm_session.proofs.Making.{crash_still}
+use Rattle.session_base.specs.declared.halts.SessionHalt.TheVariants.{MemoryOut, DrawFault}
+use Rattle.kadm_session.proofs.Leaving.{crash_still}
 use Rattle.kadm_session.proofs.Moving.{rekeyed_all, rekeyed_part, rekeyed_refused, step_ok, stopped_safe, underway_as, underway_first, underway_next, underway_safe, word_has, word_next}
 use Rattle.kadm_session.proofs.Turning.{err_on}
 use Rattle.kadm_session.proofs.rekeying.rekey_all.Goals as goal

@@ -3,15 +3,14 @@ use Rattle.kdb_base.specs.declared.outcomes.Refusal.{Refusal}
 use Rattle.kdb_base.specs.declared.outcomes.Stop.{Stop}
 use Rattle.kdb_disk.specs.Frames.{IsCrashSafe}
 use Rattle.kdb_histories.specs.Asks.{Moved, NotMoved}
-use Rattle.kdb_histories.specs.Seen.{made_at, seen}
-use Rattle.kdb_histories.specs.Stages.{places}
-use Rattle.primary_core.specs.Opened.{place_of}
+use Rattle.kdb_histories.specs.Calls.{Perform}
+use Rattle.kdb_histories.specs.Seen.{seen}
+use Rattle.primary_core.specs.Opened.{MayLeave, place_of}
 use Rattle.primary_rekeying.specs.Moving.{answer_of}
 use Rattle.princ_name.specs.Readings.{name_said}
-use Rattle.store_files.specs.Recovery.{LeavesPart}
 use Rattle.kadm_session.specs.RekeyedNames.{IsMoved}
 use Rattle.kadm_session.specs.Rekeying.{rekey_ask}
-use Rattle.kadm_session.proofs.Moving.{crash_made, moved_not, moved_on, moved_realm, printed_said}
+use Rattle.kadm_session.proofs.Moving.{moved_not, moved_on, moved_realm, printed_said}
 use Rattle.kadm_session.proofs.rekeying.rekey_with.Goals as goal
 
 pub returns-in-Ok-clause-done : goal.returns-in-Ok-clause-done
@@ -57,23 +56,17 @@ returns-in-Err-Refused-clause-on g c = λ told.
 pub returns-in-Ok-clause-crash : goal.returns-in-Ok-clause-crash
 returns-in-Ok-clause-crash g c = λ s has.
     let named = printed_said c.printed_form_spells_the_name.ensures c.args.name.now c.requires.printed in
-    let at = seen (place_of c.args.primary.now) s in
-    subst (λ (r : List ℕ). IsCrashSafe g.D.Disk c.args.disk.now c.rekey_now.new.disk (LeavesPart (place_of c.args.primary.now) (places (made_at (rekey_ask c.args.now r c.args.name.now) at)))) c.block_of.ensures
-    (crash_made g.D.Disk c.args.disk.now c.rekey_now.new.disk (rekey_ask c.args.now c.block_of.result.now c.args.name.now) (place_of c.args.primary.now) s
-    (c.rekey_now.ensures.crash s (name_said c.args.name.now []) c.requires.whole has named))
+    subst (λ (r : List ℕ). IsCrashSafe g.D.Disk c.args.disk.now c.rekey_now.new.disk (MayLeave (place_of c.args.primary.now) s (Perform (rekey_ask c.args.now r c.args.name.now)))) c.block_of.ensures
+    (c.rekey_now.ensures.crash s (name_said c.args.name.now []) c.requires.whole has named)
 
 pub returns-in-Err-Refused-clause-crash : goal.returns-in-Err-Refused-clause-crash
 returns-in-Err-Refused-clause-crash g c = λ s has.
     let named = printed_said c.printed_form_spells_the_name.ensures c.args.name.now c.requires.printed in
-    let at = seen (place_of c.args.primary.now) s in
-    subst (λ (r : List ℕ). IsCrashSafe g.D.Disk c.args.disk.now c.rekey_now.new.disk (LeavesPart (place_of c.args.primary.now) (places (made_at (rekey_ask c.args.now r c.args.name.now) at)))) c.block_of.ensures
-    (crash_made g.D.Disk c.args.disk.now c.rekey_now.new.disk (rekey_ask c.args.now c.block_of.result.now c.args.name.now) (place_of c.args.primary.now) s
-    (c.rekey_now.ensures.crash s (name_said c.args.name.now []) c.requires.whole has named))
+    subst (λ (r : List ℕ). IsCrashSafe g.D.Disk c.args.disk.now c.rekey_now.new.disk (MayLeave (place_of c.args.primary.now) s (Perform (rekey_ask c.args.now r c.args.name.now)))) c.block_of.ensures
+    (c.rekey_now.ensures.crash s (name_said c.args.name.now []) c.requires.whole has named)
 
 pub returns-in-Err-Halt-clause-crash : goal.returns-in-Err-Halt-clause-crash
 returns-in-Err-Halt-clause-crash g c = λ s has.
     let named = printed_said c.printed_form_spells_the_name.ensures c.args.name.now c.requires.printed in
-    let at = seen (place_of c.args.primary.now) s in
-    subst (λ (r : List ℕ). IsCrashSafe g.D.Disk c.args.disk.now c.rekey_now.new.disk (LeavesPart (place_of c.args.primary.now) (places (made_at (rekey_ask c.args.now r c.args.name.now) at)))) c.block_of.ensures
-    (crash_made g.D.Disk c.args.disk.now c.rekey_now.new.disk (rekey_ask c.args.now c.block_of.result.now c.args.name.now) (place_of c.args.primary.now) s
-    (c.rekey_now.ensures.crash s (name_said c.args.name.now []) c.requires.whole has named))
+    subst (λ (r : List ℕ). IsCrashSafe g.D.Disk c.args.disk.now c.rekey_now.new.disk (MayLeave (place_of c.args.primary.now) s (Perform (rekey_ask c.args.now r c.args.name.now)))) c.block_of.ensures
+    (c.rekey_now.ensures.crash s (name_said c.args.name.now []) c.requires.whole has named)

@@ -3,11 +3,11 @@ use Rattle.kdb_histories.specs.Seen.{seen}
 use Rattle.kdb_ports.specs.Parts.{SaidPart}
 use Rattle.kdb_ports.specs.Told.{after_told}
 use Rattle.primary_core.specs.Opened.{place_of}
-use Rattle.kadm_session.specs.Draws.{told_draws}
-use Rattle.kadm_session.specs.Replies.{reply_in}
+use Rattle.session_base.specs.Draws.{told_draws}
+use Rattle.session_base.specs.Replies.{reply_in}
 use Rattle.kadm_session.proofs.Going.{goes_on, line_leaves, line_stopped, reply_stopped}
 use Rattle.kadm_session.proofs.Turning.{err_on, rests_halfway}
-use Rattle.kadm_session.specs.declared.halts.SessionHalt.TheVariants.{MemoryOut, DrawFault}
+use Rattle.session_base.specs.declared.halts.SessionHalt.TheVariants.{MemoryOut, DrawFault}
 use Rattle.kadm_session.proofs.session.answer.Goals as goal
 
 pub returns-in-Err-clause-stopped : goal.returns-in-Err-clause-stopped

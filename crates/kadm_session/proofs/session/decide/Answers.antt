@@ -1,13 +1,13 @@
 use Rattle.std.proofs.Common.{refl}
 use Rattle.kdb_histories.specs.Seen.{seen}
 use Rattle.primary_core.specs.Opened.{place_of}
-use Rattle.kadm_session.specs.Draws.{told_draws}
+use Rattle.session_base.specs.Draws.{told_draws}
 use Rattle.kadm_session.proofs.Going.{decides_nothing, decides_refused}
-use Rattle.kadm_session.specs.declared.halts.SessionHalt.TheVariants.{MemoryOut, DrawFault}
+use Rattle.session_base.specs.declared.halts.SessionHalt.TheVariants.{MemoryOut, DrawFault}
 use Rattle.kadm_session.specs.declared.intake.Asked.TheVariants.{Rekeys}
 use Rattle.kadm_session.proofs.Lines.{halfway_as, halfway_still}
 use Rattle.kadm_session.proofs.Turning.{err_on}
-use Rattle.kadm_session.proofs.Making.{safe_still}
+use Rattle.kadm_session.proofs.Leaving.{safe_still}
 use Rattle.kadm_session.proofs.session.decide.Goals as goal
 
 pub returns-in-Nothing-clause-decided : goal.returns-in-Nothing-clause-decided

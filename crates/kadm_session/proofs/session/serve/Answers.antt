@@ -1,7 +1,7 @@
 use Rattle.std.proofs.Common.{◌∙◌, refl, ap, arith, Ok}
 use Rattle.kdb_disk.proofs.Runs.{then_on}
-use Rattle.kadm_session.specs.declared.halts.SessionHalt.TheVariants.{MemoryOut, DrawFault, ReadFault, InputTooLong}
-use Rattle.kadm_session.proofs.Turning.{between_from, ended_from, err_on, goes_first, goes_none, goes_on_then, goes_some, goes_with, is_refused, leaves_here, rests_on, stopped_from, was_refused}
+use Rattle.session_base.specs.declared.halts.SessionHalt.TheVariants.{MemoryOut, DrawFault, ReadFault, InputTooLong}
+use Rattle.kadm_session.proofs.Turning.{between_from, done_from, ended_from, err_on, goes_first, goes_none, goes_on_then, goes_some, goes_with, is_refused, leaves_here, rests_on, stopped_from, was_refused}
 use Rattle.kadm_session.proofs.session.serve.Goals as goal
 
 pub loop-now_refused-init : goal.loop-now_refused-init
@@ -70,6 +70,12 @@ returns-in-Ok-None-clause-ended g c = λ s end has e.
     let none = goes_none _ _ c.in-Ok-None.field-0 c.in-Ok-None.is c.in-Ok-None.field-0-is (c.turn.ensures.next before.state c.loop-now_refused.refused before.has) in
     let stays = c.turn.ensures.end (c.in-Ok-None.is ∙ ap Ok c.in-Ok-None.field-0-is) in
     rw (stays.0, stays.1, c.turn.ensures.end_draws (c.in-Ok-None.is ∙ ap Ok c.in-Ok-None.field-0-is)) (ended_from _ _ _ c.loop-now_refused.refused _ _ end before none e)
+
+pub returns-in-Ok-None-clause-done : goal.returns-in-Ok-None-clause-done
+returns-in-Ok-None-clause-done g c = λ s has.
+    let before = c.loop-now_refused.invariant.goes s has in
+    done_from _ _ _ c.loop-now_refused.refused _ _ before
+    (goes_none _ _ c.in-Ok-None.field-0 c.in-Ok-None.is c.in-Ok-None.field-0-is (c.turn.ensures.next before.state c.loop-now_refused.refused before.has))
 
 pub returns-in-Ok-None-clause-moments : goal.returns-in-Ok-None-clause-moments
 returns-in-Ok-None-clause-moments g c = λ told s has.

@@ -6,7 +6,7 @@ use Rattle.kadm_lines.specs.Reader.{work_left}
 use Rattle.primary_core.specs.Opened.{HasState, place_of}
 use Rattle.store_files.specs.Kept.{IsOnDisk}
 use Rattle.kadm_session.specs.Courses.{GoesOnFrom, Leaves, course}
-use Rattle.kadm_session.specs.Draws.{told_draws}
+use Rattle.session_base.specs.Draws.{told_draws}
 use Rattle.kadm_session.specs.Intake.{coming, HasTaken}
 use Rattle.kadm_session.proofs.session.serve.Given as goal
 

@@ -1,6 +1,6 @@
 use Rattle.std.proofs.Common.{◌∙◌, refl}
 use Rattle.kadm_session.proofs.Turning.{comes_first, err_on, goes_first, goes_on_all, leaves_all, leaves_here, rests_all, rests_from, stopped_all, stops_here}
-use Rattle.kadm_session.specs.declared.halts.SessionHalt.TheVariants.{MemoryOut, DrawFault}
+use Rattle.session_base.specs.declared.halts.SessionHalt.TheVariants.{MemoryOut, DrawFault}
 use Rattle.kadm_session.proofs.session.turn.Goals as goal
 
 pub returns-in-Err-clause-stopped : goal.returns-in-Err-clause-stopped

@@ -1,6 +1,6 @@
 use Rattle.std.proofs.Common.{arith}
-use Rattle.kadm_session.proofs.Drawing.{drawn}
-use Rattle.kadm_session.proofs.draws.draw.Goals as goal
+use Rattle.session_base.proofs.Drawing.{drawn}
+use Rattle.session_base.proofs.draws.draw.Goals as goal
 
 pub returns-in-Ok-draw-clause-value : goal.returns-in-Ok-draw-clause-value
 returns-in-Ok-draw-clause-value g c =

@@ -3,8 +3,8 @@ use Rattle.std.specs.Prelude.{ℕ, ◌≤◌}
 use Rattle.kdb_base.specs.Causes.{Rose}
 use Rattle.kdb_base.specs.declared.outcomes.Halt.{Halt}
 use Rattle.kdb_base.specs.declared.outcomes.Halt.TheVariants as disk
-use Rattle.kadm_session.specs.declared.halts.SessionHalt.{SessionHalt}
-use Rattle.kadm_session.specs.declared.halts.SessionHalt.TheVariants as session
+use Rattle.session_base.specs.declared.halts.SessionHalt.{SessionHalt}
+use Rattle.session_base.specs.declared.halts.SessionHalt.TheVariants as session
 
 abbrev pub disk_as_session : Halt → SessionHalt
 disk_as_session disk.MemoryOut = session.MemoryOut

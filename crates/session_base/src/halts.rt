@@ -1,7 +1,7 @@
 //! Why a session ends early.
 
 ghost use Rattle.std.specs.Prelude.{◌≡◌};
-ghost use Rattle.kadm_session.specs.Halts.{disk_as_session};
+ghost use Rattle.session_base.specs.Halts.{disk_as_session};
 
 use kdb_base::Halt;
 

@@ -1,6 +1,6 @@
 ghost use Rattle.std.specs.Prelude.{◌≡◌, ◌⊎◌, Err, IfErr, IfOk, IfSome, OnOk, length, option_map};
-ghost use Rattle.kadm_session.specs.Draws.{bytes_of};
-ghost use Rattle.kadm_session.specs.Halts.{Counts};
+ghost use Rattle.session_base.specs.Draws.{bytes_of};
+ghost use Rattle.session_base.specs.Halts.{Counts};
 ghost use Rattle.kdb_ports.specs.Told.{later_bytes};
 
 use crate::halts::SessionHalt;

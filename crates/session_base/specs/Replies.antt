@@ -2,7 +2,7 @@
 use Rattle.std.specs.Prelude.{ℕ, List, [], Option, Some, None}
 use Rattle.kadm_commands.specs.declared.replies.Reply.{Reply}
 use Rattle.kadm_replies.specs.Replies.{reply_text}
-use Rattle.kadm_session.specs.declared.replies.Printed.{Printed}
+use Rattle.session_base.specs.declared.replies.Printed.{Printed}
 
 -- nothing is written where there is no reply
 abbrev pub text_of : Option Reply → List ℕ

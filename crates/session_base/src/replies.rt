@@ -1,12 +1,12 @@
 //! Replies with their bytes, and what is written of them.
 
 ghost use Rattle.std.specs.Prelude.{◌≡◌, ◌⊎◌, Err, IfErr, IfOk, OnOk, OnErr};
-ghost use Rattle.kadm_session.specs.Halts.{Counts};
+ghost use Rattle.session_base.specs.Halts.{Counts};
 ghost use Rattle.kdb_base.specs.Causes.{HasCause};
 ghost use Rattle.kdb_ports.specs.Told.{after_told};
 ghost use Rattle.kadm_replies.specs.Replies.{reply_text};
 ghost use Rattle.kdb_ports.specs.Parts.{SaidPart};
-ghost use Rattle.kadm_session.specs.Replies.{text_in};
+ghost use Rattle.session_base.specs.Replies.{text_in};
 
 use crate::halts::SessionHalt;
 use kadm_commands::Reply;

@@ -3,7 +3,7 @@ use Rattle.std.proofs.Common.{◌≡◌, ◌+◌, ◌∙◌, ℕ, suc, List, [],
 use Rattle.std.proofs.Math.Seq.{take-append_seam}
 use Rattle.std.specs.Prelude.{IfSome, None, Option, Some}
 use Rattle.kdb_ports.specs.Told.{StandsIn}
-use Rattle.kadm_session.specs.Draws.{bytes_of}
+use Rattle.session_base.specs.Draws.{bytes_of}
 
 same_bytes : (bytes : List ℕ) (stream : ℕ → ℕ) → StandsIn bytes stream → bytes ≡ bytes_of (length bytes) stream
 unfolding bytes_of
