@@ -6,7 +6,8 @@ use Rattle.std.proofs.lemmas.Bool.{cases_lt}
 use Rattle.std.proofs.lemmas.List.{drop_at, length-append, length-drop, length-take, length-take-le, take-append-le, take-take, take_all, take_at, take_min}
 use Rattle.kdb_ports.proofs.Told.{before_told-append}
 use Rattle.kdb_ports.specs.Told.{IsSpent, before_told}
-use Rattle.kadm_keytabs.specs.Inputs.{IsKept, IsReadWhole, IsTaken, WereTaken, most_kept}
+use Rattle.kadm_keytabs.specs.Inputs.{IsKept, IsTaken, most_kept}
+use Rattle.session_base.specs.Wholes.{IsReadWhole, WereTaken}
 
 -- of bytes behind others, those that fit
 pub fits : (n count : ℕ) (xs ys : List ℕ) → length xs ≤ n → count ≡ min (length ys) (n - length xs) → xs ++ take count ys ≡ take n (xs ++ ys)

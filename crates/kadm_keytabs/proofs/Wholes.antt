@@ -20,10 +20,10 @@ use Rattle.stash_file.specs.Pieces.{Told}
 all_kept : (text : List ℕ) → length (take most_kept text) ≤ longest_keytab → take most_kept text ≡ text
 all_kept text within = take_all most_kept text (omega (arith, length-take most_kept text, within))
 
-keytab_kept : (text : List ℕ) (entries : List Told) → IsKeytabInput (take most_kept text) entries → IsKeytabInput text entries
+pub keytab_kept : (text : List ℕ) (entries : List Told) → IsKeytabInput (take most_kept text) entries → IsKeytabInput text entries
 keytab_kept text entries k = subst (λ (t : List ℕ). IsKeytabInput t entries) (all_kept text k.within) k
 
-bad_kept : (text : List ℕ) (place : ℕ) → IsBadInput (take most_kept text) place → IsBadInput text place
+pub bad_kept : (text : List ℕ) (place : ℕ) → IsBadInput (take most_kept text) place → IsBadInput text place
 bad_kept text place (inl l) = inl (record { longer = omega (arith, length-take most_kept text, l.longer); place_is = l.place_is })
 bad_kept text place (inr b) = inr (subst (λ (t : List ℕ). IsBrokenInput t place) (all_kept text b.within) b)
 

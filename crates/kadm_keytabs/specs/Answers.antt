@@ -4,8 +4,8 @@ use Rattle.kadm_commands.specs.declared.replies.Reply.TheVariants as reply
 use Rattle.kadm_keytabs.specs.Inputs.{IsBadInput, IsKeytabInput}
 use Rattle.kadm_keytabs.specs.declared.answers.Answer.{Answer}
 use Rattle.kadm_replies.specs.Replies.{reply_text}
-use Rattle.kadm_session.specs.declared.halts.SessionHalt.{SessionHalt}
-use Rattle.kadm_session.specs.declared.halts.SessionHalt.TheVariants as session
+use Rattle.session_base.specs.declared.halts.SessionHalt.{SessionHalt}
+use Rattle.session_base.specs.declared.halts.SessionHalt.TheVariants as session
 use Rattle.kdb_base.specs.declared.outcomes.Refusal.{Refusal}
 use Rattle.kdb_base.specs.declared.outcomes.Refusal.TheVariants.{BadKeytab}
 use Rattle.kdb_ports.specs.Parts.{SaidPart}

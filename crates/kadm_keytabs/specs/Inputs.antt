@@ -1,8 +1,8 @@
 -- What is read of an input, and which keytab it is.
-use Rattle.std.specs.Prelude.{ℕ, ◌+◌, ◌≡◌, ◌<◌, ◌≤◌, ◌⊎◌, List, length, take, ◌++◌, Option, IfSome, option_map}
-use Rattle.kadm_session.specs.declared.halts.SessionHalt.{SessionHalt}
-use Rattle.kadm_session.specs.declared.halts.SessionHalt.TheVariants as session
-use Rattle.kdb_ports.specs.Told.{IsSpent, before_told}
+use Rattle.std.specs.Prelude.{ℕ, ◌≡◌, ◌<◌, ◌≤◌, ◌⊎◌, List, length, take, ◌++◌, Option, IfSome}
+use Rattle.session_base.specs.declared.halts.SessionHalt.{SessionHalt}
+use Rattle.session_base.specs.declared.halts.SessionHalt.TheVariants as session
+use Rattle.kdb_ports.specs.Told.{before_told}
 use Rattle.keytab_out.specs.Keytabs.{Holds, IsBad}
 use Rattle.stash_file.specs.Pieces.{Told}
 
@@ -14,16 +14,7 @@ longest_keytab = 1048576
 abbrev pub most_kept : ℕ
 most_kept = 1048577
 
--- ---- how far it was read
-
--- It was read to its end, and was shorter than an input may be.
-pub record IsReadWhole (before now : Option (List ℕ)) : Type 0 where
-  pub spent : IsSpent now
-  pub short : IfSome before (λ left. length left < 4294967296)
-
--- so many bytes were taken, as far as it is told
-abbrev pub WereTaken : ℕ → Option (List ℕ) → Option (List ℕ) → Type 0
-WereTaken n before now = option_map length before ≡ option_map (λ left. length left + n) now
+-- ---- what is kept of it
 
 -- the front of what is told was kept
 abbrev pub IsKept : Option (List ℕ) → List ℕ → Type 0

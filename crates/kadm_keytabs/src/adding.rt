@@ -4,8 +4,8 @@ ghost use Rattle.std.specs.Prelude.{◌≡◌, ◌≢◌, false, ℕ, List, Some
 ghost use Rattle.kadm_commands.specs.Commands.{IsOwnName};
 ghost use Rattle.kadm_keytabs.specs.Additions.{Adds, addition_by, keys_told, reply_with};
 ghost use Rattle.kadm_keytabs.specs.Answers.{Answers, IsFilterHalt, IsPartWritten, IsWritten};
-ghost use Rattle.kadm_keytabs.specs.Inputs.{IsReadWhole, WereTaken};
-ghost use Rattle.kadm_session.specs.Halts.{Counts};
+ghost use Rattle.session_base.specs.Wholes.{IsReadWhole, WereTaken};
+ghost use Rattle.session_base.specs.Halts.{Counts};
 ghost use Rattle.kdb_plain.specs.declared.states.State.{State};
 ghost use Rattle.primary_core.specs.Opened.{HasState};
 
@@ -13,13 +13,13 @@ use crate::answers::{Answer, keytab_answer, refusal_answer, write_answer};
 use crate::inputs::{blank, read_input, read_keytab_input};
 use kadm_commands::{Command, Reply};
 use kadm_plan::prepare;
-use kadm_session::SessionHalt;
 use kdb_base::{ExtractList, MemoryOut, Refusal, Time};
 use kdb_ports::{Sink, Source};
 use keytab_out::{KeytabFault, KeytabList, add_entries};
 use primary_core::laws::decisions_are_asked;
 use primary_core::{Decided, Primary};
 use princ_name::Name;
+use session_base::SessionHalt;
 use std::alloc::Global;
 
 // The keys that a reply has, or its refusal.
@@ -35,7 +35,7 @@ fn keys_in(reply: Reply) -> Result<Result<ExtractList, Refusal>, MemoryOut>
 
 // The principal's keys as they stand. Where there is no access list nobody is denied, so that it does not matter who
 // asks.
-fn keys_told(
+pub(crate) fn keys_told(
     alloc: Global,
     primary: &Primary,
     name: &Name,
@@ -58,7 +58,7 @@ fn keys_told(
 }
 
 // The keytab with the keys behind the others, or the refusal.
-fn answer_keys(
+pub(crate) fn answer_keys(
     alloc: Global,
     name: &Name,
     secs: u32,

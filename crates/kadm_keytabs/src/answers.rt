@@ -2,16 +2,16 @@
 
 ghost use Rattle.std.specs.Prelude.{◌≡◌, Err, IfErr, IfOk, OnErr, OnOk};
 ghost use Rattle.kadm_keytabs.specs.Answers.{keytab_answer, refusal_answer};
-ghost use Rattle.kadm_session.specs.Halts.{Counts};
+ghost use Rattle.session_base.specs.Halts.{Counts};
 ghost use Rattle.kdb_ports.specs.Parts.{SaidPart};
 ghost use Rattle.kdb_ports.specs.Told.{after_told};
 
 use kadm_commands::Reply;
 use kadm_replies::print_reply;
-use kadm_session::SessionHalt;
 use kdb_base::{Blob, MemoryOut, Refusal};
 use kdb_ports::{Sink, write_whole};
 use keytab_out::{KeytabList, write_keytab};
+use session_base::SessionHalt;
 use std::alloc::Global;
 
 /// The bytes of an answer, and whether they are a refusal. It does not print itself: what it has may be keys.

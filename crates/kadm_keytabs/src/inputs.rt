@@ -1,17 +1,18 @@
 //! An input that is a keytab.
 
 ghost use Rattle.std.specs.Prelude.{◌≡◌, ◌≤◌, ◌<◌, ◌++◌, ℕ, List, Err, IfErr, IfOk, OnOk, length, take};
-ghost use Rattle.kadm_keytabs.specs.Inputs.{IsBadInput, IsInputHalt, IsKept, IsKeytabInput, IsReadWhole, IsTaken, WereTaken, most_kept};
-ghost use Rattle.kadm_session.specs.Halts.{Counts};
+ghost use Rattle.kadm_keytabs.specs.Inputs.{IsBadInput, IsInputHalt, IsKept, IsKeytabInput, IsTaken, most_kept};
+ghost use Rattle.session_base.specs.Wholes.{IsReadWhole, WereTaken};
+ghost use Rattle.session_base.specs.Halts.{Counts};
 ghost use Rattle.kdb_ports.specs.Told.{IsSpent};
 ghost use Rattle.keytab_out.specs.Keytabs.{Gives, RefusesAt};
 ghost use Rattle.keytab_out.specs.declared.faults.KeytabFault.TheVariants.{BadKeytab};
 ghost use Rattle.stash_file.specs.Pieces.{Told};
 
-use kadm_session::SessionHalt;
 use kdb_base::{Blob, MemoryOut};
 use kdb_ports::Source;
 use keytab_out::{KeytabFault, KeytabList, read_keytab};
+use session_base::SessionHalt;
 use std::alloc::Global;
 
 // How many bytes a keytab has at most, as an input.

@@ -4,9 +4,12 @@
 pub mod adding;
 pub mod answers;
 pub mod inputs;
+mod judging;
 pub mod removing;
+pub mod renewing;
 
 pub use adding::ktadd_standing;
 pub use answers::Answer;
 pub use inputs::{read_input, read_keytab_input};
 pub use removing::ktremove;
+pub use renewing::ktadd_renewing;

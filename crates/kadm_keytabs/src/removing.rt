@@ -3,18 +3,18 @@
 ghost use Rattle.std.specs.Prelude.{◌≡◌, ◌≢◌, ◌<◌, ℕ, List, Some, Err, IfErr, IfOk, OnOk, length};
 ghost use Rattle.std.specs.List.{list_any};
 ghost use Rattle.kadm_keytabs.specs.Answers.{Answers, IsFilterHalt, IsPartWritten, IsWritten};
-ghost use Rattle.kadm_keytabs.specs.Inputs.{IsReadWhole, WereTaken};
+ghost use Rattle.session_base.specs.Wholes.{IsReadWhole, WereTaken};
 ghost use Rattle.kadm_keytabs.specs.Removals.{Removes, is_asked};
-ghost use Rattle.kadm_session.specs.Halts.{Counts};
+ghost use Rattle.session_base.specs.Halts.{Counts};
 ghost use Rattle.keytab_out.specs.Removed.{left};
 
 use crate::answers::{Answer, keytab_answer, refusal_answer, write_answer};
 use crate::inputs::{read_input, read_keytab_input};
-use kadm_session::SessionHalt;
 use kdb_base::{MemoryOut, Refusal};
 use kdb_ports::{Sink, Source};
 use keytab_out::{KeytabFault, KeytabList, Which, has_entry, remove_entries};
 use princ_name::Name;
+use session_base::SessionHalt;
 use std::alloc::Global;
 
 // Takes the entries out, and tells whether there was one of the name, and of the version where one is named.

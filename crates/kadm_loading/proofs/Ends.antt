@@ -7,8 +7,8 @@ use Rattle.iprop_truths.specs.Parts.{IsPart, end_of}
 use Rattle.kadm_commands.specs.declared.replies.Reply.TheVariants.{Done, Refused}
 use Rattle.kadm_loading.specs.Loads.{ComesTo, HasComeTo, HasEnd, HasRows, LeavesSome, IsLoadCause, IsLoadable, LoadEnd, Loaded, LoadsAs, LoadsTo, NotLoaded, load_reply, load_stage, place_loaded, places_loaded}
 use Rattle.kadm_replies.specs.Replies.{reply_text}
-use Rattle.kadm_session.specs.Courses.{IsStopped}
-use Rattle.kadm_session.specs.declared.halts.SessionHalt.{SessionHalt}
+use Rattle.session_base.specs.Stages.{IsStopped}
+use Rattle.session_base.specs.declared.halts.SessionHalt.{SessionHalt}
 use Rattle.kdb_base.specs.Moment.{Moment}
 use Rattle.kdb_base.specs.declared.moments.Point.{Point}
 use Rattle.kdb_base.specs.declared.outcomes.Halt.{Halt}

@@ -4,7 +4,7 @@ use Rattle.std.specs.Prelude.{Option, Some, None, IfSome, Err, option_map}
 use Rattle.std.proofs.lemmas.Option.{same_Some}
 use Rattle.dump_text.specs.Judged.{judged}
 use Rattle.dump_text.specs.Reader.{ReaderState, fresh, judged_or_bad, judged_with}
-use Rattle.kadm_loading.specs.Inputs.{IsReadWhole, WereTaken}
+use Rattle.session_base.specs.Wholes.{IsReadWhole, WereTaken}
 use Rattle.kdb_ports.specs.Told.{IsSpent, before_told}
 
 -- ---- one piece

@@ -1,6 +1,6 @@
 -- Why a load ended early.
-use Rattle.kadm_session.specs.declared.halts.SessionHalt.{SessionHalt}
-use Rattle.kadm_session.specs.declared.halts.SessionHalt.TheVariants.{MemoryOut, WriteFault, DiskFault}
+use Rattle.session_base.specs.declared.halts.SessionHalt.{SessionHalt}
+use Rattle.session_base.specs.declared.halts.SessionHalt.TheVariants.{MemoryOut, WriteFault, DiskFault}
 
 -- neither the sink nor the disk failed
 abbrev pub SparesOutput : SessionHalt → Type 0

@@ -7,7 +7,7 @@ use Rattle.iprop_truths.specs.Parts.{end_of}
 use Rattle.kadm_commands.specs.declared.replies.Reply.{Reply}
 use Rattle.kadm_commands.specs.declared.replies.Reply.TheVariants.{Done, Refused}
 use Rattle.kadm_replies.specs.Replies.{reply_text}
-use Rattle.kadm_session.specs.Courses.{Stage, StopsAt}
+use Rattle.session_base.specs.Stages.{Stage, StopsAt}
 use Rattle.kdb_base.specs.Moment.{Moment}
 use Rattle.kdb_base.specs.declared.moments.Point.{Point}
 use Rattle.kdb_base.specs.declared.outcomes.Refusal.{Refusal}

@@ -5,8 +5,8 @@ ghost use Rattle.kadm_commands.specs.declared.replies.Reply.TheVariants.{Done, R
 ghost use Rattle.kadm_loading.specs.Halts.{IsLoadingHalt, SparesOutput};
 ghost use Rattle.kadm_loading.specs.Loads.{HasEnd, LeavesSome, LoadEnd, LoadsAs, LoadsTo, load_stage, places_loaded};
 ghost use Rattle.kadm_replies.specs.Replies.{reply_text};
-ghost use Rattle.kadm_session.specs.Courses.{IsStopped};
-ghost use Rattle.kadm_session.specs.Halts.{Counts};
+ghost use Rattle.session_base.specs.Stages.{IsStopped};
+ghost use Rattle.session_base.specs.Halts.{Counts};
 ghost use Rattle.kdb_disk.specs.Frames.{IsCall};
 ghost use Rattle.kdb_disk.specs.Moments.{LeavesOnly};
 ghost use Rattle.kdb_histories.specs.Calls.{HasTimeLeft};
@@ -19,12 +19,12 @@ ghost use Rattle.store_files.specs.Recovery.{LeavesPart, RecoversTo};
 
 use dump_text::Dump;
 use kadm_commands::Reply;
-use kadm_session::{Printed, SessionHalt, print, say};
 use kdb_base::{MemoryOut, Point, Refusal, Stop, Time};
 use kdb_disk::Disk;
 use kdb_ports::{Sink, write_whole};
 use primary_core::Primary;
 use primary_loading::load;
+use session_base::{Printed, SessionHalt, print, say};
 use std::alloc::Global;
 use store_files::laws::what_is_kept_is_recovered;
 

@@ -2,10 +2,10 @@
 
 ghost use Rattle.std.specs.Prelude.{◌≡◌, ◌≢◌, ℕ, List, Option, Some, true, false, Err, IfErr, IfOk, OnErr, OnOk, Ok, option_map};
 ghost use Rattle.kadm_loading.specs.Halts.{SparesOutput};
-ghost use Rattle.kadm_loading.specs.Inputs.{IsReadWhole, WereTaken};
+ghost use Rattle.session_base.specs.Wholes.{IsReadWhole, WereTaken};
 ghost use Rattle.kadm_loading.specs.Loads.{ComesTo, HasComeTo, LeavesSome, LoadEnd, LoadsAs, load_stage, places_loaded};
-ghost use Rattle.kadm_session.specs.Courses.{IsStopped};
-ghost use Rattle.kadm_session.specs.Halts.{Counts};
+ghost use Rattle.session_base.specs.Stages.{IsStopped};
+ghost use Rattle.session_base.specs.Halts.{Counts};
 ghost use Rattle.kdb_base.specs.Moment.{Moment};
 ghost use Rattle.kdb_disk.specs.Frames.{IsCall};
 ghost use Rattle.kdb_disk.specs.Moments.{LeavesOnly};
@@ -16,10 +16,10 @@ ghost use Rattle.store_files.specs.Recovery.{LeavesPart};
 
 use crate::answering::answer;
 use crate::reading::read_dump;
-use kadm_session::SessionHalt;
 use kdb_disk::Disk;
 use kdb_ports::{Clock, Sink, Source};
 use primary_core::Primary;
+use session_base::SessionHalt;
 use std::alloc::Global;
 use store_files::laws::what_is_kept_is_recovered;
 

@@ -3,14 +3,14 @@
 ghost use Rattle.std.specs.Prelude.{◌≡◌, ◌≤◌, ◌<◌, ◌++◌, [], List, ℕ, Err, IfErr, IfOk, IfSome, OnOk, length, option_map};
 ghost use Rattle.dump_text.specs.Judged.{judged};
 ghost use Rattle.dump_text.specs.Reader.{judged_with};
-ghost use Rattle.kadm_loading.specs.Inputs.{IsReadWhole, WereTaken};
-ghost use Rattle.kadm_session.specs.Halts.{Counts, IsReadHalt};
+ghost use Rattle.session_base.specs.Wholes.{IsReadWhole, WereTaken};
+ghost use Rattle.session_base.specs.Halts.{Counts, IsReadHalt};
 ghost use Rattle.kdb_ports.specs.Told.{IsSpent};
 
 use dump_text::{Dump, DumpReader, DumpStop};
-use kadm_session::SessionHalt;
 use kdb_base::MemoryOut;
 use kdb_ports::Source;
+use session_base::SessionHalt;
 use std::alloc::Global;
 
 /// How many bytes are taken from an input at most.

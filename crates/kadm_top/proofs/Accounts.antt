@@ -4,8 +4,8 @@ use Rattle.std.specs.Prelude.{Option, Some, None, Result, Ok, Err, IfOk}
 use Rattle.std.proofs.lemmas.List.{length-map}
 use Rattle.std.proofs.lemmas.Option.{same_Some}
 use Rattle.kadm_loading.specs.Halts.{SparesOutput}
-use Rattle.kadm_session.specs.Draws.{Draws, moment_in}
-use Rattle.kadm_session.specs.declared.halts.SessionHalt.{SessionHalt}
+use Rattle.session_base.specs.Draws.{Draws, moment_in}
+use Rattle.session_base.specs.declared.halts.SessionHalt.{SessionHalt}
 use Rattle.kadm_top.specs.Accounts.{account_text, first_held, log_text, report_at, texts_of, whole_text}
 use Rattle.kadm_top.specs.Openings.{AMoment, HasOpening, IsOpening, IsToldBy, Opening, Refuses, Tells, behind}
 use Rattle.kadm_top.specs.Run.{HasRun, RunEnd, RunEndsAs, Told, refusal_line}
@@ -23,7 +23,7 @@ use Rattle.kdb_disk.specs.View.{View}
 use Rattle.kdb_places.specs.Places.{Place, last_point, no_point}
 use Rattle.kdb_ports.specs.Parts.{SaidPart}
 use Rattle.kdb_ports.specs.Told.{after_told}
-use Rattle.princ_entries.specs.declared.entries.Entry.{Entry}
+use Rattle.princ_rows.specs.declared.entries.Entry.{Entry}
 use Rattle.store_files.specs.Found.{recovers}
 use Rattle.store_files.specs.Kept.{Kept, place_kept}
 use Rattle.store_files.specs.Recovery.{IsLike}
@@ -92,12 +92,12 @@ text_then (Report kind) (Some told) now gave text is p =
 -- ---- runs
 
 by_text : (P : Opening → Type 0) (text : Option (Place → List ℕ)) (found : Result Place Refusal) (o : Opening) (p : Place) (said : List ℕ) → found ≡ Ok p → IsToldBy text found o
-    → ((f : Place → List ℕ) → text ≡ Some f → said ≡ f p) → P (Tells said) → P o
+    → ((f : Place → List ℕ) → text ≡ Some f → said ≡ f p) → P (Tells said AMoment) → P o
 by_text P text found o p said is opens says there = for text (subst (λ (r : Result Place Refusal). IsToldBy text r o) is opens) says
   where
     for : (t : Option (Place → List ℕ)) → IsToldBy t (Ok p) o → ((f : Place → List ℕ) → t ≡ Some f → said ≡ f p) → P o
     for None never other = absurd never
-    for (Some f) e other = subst P (sym e) (subst (λ (xs : List ℕ). P (Tells xs)) (other f refl) there)
+    for (Some f) e other = subst P (sym e) (subst (λ (xs : List ℕ). P (Tells xs AMoment)) (other f refl) there)
 
 by_refusal : (P : Opening → Type 0) (text : Option (Place → List ℕ)) (found : Result Place Refusal) (o : Opening) (why : Refusal) → found ≡ Err why → IsToldBy text found o → P (Refuses why AMoment) → P o
 by_refusal P text found o why is opens there = subst P (sym (subst (λ (r : Result Place Refusal). IsToldBy text r o) is opens)) there
@@ -174,7 +174,7 @@ record IsTold (text : Option (Place → List ℕ)) (found : Result Place Refusal
 
 told_by : (text : Option (Place → List ℕ)) (found : Result Place Refusal) → HasText text → IsTold text found
 told_by text (Err why) has = record { opening = Refuses why AMoment; is = refl }
-told_by text (Ok p) has = record { opening = Tells (has.its p); is = subst (λ (t : Option (Place → List ℕ)). IsToldBy t (Ok p) (Tells (has.its p))) (sym has.is) refl }
+told_by text (Ok p) has = record { opening = Tells (has.its p) AMoment; is = subst (λ (t : Option (Place → List ℕ)). IsToldBy t (Ok p) (Tells (has.its p) AMoment)) (sym has.is) refl }
 
 pub tell_has : {left : Option (List ℕ)} (files : Files) (draws : Draws) (given : Option Draws) (found : Result Words Refusal) (account : Account) → given ≡ Some draws → found ≡ Ok (words.Tell account) → HasOpening found left files given
 unfolding IsOpening

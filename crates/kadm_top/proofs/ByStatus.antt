@@ -2,8 +2,8 @@
 use Rattle.std.proofs.Common.{◌≡◌, ◌≢◌, ◌≤◌, ◌∙◌, ◌⊎◌, ℕ, refl, sym, subst, inl, inr, Bool, true, false, arith}
 use Rattle.std.specs.Prelude.{Option, List, Result, Ok, Err, IfErr, IfOk, OnErr, OnOk}
 use Rattle.kadm_loading.specs.Halts.{SparesOutput}
-use Rattle.kadm_session.specs.declared.halts.SessionHalt.{SessionHalt}
-use Rattle.kadm_session.specs.declared.halts.SessionHalt.TheVariants as session
+use Rattle.session_base.specs.declared.halts.SessionHalt.{SessionHalt}
+use Rattle.session_base.specs.declared.halts.SessionHalt.TheVariants as session
 use Rattle.kadm_top.specs.Openings.{Opening}
 use Rattle.kadm_top.specs.Reads.{InputIsRead}
 use Rattle.kadm_top.specs.Run.{HasRun, Told}

@@ -1,27 +1,35 @@
 -- From a session to the course of an input.
-use Rattle.std.proofs.Common.{◌≡◌, ◌∙◌, ℕ, ◌+◌, ◌<◌, List, length, refl, ap, sym, subst, Bool, false, IsTrue, arith, add-zero}
+use Rattle.std.proofs.Common.{◌≡◌, ◌∙◌, ℕ, ◌+◌, ◌<◌, List, [], ◌∷◌, length, refl, ap, sym, subst, inl, Bool, false, IsTrue, arith, add-zero}
 use Rattle.std.specs.Prelude.{Option, Some, None, IfSome, Result, Ok, Err, IfErr, IfOk, OnErr, OnOk, option_map}
 use Rattle.std.proofs.lemmas.Option.{same_Some}
 use Rattle.std.proofs.lemmas.Result.{on_ok_weaker}
 use Rattle.kadm_lines.specs.Lines.{lines_from}
 use Rattle.kadm_lines.specs.Reader.{ReaderState, to_come}
 use Rattle.kadm_loading.specs.Halts.{SparesOutput}
-use Rattle.kadm_loading.specs.Inputs.{IsReadWhole, WereTaken}
-use Rattle.kadm_session.specs.Courses.{Course, Ending, EndsAs, IsAtRest, IsStopped, Leaves, Stops, course, ending}
-use Rattle.kadm_session.specs.Draws.{Draws}
-use Rattle.kadm_session.specs.Halts.{IsAnswerHalt}
+use Rattle.session_base.specs.Wholes.{IsReadWhole, WereTaken}
+use Rattle.kadm_session.specs.Courses.{Course, Ending, EndsAs, IsAtRest, Leaves, MayStop, Rests, Stops, course, ending}
+use Rattle.session_base.specs.Stages.{IsStopped}
+use Rattle.session_base.specs.Draws.{Draws}
+use Rattle.session_base.specs.Halts.{IsAnswerHalt}
+use Rattle.kadm_session.specs.Events.{ArePerformed, IsReached}
 use Rattle.kadm_session.specs.Intake.{HasTaken, coming}
-use Rattle.kadm_session.specs.declared.halts.SessionHalt.{SessionHalt}
-use Rattle.kadm_session.specs.declared.halts.SessionHalt.TheVariants as session
+use Rattle.kadm_session.specs.Steps.{places_by, said}
+use Rattle.session_base.specs.declared.halts.SessionHalt.{SessionHalt}
+use Rattle.session_base.specs.declared.halts.SessionHalt.TheVariants as session
 use Rattle.kadm_session.specs.declared.intake.Asked.{Asked}
 use Rattle.kadm_top.specs.Reads.{fresh}
 use Rattle.kadm_top.specs.Run.{HasCourse, RunEndsAs, Told, course_from, end_opened, input_commands, told}
+use Rattle.kdb_disk.proofs.Runs.{kept, weaken}
+use Rattle.kdb_disk.specs.Files.{Files}
 use Rattle.kdb_disk.specs.Moments.{LeavesOnly}
 use Rattle.kdb_disk.specs.View.{View}
 use Rattle.kdb_histories.specs.Seen.{Seen}
+use Rattle.kdb_histories.specs.Stages.{ShowsAt}
 use Rattle.kdb_places.specs.Places.{Place}
 use Rattle.primary_core.specs.Opened.{Opened, place_of}
-use Rattle.store_files.specs.Recovery.{RecoversTo}
+use Rattle.kdb_ports.proofs.Told.{after_told-nil}
+use Rattle.store_files.specs.Found.{recovers}
+use Rattle.store_files.specs.Recovery.{LeavesPart, RecoversTo}
 
 -- ---- what comes of an input
 
@@ -65,7 +73,10 @@ ends_open : {old now : View} (after : Told) (o : Opened) (refused : Bool) (end :
 ends_open {old} {now} after o refused end ends stands = record {
   out_is = ends.out_is;
   refused_is = ends.refused_is;
-  stands = subst (λ (p : Place). RecoversTo p now) ends.place_is stands;
+  stands = record {
+    place = subst (λ (p : Place). RecoversTo p now) ends.place_is stands;
+    shows = subst (λ (p : Place). ShowsAt p end.at.state) ends.place_is ends.shows.shows;
+  };
   draws_are = ends.draws_are;
 }
 
@@ -117,3 +128,35 @@ pub one_run : {c : Course} {old now : View} {after : Told} (o : Opened) (r : Res
     → HasCourse c old now after r
 one_run o r ended stands stopped memory drawn answers moments =
     course_run o r ended stands stopped memory drawn (never_read r answers) (never_long r answers) moments
+
+-- ---- what comes of one command that was not read, for want of memory
+
+first_part : (p : Place) (others : List Place) (c : Files) → recovers c ≡ Ok p → LeavesPart p others c
+unfolding LeavesPart
+first_part p [] c is = is
+first_part p (q ∷ others) c is = inl is
+
+pub idle_course : (taken left : Option (List ℕ)) (asked : Asked) (draws : Option Draws) (at : Seen) (now : View) → RecoversTo at.place now
+    → HasCourse (course taken false (Some (asked ∷ [])) draws at) now now (told taken left draws) (Err session.MemoryOut)
+unfolding Stops MayStop Rests Leaves IsReached ArePerformed said
+idle_course taken left asked None at now stands = record {
+  ended = λ end e. tt;
+  stopped = record { first = at.place; others = []; may = tt; stands = record { each = λ c image. first_part at.place [] c (stands c image) } };
+  rests = λ spares. record { place = at.place; may = tt; stands = stands };
+  moments = weaken (kept now).leaves (λ c image. tt);
+}
+idle_course taken left asked (Some draws) at now stands = record {
+  ended = λ end e. tt;
+  stopped = record {
+    first = at.place;
+    others = places_by asked draws at;
+    may = inl (inl (refl, refl, refl));
+    stands = record { each = λ c image. first_part at.place (places_by asked draws at) c (stands c image) };
+  };
+  rests = λ spares. record {
+    place = at.place;
+    may = record { count = 0; within = omega arith; out_is = sym (after_told-nil taken); place_is = (0, omega arith, refl); performed = tt };
+    stands = stands;
+  };
+  moments = weaken (kept now).leaves (λ c image. record { place = at.place; is = stands c image; reached = inl (inl refl) });
+}

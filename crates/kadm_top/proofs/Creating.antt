@@ -7,8 +7,8 @@ use Rattle.first_rows.specs.Parts.{SpecParts}
 use Rattle.kadm_commands.specs.declared.replies.Reply.TheVariants.{Done}
 use Rattle.kadm_replies.specs.Replies.{reply_text}
 use Rattle.kadm_loading.specs.Halts.{SparesOutput}
-use Rattle.kadm_session.specs.Draws.{Draws, block_in, moment_in}
-use Rattle.kadm_session.specs.declared.halts.SessionHalt.{SessionHalt}
+use Rattle.session_base.specs.Draws.{Draws, block_in, moment_in}
+use Rattle.session_base.specs.declared.halts.SessionHalt.{SessionHalt}
 use Rattle.kadm_top.specs.Openings.{ABlock, Ends, Makes, NoDraw, Opening, Refuses, ReadsInput, behind, create_of, destroy_of}
 use Rattle.kadm_top.specs.Run.{AreDrawn, HasRun, IfTold, IsErased, MakesStop, RunEnd, RunEndsAs, RunLeaves, Told, end_made, ended_text, made_line, place_made, refusal_line}
 use Rattle.kadm_top.proofs.Running.{cut_refusal_run, idle_run, refused_run}

@@ -2,8 +2,9 @@ pub mod Telling
 pub mod Running
 pub mod Courses
 pub mod Accounts
-pub mod Worded
 pub mod Openings
 pub mod Creating
 pub mod Loads
+pub mod KeytabRuns
+pub mod RenewalRuns
 pub mod ByStatus

@@ -8,15 +8,15 @@ use Rattle.dump_text.specs.declared.dumps.Dump.{Dump}
 use Rattle.iprop_truths.specs.Parts.{end_of}
 use Rattle.kadm_loading.proofs.Ends.{place_is}
 use Rattle.kadm_loading.specs.Halts.{SparesOutput}
-use Rattle.kadm_loading.specs.Inputs.{IsReadWhole}
+use Rattle.session_base.specs.Wholes.{IsReadWhole}
 use Rattle.kadm_loading.specs.Loads.{ComesTo, HasComeTo, Holds, LeavesSome, LoadEnd, Loaded, LoadsAs, LoadsTo, NotLoaded, load_stage, place_loaded, places_loaded}
-use Rattle.kadm_session.specs.Courses.{IsStopped}
-use Rattle.kadm_session.specs.Draws.{Draws, behind_moment, moment_in, told_draws}
-use Rattle.kadm_session.specs.declared.halts.SessionHalt.{SessionHalt}
+use Rattle.session_base.specs.Stages.{IsStopped}
+use Rattle.session_base.specs.Draws.{Draws, behind_moment, moment_in, told_draws}
+use Rattle.session_base.specs.declared.halts.SessionHalt.{SessionHalt}
 use Rattle.kadm_top.proofs.Openings.{Answers, any_ok, is_open, open_having, opened_place, opening_part, refused_always}
 use Rattle.kadm_top.proofs.Running.{all_at_end, cut_refusal_run, refused_run, said_nothing}
 use Rattle.kadm_top.proofs.Telling.{behind_clock}
-use Rattle.kadm_top.specs.Openings.{AMoment, Drawn, Ends, HasLoaded, HasLoading, HasOpening, IsOpening, LoadsAt, Loads, Makes, Opening, Opens, ReadsInput, Refuses, Tells, behind, loads_for}
+use Rattle.kadm_top.specs.Openings.{Adds, AddsNew, AMoment, Drawn, Ends, Filters, HasLoaded, HasLoading, HasOpening, IsOpening, LoadsAt, Loads, Makes, Opening, Opens, ReadsInput, Refuses, Tells, behind, loads_for}
 use Rattle.kadm_top.specs.Run.{HasLoad, HasRun, IsSame, LeavesAll, OpensPart, RunEnd, RunEndsAs, Stands, Told, load_end, refusal_line, told}
 use Rattle.kadm_top.specs.declared.words.Words.{Words}
 use Rattle.kadm_top.specs.declared.words.Words.TheVariants as words
@@ -194,7 +194,7 @@ unfolding LeavesPart
 last_part begin [] c is = is
 last_part begin (q ∷ made) c is = inr (last_part q made c is)
 
-part_of_opening : (old : View) (begin : Place) (made : List Place) (p : Place) (now : View) → p ≡ end_of begin made → RecoversTo p now → LeavesAll (OpensPart old begin made) now
+pub part_of_opening : (old : View) (begin : Place) (made : List Place) (p : Place) (now : View) → p ≡ end_of begin made → RecoversTo p now → LeavesAll (OpensPart old begin made) now
 part_of_opening old begin made p now is stands = record { each = λ c image. inr (last_part begin made c (subst (λ (q : Place). recovers c ≡ Ok q) is (stands c image))) }
 
 -- an end at a place does not speak of the disk of before
@@ -214,7 +214,7 @@ over_ok what given p taken end out draws mid old now (Ok refused) e ends = recor
 }
 over_ok what given p taken end out draws mid old now (Err halt) e ends = tt
 
-rests_part : (old : View) (begin : Place) (made : List Place) (p : Place) (now : View) (taken out : Option (List ℕ)) (r : Result Bool SessionHalt) → p ≡ end_of begin made
+pub rests_part : (old : View) (begin : Place) (made : List Place) (p : Place) (now : View) (taken out : Option (List ℕ)) (r : Result Bool SessionHalt) → p ≡ end_of begin made
     → IfErr r (λ halt. SparesOutput halt → (out ≡ taken) × RecoversTo p now) → IfErr r (λ halt. SparesOutput halt → (out ≡ taken) × LeavesAll (OpensPart old begin made) now)
 rests_part old begin made p now taken out (Ok refused) is rests = tt
 rests_part old begin made p now taken out (Err halt) is rests = λ spares. let both = rests spares in (both.0, part_of_opening old begin made p now is both.1)
@@ -280,7 +280,10 @@ load_opened_run {found} {old} {mid} {now} {before} {after} {middle} {result} clo
     loaded_run begin made at what opens.place_is (opening_part clock opens at_clock answers.moments)
     (record { ended = drawn.ended; stopped = drawn.stopped; rests = drawn.rests; moments = drawn.moments; read = drawn.read })
 load_opened_run clock (Opens begin made at its) primary gave loads answers is load = absurd loads
-load_opened_run clock (Tells text) primary gave loads answers is load = absurd loads
+load_opened_run clock (Adds begin made at reads what) primary gave loads answers is load = absurd loads
+load_opened_run clock (AddsNew begin made at reads what) primary gave loads answers is load = absurd loads
+load_opened_run clock (Filters what) primary gave loads answers is load = absurd loads
+load_opened_run clock (Tells text drawn) primary gave loads answers is load = absurd loads
 load_opened_run clock (Makes spec) primary gave loads answers is load = absurd loads
 load_opened_run clock Ends primary gave loads answers is load = absurd loads
 
@@ -300,7 +303,10 @@ load_refused {old = old} {now = now} {before = before} {after = after} clock (Re
 load_refused clock (Loads begin made at what) refusal gave loads answers said_it draws =
     absurd (open_having clock (Err (stop.Refused refusal)) loads.opens (gave loads.opens.told loads.opens.draws_are) answers)
 load_refused clock (Opens begin made at its) refusal gave loads answers said_it draws = absurd loads
-load_refused clock (Tells text) refusal gave loads answers said_it draws = absurd loads
+load_refused clock (Adds begin made at reads what) refusal gave loads answers said_it draws = absurd loads
+load_refused clock (AddsNew begin made at reads what) refusal gave loads answers said_it draws = absurd loads
+load_refused clock (Filters what) refusal gave loads answers said_it draws = absurd loads
+load_refused clock (Tells text drawn) refusal gave loads answers said_it draws = absurd loads
 load_refused clock (Makes spec) refusal gave loads answers said_it draws = absurd loads
 load_refused clock Ends refusal gave loads answers said_it draws = absurd loads
 
@@ -321,7 +327,10 @@ load_cut {old = old} {now = now} {before = before} {after = after} clock (Refuse
 load_cut clock (Loads begin made at what) refusal halt gave loads answers part nothing =
     absurd (open_having clock (Err (stop.Refused refusal)) loads.opens (gave loads.opens.told loads.opens.draws_are) answers)
 load_cut clock (Opens begin made at its) refusal halt gave loads answers part nothing = absurd loads
-load_cut clock (Tells text) refusal halt gave loads answers part nothing = absurd loads
+load_cut clock (Adds begin made at reads what) refusal halt gave loads answers part nothing = absurd loads
+load_cut clock (AddsNew begin made at reads what) refusal halt gave loads answers part nothing = absurd loads
+load_cut clock (Filters what) refusal halt gave loads answers part nothing = absurd loads
+load_cut clock (Tells text drawn) refusal halt gave loads answers part nothing = absurd loads
 load_cut clock (Makes spec) refusal halt gave loads answers part nothing = absurd loads
 load_cut clock Ends refusal halt gave loads answers part nothing = absurd loads
 
@@ -346,7 +355,10 @@ load_halted clock (Loads begin made at what) answer halt gave loads answers noth
       read = λ reads. tt;
     }
 load_halted clock (Opens begin made at its) answer halt gave loads answers nothing = absurd loads
-load_halted clock (Tells text) answer halt gave loads answers nothing = absurd loads
+load_halted clock (Adds begin made at reads what) answer halt gave loads answers nothing = absurd loads
+load_halted clock (AddsNew begin made at reads what) answer halt gave loads answers nothing = absurd loads
+load_halted clock (Filters what) answer halt gave loads answers nothing = absurd loads
+load_halted clock (Tells text drawn) answer halt gave loads answers nothing = absurd loads
 load_halted clock (Makes spec) answer halt gave loads answers nothing = absurd loads
 load_halted clock Ends answer halt gave loads answers nothing = absurd loads
 
@@ -356,7 +368,10 @@ pub load_reads : (left : Option (List ℕ)) {found : Result Found Refusal} {old 
 load_reads left draws clock (Refuses why drawn) primary loads answers = absurd (answers.only_refused why (loads.1 clock))
 load_reads left draws clock (Loads begin made at what) primary loads answers = tt
 load_reads left draws clock (Opens begin made at its) primary loads answers = absurd loads
-load_reads left draws clock (Tells text) primary loads answers = absurd loads
+load_reads left draws clock (Adds begin made at reads what) primary loads answers = absurd loads
+load_reads left draws clock (AddsNew begin made at reads what) primary loads answers = absurd loads
+load_reads left draws clock (Filters what) primary loads answers = absurd loads
+load_reads left draws clock (Tells text drawn) primary loads answers = absurd loads
 load_reads left draws clock (Makes spec) primary loads answers = absurd loads
 load_reads left draws clock Ends primary loads answers = absurd loads
 

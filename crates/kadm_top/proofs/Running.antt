@@ -1,18 +1,19 @@
 -- Runs by their openings: refused, opened, or not begun.
-use Rattle.std.proofs.Common.{◌≡◌, ◌∙◌, ◌⊎◌, ℕ, List, refl, sym, subst, inl, inr, Bool, true}
+use Rattle.std.proofs.Common.{◌≡◌, ◌∙◌, ◌⊎◌, ℕ, List, refl, sym, subst, inl, inr, Bool, true, false}
 use Rattle.std.specs.Prelude.{Option, Some, None, Result, Ok, Err, IfErr, IfOk, OnErr, OnOk, option_map}
 use Rattle.std.proofs.lemmas.Option.{same_Some}
 use Rattle.first_rows.specs.Parts.{SpecParts}
 use Rattle.kadm_loading.specs.Halts.{SparesOutput}
-use Rattle.kadm_loading.specs.Inputs.{IsReadWhole}
+use Rattle.session_base.specs.Wholes.{IsReadWhole}
 use Rattle.kadm_session.specs.Courses.{Ending, ending}
-use Rattle.kadm_session.specs.Draws.{Draws}
-use Rattle.kadm_session.specs.Halts.{disk_as_session}
-use Rattle.kadm_session.specs.declared.halts.SessionHalt.{SessionHalt}
+use Rattle.session_base.specs.Draws.{Draws}
+use Rattle.session_base.specs.Halts.{disk_as_session}
+use Rattle.kadm_keytabs.specs.declared.answers.Answer.{Answer}
+use Rattle.session_base.specs.declared.halts.SessionHalt.{SessionHalt}
 use Rattle.kadm_session.specs.declared.intake.Asked.{Asked}
-use Rattle.kadm_session.specs.declared.halts.SessionHalt.TheVariants as session
-use Rattle.kadm_top.specs.Openings.{AMoment, ABlock, Drawn, Ends, IsInput, Loads, Makes, NoDraw, Opening, Opens, Refuses, Tells, behind}
-use Rattle.kadm_top.specs.Run.{HasCourse, HasRun, IfTold, IsSame, LeavesAll, MakesStop, OpensPart, RunEnd, RunEndsAs, RunLeaves, RunRests, RunStops, Told, course_behind, end_opened, place_made, refusal_line}
+use Rattle.session_base.specs.declared.halts.SessionHalt.TheVariants as session
+use Rattle.kadm_top.specs.Openings.{Adds, AddsNew, AMoment, ABlock, Drawn, Ends, Filters, IsInput, Loads, Makes, NoDraw, Opening, Opens, Refuses, Tells, behind}
+use Rattle.kadm_top.specs.Run.{HasCourse, HasRun, IfTold, IsFront, IsSame, LeavesAll, MakesStop, OpensPart, RunEnd, RunEndsAs, RunLeaves, RunRests, RunStops, Told, course_behind, end_opened, place_made, refusal_line}
 use Rattle.kadm_top.specs.Statuses.{IsSayHalt}
 use Rattle.kdb_base.specs.declared.outcomes.Halt.{Halt}
 use Rattle.kdb_base.specs.declared.outcomes.Halt.TheVariants as disk
@@ -95,6 +96,42 @@ cut_refusal_run {old} {now} {before} {after} why drawn halt part same nothing = 
   read = λ no. absurd no;
 }
 
+-- ---- a text
+
+-- it was told
+pub text_run : {old now : View} {before after : Told} (text : List ℕ) (drawn : Drawn)
+    → after.taken ≡ after_told before.taken text → after.draws ≡ behind drawn before.draws → IsSame drawn old now
+    → HasRun (Tells text drawn) old now before after (Ok false)
+text_run {old} {now} {before} {after} text drawn said_it draws same = record {
+  ended = λ end e. subst (λ (x : RunEnd). RunEndsAs after.taken false after.draws old now x) (same_Some _ _ e)
+      (record { out_is = said_it; refused_is = refl; stands = same; draws_are = draws });
+  stopped = tt;
+  rests = tt;
+  moments = same_leaves drawn same;
+  read = λ no. absurd no;
+}
+
+-- of which not all was written
+pub cut_text_run : {old now : View} {before after : Told} (text : List ℕ) (drawn : Drawn) (halt : SessionHalt)
+    → SaidPart text before.taken after.taken → IsSame drawn old now
+    → HasRun (Tells text drawn) old now before after (Err halt)
+cut_text_run {old} {now} {before} {after} text drawn halt part same = record {
+  ended = λ end e. tt;
+  stopped = (part, same);
+  rests = λ spares. (part, same);
+  moments = same_leaves drawn same;
+  read = λ no. absurd no;
+}
+
+-- a text that is told with no draw, whether all of it was written or not
+pub generated_run : {old now : View} {before after : Told} (r : Result Bool SessionHalt) (text : List ℕ)
+    → IfOk r (λ refused. (refused ≡ false) × (after.taken ≡ after_told before.taken text)) → OnErr r (SaidPart text before.taken after.taken)
+    → after.draws ≡ before.draws → Keeps old now
+    → HasRun (Tells text NoDraw) old now before after r
+generated_run {old} {now} {before} {after} (Ok refused) text said_it part draws keeps =
+    subst (λ (b : Bool). HasRun (Tells text NoDraw) old now before after (Ok b)) (sym said_it.0) (text_run text NoDraw said_it.1 draws keeps)
+generated_run {old} {now} {before} {after} (Err halt) text said_it part draws keeps = cut_text_run text NoDraw halt part keeps
+
 -- ---- a run that did nothing
 
 made_idle : {old now : View} (spec : SpecParts) (draws : Option Draws) (taken out : Option (List ℕ)) → Keeps old now → out ≡ taken → IfTold draws (λ d. MakesStop spec old taken d out now)
@@ -105,11 +142,18 @@ made_like : {old : View} (spec : SpecParts) (draws : Option Draws) (c : Files) �
 made_like spec None c like = tt
 made_like spec (Some draws) c like = inl like
 
+no_front : (what : Option Answer) (taken out : Option (List ℕ)) → out ≡ taken → IsFront what taken out
+no_front None taken out is = tt
+no_front (Some answer) taken out is = said_nothing answer.text taken out is
+
 idle_stops : {old now : View} (before : Told) (o : Opening) (out : Option (List ℕ)) → Keeps old now → out ≡ before.taken → RunStops o old before out now
 idle_stops {old} {now} before (Refuses why drawn) out keeps is = (said_nothing (refusal_line why) before.taken out is, keeps_same drawn keeps)
 idle_stops before (Opens begin made at asked) out keeps is = inr (is, all_at_end (weaken (keeps_like keeps) (λ c like. inl like)))
 idle_stops before (Loads begin made at what) out keeps is = inr (is, all_at_end (weaken (keeps_like keeps) (λ c like. inl like)))
-idle_stops {old} {now} before (Tells text) out keeps is = (said_nothing text before.taken out is, keeps_like keeps)
+idle_stops before (Adds begin made at reads what) out keeps is = inr (is, all_at_end (weaken (keeps_like keeps) (λ c like. inl like)))
+idle_stops before (AddsNew begin made at reads what) out keeps is = inr (is, all_at_end (weaken (keeps_like keeps) (λ c like. inl like)))
+idle_stops before (Filters what) out keeps is = (no_front what before.taken out is, keeps)
+idle_stops {old} {now} before (Tells text drawn) out keeps is = (said_nothing text before.taken out is, keeps_same drawn keeps)
 idle_stops {old} {now} before (Makes spec) out keeps is = made_idle spec before.draws before.taken out keeps is
 idle_stops before Ends out keeps is = inl (is, all_at_end (weaken (keeps_like keeps) (λ c like. inl like)))
 
@@ -117,7 +161,10 @@ idle_rests : {old now : View} (before : Told) (o : Opening) (out : Option (List 
 idle_rests before (Refuses why drawn) out keeps is = (is, keeps_same drawn keeps)
 idle_rests before (Opens begin made at asked) out keeps is = inr (is, all_at_end (weaken (keeps_like keeps) (λ c like. inl like)))
 idle_rests before (Loads begin made at what) out keeps is = (is, all_at_end (weaken (keeps_like keeps) (λ c like. inl like)))
-idle_rests before (Tells text) out keeps is = (said_nothing text before.taken out is, keeps_like keeps)
+idle_rests before (Adds begin made at reads what) out keeps is = (is, all_at_end (weaken (keeps_like keeps) (λ c like. inl like)))
+idle_rests before (AddsNew begin made at reads what) out keeps is = (is, all_at_end (weaken (keeps_like keeps) (λ c like. inl like)))
+idle_rests before (Filters what) out keeps is = (is, keeps)
+idle_rests before (Tells text drawn) out keeps is = (said_nothing text before.taken out is, keeps_same drawn keeps)
 idle_rests before (Makes spec) out keeps is = (is, keeps)
 idle_rests before Ends out keeps is = (is, keeps)
 
@@ -125,7 +172,10 @@ idle_leaves : {old now : View} (before : Told) (o : Opening) → Keeps old now �
 idle_leaves before (Refuses why drawn) keeps = keeps_like keeps
 idle_leaves before (Opens begin made at asked) keeps = weaken (keeps_like keeps) (λ c like. inl (inl like))
 idle_leaves before (Loads begin made at what) keeps = weaken (keeps_like keeps) (λ c like. inl (inl like))
-idle_leaves before (Tells text) keeps = keeps_like keeps
+idle_leaves before (Adds begin made at reads what) keeps = weaken (keeps_like keeps) (λ c like. inl like)
+idle_leaves before (AddsNew begin made at reads what) keeps = weaken (keeps_like keeps) (λ c like. inl (inl like))
+idle_leaves before (Filters what) keeps = keeps_like keeps
+idle_leaves before (Tells text drawn) keeps = keeps_like keeps
 idle_leaves before (Makes spec) keeps = weaken (keeps_like keeps) (λ c like. made_like spec before.draws c like)
 idle_leaves before Ends keeps = weaken (keeps_like keeps) (λ c like. inl like)
 

@@ -2,7 +2,7 @@
 use Rattle.std.proofs.Common.{◌≡◌, ◌∙◌, ℕ, List, refl, ap}
 use Rattle.std.specs.Prelude.{Option, Some, None, IfSome, option_map}
 use Rattle.std.proofs.lemmas.Option.{same_Some}
-use Rattle.kadm_session.specs.Draws.{Draws, bytes_of, moment_in, told_draws}
+use Rattle.session_base.specs.Draws.{Draws, bytes_of, moment_in, told_draws}
 use Rattle.kadm_top.specs.Openings.{AMoment, ABlock, behind}
 use Rattle.kadm_top.specs.Run.{AreDrawn}
 use Rattle.kdb_base.specs.Moment.{Moment}

@@ -2,12 +2,12 @@
 use Rattle.std.specs.Prelude.{ℕ, List, [], ◌∷◌, Option, Some, option_map}
 use Rattle.dump_text.specs.Dumps.{dump_text}
 use Rattle.dump_text.specs.declared.versions.Version.TheVariants.{Two}
-use Rattle.kadm_session.specs.Draws.{Draws, moment_in}
+use Rattle.session_base.specs.Draws.{Draws, moment_in}
 use Rattle.kadm_top.specs.declared.words.Account.{Account}
 use Rattle.kadm_top.specs.declared.words.Account.TheVariants.{Dump, Log, Report}
 use Rattle.kdb_base.specs.declared.moments.Point.{Point}
 use Rattle.kdb_places.specs.Places.{Place, no_point, point_of}
-use Rattle.princ_entries.specs.declared.entries.Entry.{Entry}
+use Rattle.princ_rows.specs.declared.entries.Entry.{Entry}
 use Rattle.tab_reports.specs.Reports.{report_text}
 use Rattle.tab_reports.specs.declared.reports.ReportKind.{ReportKind}
 use Rattle.ulog_text.specs.Ulogs.{ulog_text}

@@ -1,7 +1,7 @@
 -- What was read of an input.
 use Rattle.std.specs.Prelude.{ℕ, ◌≡◌, ◌⊎◌, false, List, [], Option}
 use Rattle.kadm_lines.specs.Reader.{ReaderState}
-use Rattle.kadm_loading.specs.Inputs.{IsReadWhole, WereTaken}
+use Rattle.session_base.specs.Wholes.{IsReadWhole, WereTaken}
 
 -- a reader at the front of an input
 abbrev pub fresh : ReaderState

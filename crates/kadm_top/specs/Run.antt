@@ -3,23 +3,27 @@ use Rattle.std.specs.Prelude.{ℕ, ◌≡◌, ◌≤◌, ◌⊎◌, Bool, true, 
 use Rattle.first_rows.specs.Creation.{first_point}
 use Rattle.first_rows.specs.Parts.{SpecParts}
 use Rattle.kadm_commands.specs.declared.replies.Reply.TheVariants.{Done, Refused}
+use Rattle.kadm_keytabs.specs.Renewals.{Renewal}
+use Rattle.kadm_keytabs.specs.declared.answers.Answer.{Answer}
 use Rattle.kadm_lines.specs.Lines.{seen_lines}
 use Rattle.kadm_loading.specs.Halts.{SparesOutput}
-use Rattle.kadm_loading.specs.Inputs.{IsReadWhole}
+use Rattle.session_base.specs.Wholes.{IsReadWhole}
 use Rattle.kadm_loading.specs.Loads.{LeavesSome, LoadEnd, is_refused, load_reply, load_stage, place_loaded, places_loaded}
 use Rattle.kadm_replies.specs.Replies.{reply_text}
-use Rattle.kadm_session.specs.Courses.{Course, Ending, IsAtRest, IsStopped, Leaves, Stops, course, ending}
-use Rattle.kadm_session.specs.Draws.{Draws, behind_command, behind_moment, block_in, moment_in}
+use Rattle.kadm_session.specs.Courses.{Course, Ending, IsAtRest, Leaves, Stops, course, ending}
+use Rattle.session_base.specs.Stages.{IsStopped, StopsAt}
+use Rattle.session_base.specs.Draws.{Draws, behind_command, behind_moment, block_in, moment_in}
 use Rattle.kadm_session.specs.Input.{commands_in}
 use Rattle.kadm_session.specs.declared.intake.Asked.{Asked}
-use Rattle.kadm_session.specs.declared.halts.SessionHalt.{SessionHalt}
-use Rattle.kadm_top.specs.Openings.{AMoment, ABlock, Drawn, Ends, Loads, Makes, NoDraw, Opening, Opens, ReadsInput, Refuses, Tells, behind}
+use Rattle.session_base.specs.declared.halts.SessionHalt.{SessionHalt}
+use Rattle.kadm_top.specs.Openings.{Adds, AddsNew, AMoment, ABlock, Drawn, Ends, Filters, Loads, Makes, NoDraw, Opening, Opens, ReadsInput, Refuses, Tells, behind}
 use Rattle.kdb_base.specs.Moment.{Moment}
 use Rattle.kdb_base.specs.declared.outcomes.Refusal.{Refusal}
 use Rattle.kdb_disk.specs.Files.{Files}
 use Rattle.kdb_disk.specs.Moments.{Keeps, LeavesOnly}
 use Rattle.kdb_disk.specs.View.{View}
 use Rattle.kdb_histories.specs.Seen.{Seen}
+use Rattle.kdb_histories.specs.Stages.{ShowsAt}
 use Rattle.kdb_places.specs.Places.{Place}
 use Rattle.kdb_ports.specs.Parts.{SaidPart}
 use Rattle.kdb_ports.specs.Told.{after_told}
@@ -92,18 +96,26 @@ pub record IsErased (now : View) : Type 0 where
   pub none : RecoversToNone now
   pub empty : (file : ℕ) → 1 ≤ file → file ≤ 6 → now.seen file ≡ []
 
+-- whatever a crash leaves recovers to this place, whose rows show this state
+pub record StandsShown (at : Seen) (now : View) : Type 0 where
+  pub place : RecoversTo at.place now
+  pub shows : ShowsAt at.place at.state
+
 -- what the disk then has
 pub data Standing : Type 0 where
   -- what it had
   Same : (drawn : Drawn) → Standing
   -- whatever a crash leaves recovers to this place
   At : (place : Place) → Standing
+  -- to this place, whose rows show the state: each listed version of the master key opens each key
+  Shown : (at : Seen) → Standing
   -- to no database, and nothing of one is left
   Gone : Standing
 
 abbrev pub Stands : Standing → View → View → Type 0
 Stands (Same drawn) old now = IsSame drawn old now
 Stands (At place) old now = RecoversTo place now
+Stands (Shown at) old now = StandsShown at now
 Stands Gone old now = IsErased now
 
 -- the bytes in the sink, whether a refusal was written, the disk, and what the clock and the source of random bytes have left
@@ -114,7 +126,7 @@ pub record RunEnd : Type 0 where
   pub draws : Option Draws
 
 abbrev pub end_opened : Ending → RunEnd
-end_opened end = record { out = end.out; refused = end.refused; disk = At end.at.place; draws = Some end.draws }
+end_opened end = record { out = end.out; refused = end.refused; disk = Shown end.at; draws = Some end.draws }
 
 abbrev pub end_made : SpecParts → Option (List ℕ) → Draws → RunEnd
 end_made spec taken draws = record { out = after_told taken (made_line draws); refused = false; disk = At (place_made spec draws); draws = Some (behind_command draws) }
@@ -130,12 +142,30 @@ load_end (Some end) (Some draws) p taken = Some (record {
   draws = Some (behind_moment draws);
 })
 
+-- of a keytab
+abbrev pub keytab_end : Option Answer → Option (List ℕ) → Standing → Option Draws → Option RunEnd
+keytab_end None taken disk draws = None
+keytab_end (Some answer) taken disk draws = Some (record { out = after_told taken answer.text; refused = answer.refused; disk = disk; draws = draws })
+
+-- of one with new keys
+abbrev pub renewed_end : Option Renewal → Option (List ℕ) → Option RunEnd
+renewed_end None taken = None
+renewed_end (Some renewal) taken = Some (record {
+  out = after_told taken renewal.answer.text;
+  refused = renewal.answer.refused;
+  disk = Shown renewal.later;
+  draws = Some renewal.draws;
+})
+
 -- as far as it is told
 abbrev pub run_end : Opening → Told → Option RunEnd
 run_end (Refuses why drawn) before = Some (record { out = after_told before.taken (refusal_line why); refused = true; disk = Same drawn; draws = behind drawn before.draws })
 run_end (Opens begin made at asked) before = option_map end_opened (ending (course_behind asked before at))
 run_end (Loads begin made at what) before = load_end what (behind AMoment before.draws) at.place before.taken
-run_end (Tells text) before = Some (record { out = after_told before.taken text; refused = false; disk = Same AMoment; draws = behind AMoment before.draws })
+run_end (Adds begin made at reads what) before = keytab_end what before.taken (Shown at) (behind AMoment before.draws)
+run_end (AddsNew begin made at reads what) before = renewed_end what before.taken
+run_end (Filters what) before = keytab_end what before.taken (Same NoDraw) before.draws
+run_end (Tells text drawn) before = Some (record { out = after_told before.taken text; refused = false; disk = Same drawn; draws = behind drawn before.draws })
 run_end (Makes spec) before = option_map (end_made spec before.taken) before.draws
 run_end Ends before = Some (record { out = after_told before.taken ended_text; refused = false; disk = Gone; draws = before.draws })
 
@@ -174,13 +204,29 @@ LoadStops None draws p taken out now = ⊤
 LoadStops (Some end) None p taken out now = ⊤
 LoadStops (Some end) (Some draws) p taken out now = IsStopped (load_stage end (moment_in draws) p taken) out now
 
+-- while a keytab is written
+abbrev pub IsFront : Option Answer → Option (List ℕ) → Option (List ℕ) → Type 0
+IsFront None taken out = ⊤
+IsFront (Some answer) taken out = SaidPart answer.text taken out
+
+-- while keys are made anew and written: nothing was written, and a crash leaves the place before or one that is made; or a part was, and then
+-- the last place alone
+abbrev pub RenewedStops : Option Renewal → Place → Option (List ℕ) → Option (List ℕ) → View → Type 0
+RenewedStops None p taken out now = ⊤
+RenewedStops (Some renewal) p taken out now = IsStopped (StopsAt taken renewal.answer.text p renewal.made renewal.later.place) out now
+
 abbrev pub RunStops : Opening → View → Told → Option (List ℕ) → View → Type 0
 RunStops (Refuses why drawn) old before out now = SaidPart (refusal_line why) before.taken out × IsSame drawn old now
 RunStops (Opens begin made at asked) old before out now =
     IsStopped (Stops (course_behind asked before at)) out now ⊎ ((out ≡ before.taken) × LeavesAll (OpensPart old begin made) now)
 RunStops (Loads begin made at what) old before out now =
     LoadStops what (behind AMoment before.draws) at.place before.taken out now ⊎ ((out ≡ before.taken) × LeavesAll (OpensPart old begin made) now)
-RunStops (Tells text) old before out now = SaidPart text before.taken out × IsSame AMoment old now
+RunStops (Adds begin made at reads what) old before out now =
+    (IsFront what before.taken out × RecoversTo at.place now) ⊎ ((out ≡ before.taken) × LeavesAll (OpensPart old begin made) now)
+RunStops (AddsNew begin made at reads what) old before out now =
+    RenewedStops what at.place before.taken out now ⊎ ((out ≡ before.taken) × LeavesAll (OpensPart old begin made) now)
+RunStops (Filters what) old before out now = IsFront what before.taken out × IsSame NoDraw old now
+RunStops (Tells text drawn) old before out now = SaidPart text before.taken out × IsSame drawn old now
 RunStops (Makes spec) old before out now = IfTold before.draws (λ draws. MakesStop spec old before.taken draws out now)
 RunStops Ends old before out now = EndsStop old before.taken out now
 
@@ -191,7 +237,10 @@ RunRests (Refuses why drawn) old before out now = (out ≡ before.taken) × IsSa
 RunRests (Opens begin made at asked) old before out now =
     IsAtRest (course_behind asked before at) out now ⊎ ((out ≡ before.taken) × LeavesAll (OpensPart old begin made) now)
 RunRests (Loads begin made at what) old before out now = (out ≡ before.taken) × LeavesAll (OpensPart old begin made) now
-RunRests (Tells text) old before out now = SaidPart text before.taken out × IsSame AMoment old now
+RunRests (Adds begin made at reads what) old before out now = (out ≡ before.taken) × LeavesAll (OpensPart old begin made) now
+RunRests (AddsNew begin made at reads what) old before out now = (out ≡ before.taken) × LeavesAll (OpensPart old begin made) now
+RunRests (Filters what) old before out now = (out ≡ before.taken) × IsSame NoDraw old now
+RunRests (Tells text drawn) old before out now = SaidPart text before.taken out × IsSame drawn old now
 RunRests (Makes spec) old before out now = (out ≡ before.taken) × Keeps old now
 RunRests Ends old before out now = (out ≡ before.taken) × Keeps old now
 
@@ -203,13 +252,21 @@ LoadLeaves None draws p c = LeavesSome p c
 LoadLeaves (Some end) None p c = LeavesSome p c
 LoadLeaves (Some end) (Some draws) p c = LeavesPart p (places_loaded end (moment_in draws) p) c
 
+-- while keys are made anew
+abbrev pub RenewedLeaves : Option Renewal → Place → Files → Type 0
+RenewedLeaves None p c = ⊤
+RenewedLeaves (Some renewal) p c = LeavesPart p renewal.made c
+
 -- what an image of before stood for, a place of the opening, of the input's course or of a load, or nothing while a database is made or once
 -- its end has begun
 abbrev pub RunLeaves : Opening → View → Told → Files → Type 0
 RunLeaves (Refuses why drawn) old before c = IsLike old c
 RunLeaves (Opens begin made at asked) old before c = OpensPart old begin made c ⊎ Leaves (course_behind asked before at) c
 RunLeaves (Loads begin made at what) old before c = OpensPart old begin made c ⊎ LoadLeaves what (behind AMoment before.draws) at.place c
-RunLeaves (Tells text) old before c = IsLike old c
+RunLeaves (Adds begin made at reads what) old before c = OpensPart old begin made c
+RunLeaves (AddsNew begin made at reads what) old before c = OpensPart old begin made c ⊎ RenewedLeaves what at.place c
+RunLeaves (Filters what) old before c = IsLike old c
+RunLeaves (Tells text drawn) old before c = IsLike old c
 RunLeaves (Makes spec) old before c = IfTold before.draws (λ draws. Creates old (place_made spec draws) c)
 RunLeaves Ends old before c = Destroys old c
 
@@ -231,6 +288,19 @@ pub record HasLoad (what : Option LoadEnd) (draws : Option Draws) (p : Place) (o
   pub rests : IfErr result (λ halt. SparesOutput halt → (after.taken ≡ before.taken) × RecoversTo p now)
   pub moments : LeavesOnly old now (LoadLeaves what draws p)
   pub read : OnOk result (IsReadWhole before.left after.left)
+
+-- What is written of a keytab, whatever comes of the disk.
+pub record HasWritten (what : Option Answer) (taken out : Option (List ℕ)) (result : Result Bool SessionHalt) : Type 0 where
+  pub ended : (answer : Answer) → what ≡ Some answer → IfOk result (λ refused. (out ≡ after_told taken answer.text) × (refused ≡ answer.refused))
+  pub stopped : OnErr result (IsFront what taken out)
+  pub rests : IfErr result (λ halt. SparesOutput halt → out ≡ taken)
+
+-- What keys made anew and written come to, over a database that is open at this place.
+pub record HasRenewed (what : Option Renewal) (p : Place) (old now : View) (taken out : Option (List ℕ)) (draws : Option Draws) (result : Result Bool SessionHalt) : Type 0 where
+  pub ended : (end : RunEnd) → renewed_end what taken ≡ Some end → IfOk result (λ refused. RunEndsAs out refused draws old now end)
+  pub stopped : OnErr result (RenewedStops what p taken out now)
+  pub rests : IfErr result (λ halt. SparesOutput halt → (out ≡ taken) × RecoversTo p now)
+  pub moments : LeavesOnly old now (RenewedLeaves what p)
 
 -- What a run comes to from its opening on: it went through, and says whether a refusal was written, or it was stopped.
 pub record HasRun (o : Opening) (old now : View) (before after : Told) (result : Result Bool SessionHalt) : Type 0 where

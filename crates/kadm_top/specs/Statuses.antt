@@ -1,10 +1,10 @@
 -- The status of a run, and what it says of the outside.
 use Rattle.std.specs.Prelude.{ℕ, ◌≡◌, ◌≢◌, ◌≤◌, ◌⊎◌, Bool, true, false, Some, Result, Ok, Err, ⊤}
-use Rattle.kadm_session.specs.Halts.{Counts}
-use Rattle.kadm_session.specs.declared.halts.SessionHalt.{SessionHalt}
-use Rattle.kadm_session.specs.declared.halts.SessionHalt.TheVariants as session
+use Rattle.session_base.specs.Halts.{Counts}
+use Rattle.session_base.specs.declared.halts.SessionHalt.{SessionHalt}
+use Rattle.session_base.specs.declared.halts.SessionHalt.TheVariants as session
 use Rattle.kadm_top.specs.Openings.{Opening, ReadsInput}
-use Rattle.kadm_loading.specs.Inputs.{IsReadWhole}
+use Rattle.session_base.specs.Wholes.{IsReadWhole}
 use Rattle.kadm_top.specs.Run.{RunEnd, RunEndsAs, RunLeaves, RunRests, RunStops, Told, run_end}
 use Rattle.kdb_base.specs.Causes.{Rose}
 use Rattle.kdb_base.specs.declared.outcomes.Status.{Status}

@@ -14,11 +14,9 @@ use Rattle.kadm_top.specs.declared.alone.TheConstants.{USAGE, VERSION}
 use Rattle.kadm_top.specs.declared.words.Account.{Account}
 use Rattle.kadm_top.specs.declared.words.Account.TheVariants.{Dump, Log, Report}
 use Rattle.kadm_top.specs.declared.words.Words.{Words}
-use Rattle.kadm_top.specs.declared.words.Words.TheVariants.{Admin, Create, Destroy, Line, Load, Renew, Tell}
+use Rattle.kadm_top.specs.declared.words.Words.TheVariants.{Admin, Create, Destroy, Generate, Keytab, Line, Load, Renew, Tell}
 use Rattle.kadm_values.specs.EtypeWords.{etype_named}
 use Rattle.kadm_commands.specs.declared.commands.Command.{Command}
-use Rattle.kadm_commands.specs.declared.commands.Command.TheVariants as command
-use Rattle.kadm_session.specs.Input.{IsLineCommand}
 use Rattle.kadm_wire.specs.LineReadings.{words_answer}
 use Rattle.kdb_base.specs.declared.keys.Etype.{Etype}
 use Rattle.kdb_base.specs.declared.keys.Etype.TheVariants.{Aes256}
@@ -26,6 +24,10 @@ use Rattle.kdb_base.specs.declared.outcomes.Field.{Field}
 use Rattle.kdb_base.specs.declared.outcomes.Field.TheVariants as field
 use Rattle.kdb_base.specs.declared.outcomes.Refusal.{Refusal}
 use Rattle.kdb_base.specs.declared.outcomes.Refusal.TheVariants.{BadLine, BadValue}
+use Rattle.keytab_words.specs.Words.{AreValid, ktadd_in, ktremove_in}
+use Rattle.keytab_words.specs.declared.words.KeytabWords.{KeytabWords}
+use Rattle.made_scripts.specs.Words.{script_in}
+use Rattle.made_scripts.specs.declared.words.Script.{Script}
 use Rattle.princ_name.specs.Realms.{is_realm}
 use Rattle.tab_reports.specs.declared.reports.ReportKind.{ReportKind}
 use Rattle.tab_reports.specs.declared.reports.ReportKind.TheVariants.{Principals, Keys, Policies, Masters}
@@ -83,7 +85,7 @@ unless_bad None words = Ok words
 unless_bad (Some field) words = Err (BadValue field)
 
 -- ---- the commands: `admin [-ulogsize N]`, `create REALM [-P PASS] [-e ETYPE] [-ulogsize N]`, `destroy [-f]`, `dump`, `load`, `kproplog`,
--- `kproplog -R`, `report KIND`, and the lines of master keys
+-- `kproplog -R`, `report KIND`, `ktadd`, `ktremove`, `generate SEED COUNT`, and the lines of master keys
 
 abbrev pub admin_by : Option (List Given) → Result Words Refusal
 admin_by None = Err BadLine
@@ -140,28 +142,32 @@ abbrev pub destroy_by : Option (List Given) → Result Words Refusal
 destroy_by None = Err BadLine
 destroy_by (Some options) = Ok Destroy
 
+abbrev pub keytab_by : Result KeytabWords Refusal → Result Words Refusal
+keytab_by (Ok words) = Ok (Keytab words)
+keytab_by (Err refusal) = Err refusal
+
+abbrev pub generate_by : Result Script Refusal → Result Words Refusal
+generate_by (Ok script) = Ok (Generate script)
+generate_by (Err refusal) = Err refusal
+
 -- the first word of a line that may stand in place of the input
 unfoldable pub is_line_word : List ℕ → Bool
 is_line_word word =
     bytes_eq word (codes "add_mkey") || bytes_eq word (codes "use_mkey") || bytes_eq word (codes "list_mkeys")
-    || bytes_eq word (codes "purge_mkeys") || bytes_eq word (codes "stash")
+    || bytes_eq word (codes "purge_mkeys") || bytes_eq word (codes "stash") || bytes_eq word (codes "update_princ_encryption")
 
--- these commands name no realm
-abbrev pub is_line : Command → Bool
-is_line (command.AddMaster etype) = true
-is_line (command.UseMaster c) = true
-is_line command.ListMasters = true
-is_line command.PurgeMasters = true
-is_line command.Stash = true
-is_line other = false
+-- The words of a line that is read in no realm, or why it is refused there. In the realm of the database it is read again.
+abbrev pub line_refusal : Result (Option Command) Refusal → Option Refusal
+line_refusal (Ok (Some command)) = None
+line_refusal (Ok None) = Some BadLine
+line_refusal (Err refusal) = Some refusal
 
-abbrev pub line_with : Command → Result Words Refusal
-line_with command = if is_line command then Ok (Line command) else Err BadLine
+abbrev pub unless_refused : List (List ℕ) → Option Refusal → Result Words Refusal
+unless_refused words None = Ok (Line words)
+unless_refused words (Some refusal) = Err refusal
 
-abbrev pub line_by : Result (Option Command) Refusal → Result Words Refusal
-line_by (Ok (Some command)) = line_with command
-line_by (Ok None) = Err BadLine
-line_by (Err refusal) = Err refusal
+abbrev pub line_by : List (List ℕ) → Result (Option Command) Refusal → Result Words Refusal
+line_by words said = unless_refused words (line_refusal said)
 
 abbrev pub words_behind : List ℕ → List (List ℕ) → Result Words Refusal
 words_behind word words =
@@ -171,18 +177,21 @@ words_behind word words =
     else if bytes_eq word (codes "load") then load_by (options_alone [] words)
     else if bytes_eq word (codes "kproplog") then log_in words
     else if bytes_eq word (codes "report") then report_in words
+    else if bytes_eq word (codes "ktadd") then keytab_by (ktadd_in words)
+    else if bytes_eq word (codes "ktremove") then keytab_by (ktremove_in words)
+    else if bytes_eq word (codes "generate") then generate_by (script_in words)
     else if bytes_eq word (codes "destroy") then destroy_by (options_alone destroy_options words)
     else Err BadLine
 
 -- what the words ask for, or why they are refused: they are not of the grammar, or a value is bad
 unfoldable pub words_in : List (List ℕ) → Result Words Refusal
 words_in [] = Err BadLine
-words_in (word ∷ words) = if is_line_word word then line_by (words_answer [] (word ∷ words)) else words_behind word words
+words_in (word ∷ words) = if is_line_word word then line_by (word ∷ words) (words_answer [] (word ∷ words)) else words_behind word words
 
--- the size of a log is one that a log may have, and a line is one of any realm
+-- the size of a log is one that a log may have, and a name that is a word still is no longer than a line
 abbrev pub AreSized : Result Words Refusal → Type 0
 AreSized (Ok (Admin size)) = IfSome size (λ n. (2 ≤ n) × (n ≤ 10000))
-AreSized (Ok (Line command)) = (realm : List ℕ) → IsLineCommand realm command
+AreSized (Ok (Keytab words)) = AreValid (Ok words)
 AreSized (Ok other) = Unit {0}
 AreSized (Err refusal) = Unit {0}
 

@@ -1,8 +1,8 @@
 //! What is told of a database with no change.
 
 ghost use Rattle.std.specs.Prelude.{◌≡◌, List, ℕ, Option, Err, IfErr, IfOk, OnErr, OnOk, false};
-ghost use Rattle.kadm_session.specs.Draws.{told_draws};
-ghost use Rattle.kadm_session.specs.Halts.{Counts};
+ghost use Rattle.session_base.specs.Draws.{told_draws};
+ghost use Rattle.session_base.specs.Halts.{Counts};
 ghost use Rattle.kadm_top.specs.Accounts.{account_text, log_text, report_at, texts_of, whole_text};
 ghost use Rattle.kadm_top.specs.Openings.{IsToldBy, Opening};
 ghost use Rattle.kadm_top.specs.Run.{HasRun, told};
@@ -16,11 +16,11 @@ ghost use Rattle.store_files.specs.Kept.{place_kept};
 use crate::making::refuse;
 use crate::words::Account;
 use dump_text::{DumpStop, write_dump};
-use kadm_session::SessionHalt;
 use kdb_base::{Blob, MemoryOut, Stop, Time};
 use kdb_disk::Disk;
 use kdb_ports::{Clock, Sink, write_whole};
 use kdb_store::Database;
+use session_base::SessionHalt;
 use std::alloc::Global;
 use tab_reports::{ReportKind, report};
 use ulog_text::print_ulog;
@@ -49,8 +49,8 @@ fn print_log(alloc: Global, database: &Database) -> Result<Blob, MemoryOut>
     print_ulog(alloc, log, database.log_size(), database.block())
 }
 
-// Writes a text that was made. It takes no memory.
-fn say_made<K: Sink>(sink: &mut K, text: &[u8]) -> Result<(), SessionHalt>
+/// Writes a text that was made. It takes no memory.
+pub(crate) fn say_made<K: Sink>(sink: &mut K, text: &[u8]) -> Result<(), SessionHalt>
     ensures ok { OnOk result (K.taken sink.new ≡ after_told (K.taken sink.old) text.now) }
     ensures err { OnErr result (SaidPart text.now (K.taken sink.old) (K.taken sink.new)) }
     ensures memory { result ≡ Err SessionHalt.MemoryOut → sink.new ≡ sink.old }

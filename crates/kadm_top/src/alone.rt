@@ -25,6 +25,9 @@ usage:
   kdb_tool list_mkeys           lists the master keys
   kdb_tool purge_mkeys [-f]     deletes the master keys that do not serve
   kdb_tool stash                writes the stash anew with all master keys
+  kdb_tool update_princ_encryption [-f] [GLOB]
+                                moves the principals whose names match GLOB,
+                                else all, under the active master key
   kdb_tool dump [--]            writes the whole database as text
   kdb_tool load [--]            reads a dump from standard input and puts it in
                                 the place of all that the database has
@@ -32,6 +35,20 @@ usage:
   kdb_tool kproplog -R [--]     begins the update log anew
   kdb_tool report [--] KIND     writes a table of KIND: principals, keys,
                                 policies or masters
+  kdb_tool ktadd -norandkey [--] NAME
+                                reads a keytab from standard input and writes it
+                                with the keys that NAME has behind the others
+  kdb_tool ktadd [-e LIST] [--] NAME
+                                the same with new keys, which are made for NAME
+                                and are of the types of LIST
+  kdb_tool ktremove [--] NAME WHICH
+                                reads a keytab from standard input and writes it
+                                without the entries of NAME that WHICH names:
+                                all, old or a version
+  kdb_tool generate [--] SEED COUNT
+                                makes a script of 1 to 1000 commands, runs it
+                                over a database of its own in memory and counts
+                                what is answered
   kdb_tool destroy [-f] [--]    ends the database; -f has no effect
   kdb_tool --help               prints this
   kdb_tool --version            prints the version

@@ -3,8 +3,12 @@
 
 mod accounting;
 pub mod alone;
+pub mod asking;
+mod generating;
+mod keytabs;
 mod loading;
 mod making;
+mod renewing;
 pub mod run;
 mod statuses;
 pub mod words;

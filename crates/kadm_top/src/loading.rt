@@ -1,10 +1,10 @@
 //! The database opened, and the dump that the input is loaded into it.
 
 ghost use Rattle.std.specs.Prelude.{◌≡◌, ◌≢◌, ℕ, Option, Some, true, false, Err, IfErr, IfOk, Ok, OnOk};
-ghost use Rattle.kadm_loading.specs.Inputs.{IsReadWhole, WereTaken};
+ghost use Rattle.session_base.specs.Wholes.{IsReadWhole, WereTaken};
 ghost use Rattle.kadm_loading.specs.Loads.{LoadEnd};
-ghost use Rattle.kadm_session.specs.Draws.{Draws, moment_in, told_draws};
-ghost use Rattle.kadm_session.specs.Halts.{Counts};
+ghost use Rattle.session_base.specs.Draws.{Draws, moment_in, told_draws};
+ghost use Rattle.session_base.specs.Halts.{Counts};
 ghost use Rattle.kadm_top.specs.Openings.{HasLoaded, HasLoading, LoadsAt, Opening, ReadsInput, loads_for};
 ghost use Rattle.kadm_top.specs.Reads.{InputIsRead};
 ghost use Rattle.kadm_top.specs.Run.{HasLoad, HasRun, told};
@@ -16,11 +16,11 @@ ghost use Rattle.store_files.specs.Kept.{IsOnDisk};
 use crate::making::refuse;
 use crate::run::DUMPS;
 use kadm_loading::load_input;
-use kadm_session::SessionHalt;
 use kdb_base::Stop;
 use kdb_disk::Disk;
 use kdb_ports::{Clock, Sink, Source};
 use primary_core::Primary;
+use session_base::SessionHalt;
 use std::alloc::Global;
 use store_files::laws::what_is_kept_is_recovered;
 

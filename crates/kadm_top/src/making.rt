@@ -2,8 +2,8 @@
 
 ghost use Rattle.std.specs.Prelude.{◌≡◌, ◌≢◌, ◌⊎◌, List, ℕ, Option, Err, IfErr, IfOk, OnOk, OnErr, length};
 ghost use Rattle.kadm_loading.specs.Halts.{SparesOutput};
-ghost use Rattle.kadm_session.specs.Draws.{Draws, told_draws};
-ghost use Rattle.kadm_session.specs.Halts.{Counts, IsAnswerHalt};
+ghost use Rattle.session_base.specs.Draws.{Draws, told_draws};
+ghost use Rattle.session_base.specs.Halts.{Counts, IsAnswerHalt};
 ghost use Rattle.kadm_replies.specs.Replies.{reply_text};
 ghost use Rattle.kadm_commands.specs.declared.replies.Reply.TheVariants.{Done};
 ghost use Rattle.first_rows.specs.Creation.{first_point};
@@ -26,11 +26,11 @@ ghost use Rattle.store_opening.specs.Made.{AnswersMade};
 
 use first_rows::CreateSpec;
 use kadm_commands::Reply;
-use kadm_session::{SessionHalt, draw, print, say};
 use kdb_base::{Point, Refusal, Stop, Time};
 use kdb_disk::Disk;
 use kdb_ports::{Clock, Entropy, Sink, WriteFailed, write_whole};
 use primary_core::Primary;
+use session_base::{SessionHalt, draw, print, say};
 use std::alloc::Global;
 use store_files::laws::what_is_kept_is_recovered;
 use store_switches::destroy_files;

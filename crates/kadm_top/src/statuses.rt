@@ -3,8 +3,8 @@
 ghost use Rattle.std.specs.Prelude.{◌≡◌};
 ghost use Rattle.kadm_top.specs.Statuses.{status_after, status_of};
 
-use kadm_session::SessionHalt;
 use kdb_base::Status;
+use session_base::SessionHalt;
 
 /// The status of a run that was stopped.
 fn status_of(halt: SessionHalt) -> Status

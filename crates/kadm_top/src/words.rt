@@ -4,11 +4,12 @@ ghost use Rattle.std.specs.Prelude.{◌≡◌, ◌≤◌, [], Some, map, option_
 ghost use Rattle.std.specs.Str.{bytes_eq};
 ghost use Rattle.kadm_options.specs.OptionValues.{word_given};
 ghost use Rattle.kadm_options.specs.declared.options.OptionName.TheVariants as option;
-ghost use Rattle.kadm_commands.specs.Commands.{IsCommand};
-ghost use Rattle.kadm_top.specs.Words.{AreSized, admin_by, admin_options, create_by, create_in, create_options, destroy_by, destroy_options, etype_given, is_line, is_line_word, kind_named, line_by, line_with, load_by, log_in, no_more, options_alone, report_by, report_in, size_given, spec_of, tell_by, words_behind, words_in};
+ghost use Rattle.kadm_top.specs.Words.{AreSized, admin_by, admin_options, create_by, create_in, create_options, destroy_by, destroy_options, etype_given, generate_by, is_line_word, keytab_by, kind_named, line_by, line_refusal, load_by, log_in, no_more, options_alone, report_by, report_in, size_given, spec_of, tell_by, words_behind, words_in};
 ghost use Rattle.kadm_wire.specs.LineReadings.{words_answer};
+ghost use Rattle.keytab_words.specs.Words.{AreValid};
 ghost use Rattle.princ_name.specs.Realms.{IsRealm};
 
+use crate::asking::LineWords;
 use first_rows::CreateSpec;
 use kadm_commands::Command;
 use kadm_options::{
@@ -18,6 +19,8 @@ use kadm_options::{
 use kadm_values::read_etype;
 use kadm_wire::parse_words;
 use kdb_base::{Blob, Etype, Field, MemoryOut, Refusal};
+use keytab_words::{KeytabWords, read_ktadd, read_ktremove};
+use made_scripts::{Script, read_script};
 use princ_name::{Realm, is_realm};
 use std::alloc::Global;
 use tab_reports::ReportKind;
@@ -43,14 +46,18 @@ pub enum Words {
     Create(CreateSpec),
     /// The database is ended.
     Destroy,
-    /// This is answered over the database, as a line of the input is.
-    Line(Command),
+    /// What a line of these words asks for is answered over the database, as a line of the input is.
+    Line(LineWords),
+    /// A keytab is read from the input, and written anew.
+    Keytab(KeytabWords),
     /// The log is begun anew.
     Renew,
     /// The dump that the input is takes the place of all that the database has.
     Load,
     /// This is told of the database.
     Tell(Account),
+    /// A script is made and run over a database of its own in memory, and told of.
+    Generate(Script),
 }
 
 /// How many entries the log of a new database holds.
@@ -352,43 +359,60 @@ fn is_line_word(word: &[u8]) -> bool
         || is_word(word, b"list_mkeys")
         || is_word(word, b"purge_mkeys")
         || is_word(word, b"stash")
+        || is_word(word, b"update_princ_encryption")
 }
 
-// Whether the command may stand in place of the input: it names no realm.
-fn is_line(command: &Command) -> bool
-    ensures { result ≡ is_line command.now }
+// Why what was read of a line is no command, or nothing where it is one.
+fn line_refusal(said: &Result<Option<Command>, Refusal>) -> Option<Refusal>
+    ensures { result ≡ line_refusal said.now }
 {
-    matches!(
-        command,
-        Command::AddMaster(_)
-            | Command::UseMaster(_)
-            | Command::ListMasters
-            | Command::PurgeMasters
-            | Command::Stash
-    )
-}
-
-fn line_with(command: Command) -> Result<Words, Refusal>
-    requires { IsCommand [] command }
-    ensures value { result ≡ line_with command }
-    ensures sized { AreSized result }
-{
-    if is_line(&command) {
-        Ok(Words::Line(command))
-    } else {
-        Err(Refusal::BadLine)
+    match said {
+        Ok(Some(_)) => None,
+        Ok(None) => Some(Refusal::BadLine),
+        Err(refusal) => Some(*refusal),
     }
+}
+
+// Why a line of these words is refused in no realm, or nothing where it is read there.
+fn refusal_of(alloc: Global, words: &[Blob]) -> Result<Option<Refusal>, MemoryOut>
+    ensures { IfOk result (λ refusal. refusal ≡ line_refusal (words_answer [] words.now)) }
+{
+    let said = parse_words(alloc, words, b"")?;
+    Ok(line_refusal(&said))
 }
 
 // What the words of a line ask for.
 fn read_line(alloc: Global, words: &[Blob]) -> Result<Result<Words, Refusal>, MemoryOut>
-    ensures value { IfOk result (λ found. found ≡ line_by (words_answer [] words.now)) }
+    ensures value { IfOk result (λ found. found ≡ line_by words.now (words_answer [] words.now)) }
     ensures sized { IfOk result AreSized }
 {
-    match parse_words(alloc, words, b"")? {
-        Ok(Some(command)) => Ok(line_with(command)),
-        Ok(None) => Ok(Err(Refusal::BadLine)),
-        Err(refusal) => Ok(Err(refusal)),
+    match refusal_of(alloc, words)? {
+        Some(refusal) => Ok(Err(refusal)),
+        None => {
+            let words = LineWords::copied(alloc, words)?;
+            Ok(Ok(Words::Line(words)))
+        }
+    }
+}
+
+fn keytab_by(found: Result<KeytabWords, Refusal>) -> Result<Words, Refusal>
+    requires { AreValid found }
+    ensures value { result ≡ keytab_by found }
+    ensures sized { AreSized result }
+{
+    match found {
+        Ok(words) => Ok(Words::Keytab(words)),
+        Err(refusal) => Err(refusal),
+    }
+}
+
+fn generate_by(found: Result<Script, Refusal>) -> Result<Words, Refusal>
+    ensures value { result ≡ generate_by found }
+    ensures sized { AreSized result }
+{
+    match found {
+        Ok(script) => Ok(Words::Generate(script)),
+        Err(refusal) => Err(refusal),
     }
 }
 
@@ -439,6 +463,17 @@ fn read_behind(
     if is_word(word, b"report") {
         return Ok(read_report(words));
     }
+    if is_word(word, b"ktadd") {
+        let found = read_ktadd(alloc, words)?;
+        return Ok(keytab_by(found));
+    }
+    if is_word(word, b"ktremove") {
+        let found = read_ktremove(alloc, words)?;
+        return Ok(keytab_by(found));
+    }
+    if is_word(word, b"generate") {
+        return Ok(generate_by(read_script(words)));
+    }
     if is_word(word, b"destroy") {
         return read_destroy(alloc, words);
     }
@@ -474,13 +509,15 @@ fn copy_words(alloc: Global, words: &[Vec<u8>]) -> Result<Vec<Blob>, MemoryOut>
 
 /// What the words ask for: `admin [-ulogsize N]`, `create REALM [-P PASS] [-e ETYPE] [-ulogsize N]`,
 /// `destroy [-f]`, `dump`, `load`, `kproplog` or `kproplog -R`, each with `--` as its last word or without,
-/// `report KIND`, with `--` before the kind or without, or a line of master keys. The realm is the word behind
-/// `create`, whatever it is. Only want of memory can refuse the reading itself.
+/// `report KIND` or `generate SEED COUNT`, with `--` before these words or without, `ktadd -norandkey NAME`,
+/// `ktadd [-e LIST] NAME`,
+/// `ktremove NAME` with `all`, `old` or a version, or a line of master keys. The realm is the word behind `create`,
+/// whatever it is. Only want of memory can refuse the reading itself.
 ///
 /// # Errors
 ///
-/// Inside, `BadLine` where the words are not of this grammar, and else `BadValue` of the first bad value:
-/// of the realm, and then of the options in their order.
+/// Inside, `BadLine` where the words are not of this grammar, then `BadName` of the name of `ktremove`, and else
+/// `BadValue` of the first bad value: of the realm, and then of the options in their order.
 pub fn read_words(alloc: Global, words: &[Vec<u8>]) -> Result<Result<Words, Refusal>, MemoryOut>
     ensures value { IfOk result (λ found. found ≡ words_in (map (λ word. word.items) words.now)) }
     ensures sized { IfOk result AreSized }

@@ -15,6 +15,8 @@ mod folders;
 #[cfg(test)]
 mod keys;
 #[cfg(test)]
+mod keytabs;
+#[cfg(test)]
 mod lines;
 #[cfg(test)]
 mod masters;
@@ -24,5 +26,7 @@ mod rim;
 mod rules;
 #[cfg(test)]
 mod runs;
+#[cfg(test)]
+mod scripts;
 #[cfg(test)]
 mod stores;

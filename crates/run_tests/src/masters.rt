@@ -204,3 +204,38 @@ fn a_database_is_told_as_text(rt: HostRuntime) -> Result<(), Fail> {
     check_words(&rt, alloc, &mut disk, "destroy", b"ok\n")?;
     check_words(&rt, alloc, &mut disk, "dump", b"err 20 NotADatabase\n")
 }
+
+/// The second key is made active, and principals are moved under it by words.
+const MOVED: [(&str, &[u8]); 7] = [
+    ("add_mkey", b"ok 2 1700000000.000000 mkvno 2\n"),
+    (
+        "use_mkey 2",
+        b"ok 3 1700000000.000000 mkvno 2 from 2023-11-14T22:13:20Z\n",
+    ),
+    ("update_princ_encryption [", b"err 13 BadValue glob\n"),
+    ("update_princ_encryption a b", b"err 1 BadLine\n"),
+    (
+        "update_princ_encryption -f kadmin/*",
+        b"ok 1 principals processed: 1 updated, 0 already current, 0 gone\n",
+    ),
+    (
+        "update_princ_encryption -- *@OTHER",
+        b"ok 0 principals processed: 0 updated, 0 already current, 0 gone\n",
+    ),
+    (
+        "update_princ_encryption",
+        b"ok 2 principals processed: 1 updated, 1 already current, 0 gone\n",
+    ),
+];
+
+#[test]
+fn principals_moved_by_words(rt: HostRuntime) -> Result<(), Fail> {
+    let alloc = rt.alloc();
+    let mut disk = created(alloc, &[])?;
+    for (words, reply) in MOVED.iter() {
+        check_words(&rt, alloc, &mut disk, words, reply)?;
+    }
+    check_words(&rt, alloc, &mut disk, "destroy", b"ok\n")?;
+    let words = "update_princ_encryption";
+    check_words(&rt, alloc, &mut disk, words, b"err 20 NotADatabase\n")
+}

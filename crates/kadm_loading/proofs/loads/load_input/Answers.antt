@@ -3,7 +3,7 @@ use Rattle.std.specs.Prelude.{IfOk, OnErr}
 use Rattle.kadm_loading.proofs.Ends.{gave_clock, has_come, idle_leaves, idle_some, read_comes, stops_unsaid}
 use Rattle.kadm_loading.proofs.loads.load_input.Goals as goal
 use Rattle.kadm_loading.specs.Loads.{LoadsAs, load_stage, places_loaded}
-use Rattle.kadm_session.specs.Courses.{IsStopped}
+use Rattle.session_base.specs.Stages.{IsStopped}
 use Rattle.kdb_base.specs.Moment.{Moment}
 use Rattle.kdb_disk.specs.Moments.{LeavesOnly}
 use Rattle.primary_core.specs.Opened.{place_of}

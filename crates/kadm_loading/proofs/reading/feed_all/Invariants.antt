@@ -1,6 +1,6 @@
 use Rattle.std.proofs.Common.{◌≡◌, ◌≤◌, ◌-◌, length, option_map}
 use Rattle.dump_text.specs.Reader.{judged_with}
-use Rattle.kadm_loading.specs.Inputs.{WereTaken}
+use Rattle.session_base.specs.Wholes.{WereTaken}
 use Rattle.kadm_loading.proofs.reading.feed_all.Given as goal
 
 -- So many bytes were taken, and what is left is judged as the whole was.

@@ -1,5 +1,5 @@
 use Rattle.std.proofs.Common.{◌∙◌}
-use Rattle.kadm_session.specs.Draws.{told_draws}
+use Rattle.session_base.specs.Draws.{told_draws}
 use Rattle.kadm_top.proofs.Accounts.{cut_told_run, text_then, told_run}
 use Rattle.kadm_top.proofs.Telling.{behind_clock, clock_gave}
 use Rattle.kadm_top.proofs.accounting.tell.Goals as goal

@@ -1,7 +1,7 @@
 use Rattle.std.proofs.Common.{◌∙◌, Option, ap, refl, subst, sym}
 use Rattle.std.specs.Prelude.{None, Result, Err}
 use Rattle.std.proofs.lemmas.Result.{on_ok_weaker}
-use Rattle.kadm_session.specs.Draws.{Draws, told_draws}
+use Rattle.session_base.specs.Draws.{Draws, told_draws}
 use Rattle.kadm_top.proofs.Loads.{good_loading, load_cut, load_halted, load_opened_run, load_reads, load_refused, refused_loading}
 use Rattle.kadm_top.proofs.Openings.{Answers}
 use Rattle.kadm_top.proofs.Telling.{behind_clock, clock_gave}

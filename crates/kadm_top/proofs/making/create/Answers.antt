@@ -1,5 +1,5 @@
 use Rattle.std.proofs.Common.{◌≡◌, ◌∙◌, ℕ, Option, List, refl, rules, subst, sym}
-use Rattle.kadm_session.specs.Draws.{Draws, told_draws}
+use Rattle.session_base.specs.Draws.{Draws, told_draws}
 use Rattle.kadm_top.proofs.Running.{idle_run}
 use Rattle.kadm_top.proofs.Telling.{are_drawn, behind_both}
 use Rattle.kadm_top.proofs.making.create.Goals as goal

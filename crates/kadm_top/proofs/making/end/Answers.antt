@@ -1,6 +1,6 @@
 use Rattle.std.proofs.Common.{◌≡◌, ◌∙◌, ap, refl, rules}
 use Rattle.std.specs.Prelude.{Err}
-use Rattle.kadm_session.specs.Halts.{disk_as_session}
+use Rattle.session_base.specs.Halts.{disk_as_session}
 use Rattle.kadm_top.proofs.Creating.{end_cut, end_done, end_halted, end_refusal_cut, end_refused}
 use Rattle.kadm_top.proofs.Running.{says_no_disk, spares_for_memory}
 use Rattle.kadm_top.proofs.making.end.Goals as goal

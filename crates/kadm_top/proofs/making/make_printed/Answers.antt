@@ -1,7 +1,7 @@
 use Rattle.std.proofs.Common.{◌≡◌, ◌∙◌, List, ℕ, ap, refl, rules, subst}
 use Rattle.std.specs.Prelude.{Err}
 use Rattle.kadm_top.specs.Run.{refusal_line}
-use Rattle.kadm_session.specs.Halts.{disk_as_session}
+use Rattle.session_base.specs.Halts.{disk_as_session}
 use Rattle.kadm_top.proofs.Creating.{create_cut, create_halted, create_made, create_refusal_cut, create_refused}
 use Rattle.kadm_top.proofs.Running.{says_no_disk, spares_for_memory}
 use Rattle.kadm_top.proofs.making.make_printed.Goals as goal

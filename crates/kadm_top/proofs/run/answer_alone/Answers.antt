@@ -2,7 +2,7 @@ use Rattle.std.proofs.Common.{◌∷◌, [], false}
 use Rattle.std.specs.Prelude.{Some}
 use Rattle.std.proofs.lemmas.Result.{on_ok_weaker}
 use Rattle.kadm_session.specs.Courses.{course}
-use Rattle.kadm_session.specs.Draws.{told_draws}
+use Rattle.session_base.specs.Draws.{told_draws}
 use Rattle.kadm_top.proofs.Courses.{one_run}
 use Rattle.kadm_top.proofs.run.answer_alone.Goals as goal
 use Rattle.kdb_histories.specs.Seen.{seen}

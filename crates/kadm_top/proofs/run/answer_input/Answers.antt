@@ -1,7 +1,7 @@
 use Rattle.std.proofs.Common.{false, subst}
 use Rattle.std.proofs.lemmas.Result.{on_ok_weaker}
 use Rattle.kadm_session.specs.Courses.{Course, course}
-use Rattle.kadm_session.specs.Draws.{told_draws}
+use Rattle.session_base.specs.Draws.{told_draws}
 use Rattle.kadm_session.specs.Intake.{coming}
 use Rattle.kadm_session.proofs.Turning.{between_rests}
 use Rattle.kadm_top.proofs.Courses.{course_run, fresh_course, fresh_taken, read_whole, were_taken}

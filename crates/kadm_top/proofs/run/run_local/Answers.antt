@@ -1,7 +1,7 @@
 use Rattle.std.proofs.Common.{refl, subst, sym}
 use Rattle.std.specs.Prelude.{OnOk, Result, Err}
-use Rattle.kadm_session.specs.Draws.{told_draws}
-use Rattle.kadm_session.specs.declared.halts.SessionHalt.TheVariants as session
+use Rattle.session_base.specs.Draws.{told_draws}
+use Rattle.session_base.specs.declared.halts.SessionHalt.TheVariants as session
 use Rattle.kadm_top.proofs.ByStatus.{causes_by_status, causes_out, end_by_status, input_by_status, run_by_status}
 use Rattle.kadm_top.proofs.Running.{idle_run}
 use Rattle.kadm_top.proofs.run.run_local.Goals as goal

@@ -1,17 +1,18 @@
 use Rattle.std.proofs.Common.{◌∙◌, ap, refl, subst, sym, true}
 use Rattle.std.specs.Prelude.{Ok, Err}
 use Rattle.std.proofs.lemmas.Result.{on_ok_weaker}
-use Rattle.kadm_session.specs.Draws.{told_draws}
+use Rattle.session_base.specs.Draws.{told_draws}
 use Rattle.kadm_top.proofs.Accounts.{for_tell, tell_has}
 use Rattle.kadm_top.proofs.ByStatus.{said_causes}
 use Rattle.kadm_top.proofs.Loads.{for_load, load_has}
-use Rattle.kadm_top.proofs.Worded.{line_asked}
-use Rattle.kadm_top.proofs.Openings.{admin_has, any_ok, create_has, destroy_has, for_admin, for_create, for_destroy, for_line, for_refusal, for_renew, line_has, refusal_has, renew_has}
-use Rattle.kadm_top.proofs.Running.{cut_refusal_run, refused_run}
+use Rattle.kadm_top.proofs.KeytabRuns.{for_keytab, keytab_has}
+use Rattle.kadm_top.proofs.Openings.{admin_has, any_ok, create_has, destroy_has, for_admin, for_create, for_destroy, for_generate, for_line, for_refusal, for_renew, generate_has, line_has, refusal_has, renew_has}
+use Rattle.kadm_top.proofs.Running.{cut_refusal_run, generated_run, refused_run}
 use Rattle.kadm_top.proofs.run.run_words.Goals as goal
 use Rattle.kadm_top.specs.Openings.{NoDraw, Opening}
 use Rattle.kadm_top.specs.Run.{HasRun, told}
 use Rattle.kdb_disk.proofs.Runs.{kept}
+use Rattle.made_scripts.specs.Runs.{told_of}
 
 pub returns-in-Ok-Admin-clause-run : goal.returns-in-Ok-Admin-clause-run
 returns-in-Ok-Admin-clause-run g c = λ tells o opening.
@@ -36,6 +37,18 @@ returns-in-Ok-Destroy-clause-run g c = λ tells o opening.
     (told (g.K.Sink.taken c.args.sink.now) (g.S.Source.left c.args.source.now) draws) (told (g.K.Sink.taken c.end.new.sink) (g.S.Source.left c.args.source.now) draws) c.end.result)
     (sym (for_destroy (g.S.Source.left c.args.source.now) (g.D.Disk.view c.args.disk.now).seen (told_draws (g.C.Clock.moments c.args.clock.now) (g.E.Entropy.stream c.args.entropy.now)) o c.args.words (c.in-Ok-Destroy.is ∙ ap Ok c.in-Ok-Destroy.field-0-is) opening))
     (c.end.ensures.run tells (g.S.Source.left c.args.source.now) draws)
+
+pub returns-in-Ok-Generate-clause-run : goal.returns-in-Ok-Generate-clause-run
+returns-in-Ok-Generate-clause-run g c = λ tells o opening.
+    let draws = told_draws (g.C.Clock.moments c.args.clock.now) (g.E.Entropy.stream c.args.entropy.now) in
+    subst (λ (x : Opening). HasRun x (g.D.Disk.view c.args.disk.now) (g.D.Disk.view c.args.disk.now)
+    (told (g.K.Sink.taken c.args.sink.now) (g.S.Source.left c.args.source.now) draws) (told (g.K.Sink.taken c.generate.new.sink) (g.S.Source.left c.args.source.now) draws) c.generate.result)
+    (sym (for_generate (g.S.Source.left c.args.source.now) (g.D.Disk.view c.args.disk.now).seen draws o c.args.words c.in-Ok-Generate.script (c.in-Ok-Generate.is ∙ ap Ok c.in-Ok-Generate.field-0-is) opening))
+    (generated_run c.generate.result (told_of c.in-Ok-Generate.script) c.generate.ensures.ok c.generate.ensures.err refl (kept (g.D.Disk.view c.args.disk.now)))
+
+pub returns-in-Ok-Generate-clause-opening : goal.returns-in-Ok-Generate-clause-opening
+returns-in-Ok-Generate-clause-opening g c = λ tells draws is.
+    any_ok c.generate.result _ (generate_has (g.D.Disk.view c.args.disk.now).seen _ c.args.words c.in-Ok-Generate.script (c.in-Ok-Generate.is ∙ ap Ok c.in-Ok-Generate.field-0-is))
 
 pub returns-in-Ok-clause-run : goal.returns-in-Ok-clause-run
 returns-in-Ok-clause-run g c = λ tells o opening.
@@ -75,7 +88,7 @@ returns-in-Ok-clause-opening g c = λ tells draws is. refusal_has (g.D.Disk.view
 
 pub returns-in-Ok-Line-clause-run : goal.returns-in-Ok-Line-clause-run
 returns-in-Ok-Line-clause-run g c = λ tells o opening.
-    c.ask-in-Ok-Line.ensures.run tells o (for_line (g.S.Source.left c.args.source.now) (g.D.Disk.view c.args.disk.now).seen (told_draws (g.C.Clock.moments c.args.clock.now) (g.E.Entropy.stream c.args.entropy.now)) o c.args.words c.in-Ok-Line.command (c.in-Ok-Line.is ∙ ap Ok c.in-Ok-Line.field-0-is) opening)
+    c.ask-in-Ok-Line.ensures.run tells o (for_line (g.S.Source.left c.args.source.now) (g.D.Disk.view c.args.disk.now).seen (told_draws (g.C.Clock.moments c.args.clock.now) (g.E.Entropy.stream c.args.entropy.now)) o c.args.words c.in-Ok-Line.words (c.in-Ok-Line.is ∙ ap Ok c.in-Ok-Line.field-0-is) opening)
 
 pub returns-in-Ok-Line-clause-unread : goal.returns-in-Ok-Line-clause-unread
 returns-in-Ok-Line-clause-unread g c = λ tells o opening not. c.ask-in-Ok-Line.ensures.alone (λ input. input)
@@ -83,11 +96,8 @@ returns-in-Ok-Line-clause-unread g c = λ tells o opening not. c.ask-in-Ok-Line.
 pub returns-in-Ok-Line-clause-opening : goal.returns-in-Ok-Line-clause-opening
 returns-in-Ok-Line-clause-opening g c = λ tells draws is.
     on_ok_weaker c.ask-in-Ok-Line.result
-    (line_has (g.D.Disk.view c.args.disk.now).seen (told_draws (g.C.Clock.moments c.args.clock.now) (g.E.Entropy.stream c.args.entropy.now)) c.args.words c.in-Ok-Line.command (c.in-Ok-Line.is ∙ ap Ok c.in-Ok-Line.field-0-is))
+    (line_has (g.D.Disk.view c.args.disk.now).seen (told_draws (g.C.Clock.moments c.args.clock.now) (g.E.Entropy.stream c.args.entropy.now)) c.args.words c.in-Ok-Line.words (c.in-Ok-Line.is ∙ ap Ok c.in-Ok-Line.field-0-is))
     (c.ask-in-Ok-Line.ensures.opening tells draws is)
-
-pub ask-requires-in-Ok-Line-clause-asked : goal.ask-requires-in-Ok-Line-clause-asked
-ask-requires-in-Ok-Line-clause-asked g c = λ realm. line_asked c.args.words c.in-Ok-Line.command (c.in-Ok-Line.is ∙ ap Ok c.in-Ok-Line.field-0-is) c.requires realm
 
 pub returns-in-Ok-Tell-clause-run : goal.returns-in-Ok-Tell-clause-run
 returns-in-Ok-Tell-clause-run g c = λ tells o opening.
@@ -129,3 +139,21 @@ returns-in-Ok-Load-clause-opening g c = λ tells draws is.
     on_ok_weaker c.load.result
     (load_has (g.D.Disk.view c.args.disk.now).seen (told_draws (g.C.Clock.moments c.args.clock.now) (g.E.Entropy.stream c.args.entropy.now)) c.args.words (c.in-Ok-Load.is ∙ ap Ok c.in-Ok-Load.field-0-is))
     (c.load.ensures.opening tells (g.E.Entropy.stream c.args.entropy.now) draws is)
+
+pub returns-in-Ok-Keytab-clause-run : goal.returns-in-Ok-Keytab-clause-run
+returns-in-Ok-Keytab-clause-run g c = λ tells o opening.
+    let stream = g.E.Entropy.stream c.args.entropy.now in
+    c.run_keytab.ensures.run tells o
+    (for_keytab (g.S.Source.left c.args.source.now) (g.D.Disk.view c.args.disk.now).seen (told_draws (g.C.Clock.moments c.args.clock.now) stream) o c.args.words c.in-Ok-Keytab.words (c.in-Ok-Keytab.is ∙ ap Ok c.in-Ok-Keytab.field-0-is) opening)
+
+pub returns-in-Ok-Keytab-clause-unread : goal.returns-in-Ok-Keytab-clause-unread
+returns-in-Ok-Keytab-clause-unread g c = λ tells o opening not.
+    let stream = g.E.Entropy.stream c.args.entropy.now in
+    c.run_keytab.ensures.unread tells o
+    (for_keytab (g.S.Source.left c.args.source.now) (g.D.Disk.view c.args.disk.now).seen (told_draws (g.C.Clock.moments c.args.clock.now) stream) o c.args.words c.in-Ok-Keytab.words (c.in-Ok-Keytab.is ∙ ap Ok c.in-Ok-Keytab.field-0-is) opening) not
+
+pub returns-in-Ok-Keytab-clause-opening : goal.returns-in-Ok-Keytab-clause-opening
+returns-in-Ok-Keytab-clause-opening g c = λ tells draws is.
+    on_ok_weaker c.run_keytab.result
+    (keytab_has (g.D.Disk.view c.args.disk.now).seen (told_draws (g.C.Clock.moments c.args.clock.now) (g.E.Entropy.stream c.args.entropy.now)) c.args.words c.in-Ok-Keytab.words (c.in-Ok-Keytab.is ∙ ap Ok c.in-Ok-Keytab.field-0-is))
+    (c.run_keytab.ensures.opening tells draws is)

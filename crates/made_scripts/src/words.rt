@@ -1,0 +1,84 @@
+//! What the words of a script to be made say.
+
+ghost use Rattle.std.specs.Prelude.{◌≡◌};
+ghost use Rattle.made_scripts.specs.Words.{count_in, script_by, script_in, seed_in};
+
+use kadm_options::{is_dashes, read_within};
+use kadm_values::read_number;
+use kdb_base::{Blob, Field, Refusal};
+
+/// A script to be made.
+#[derive(Clone, Copy, Debug, PartialEq, Eq)]
+pub struct Script {
+    /// Where the numbers of the names begin.
+    pub seed: u32,
+    /// How many lines it has, 1 to 1000.
+    pub count: u32,
+}
+
+/// The greatest seed.
+const LAST_SEED: u64 = 4_294_967_295;
+
+/// The seed of a word, where it is one.
+#[tactic(auto, unfolding(kadm_options::specs::OptionValues::number_within))]
+fn read_seed(word: &[u8]) -> Option<u32>
+    ensures { result ≡ seed_in word.now }
+{
+    match read_number(word) {
+        Some(number) => {
+            if number <= LAST_SEED {
+                Some(number as u32)
+            } else {
+                None
+            }
+        }
+        None => None,
+    }
+}
+
+/// The number of lines of a word, where it is one.
+fn read_count(word: &[u8]) -> Option<u32>
+    ensures { result ≡ count_in word.now }
+{
+    match read_within(1, 1000, word) {
+        Some(count) => Some(u32::from(count)),
+        None => None,
+    }
+}
+
+/// The script of a seed and a number of lines. The seed is judged first.
+fn script_by(seed: &[u8], count: &[u8]) -> Result<Script, Refusal>
+    ensures { result ≡ script_by seed.now count.now }
+{
+    let Some(seed) = read_seed(seed) else {
+        return Err(Refusal::BadValue { field: Field::Seed });
+    };
+    match read_count(count) {
+        Some(count) => Ok(Script { seed, count }),
+        None => Err(Refusal::BadValue {
+            field: Field::Count,
+        }),
+    }
+}
+
+/// The script that is asked for: its seed and its number of lines stand alone, or behind the word that ends options.
+///
+/// # Errors
+///
+/// `BadLine` where there are other words, `BadValue` where a word is no number, or one out of its range.
+#[tactic(auto, unfolding(crate::specs::Words::script_in))]
+pub fn read_script(words: &[Blob]) -> Result<Script, Refusal>
+    ensures { result ≡ script_in words.now }
+{
+    match words {
+        [seed, count] => script_by(seed.as_slice(), count.as_slice()),
+        [dashes, seed, count] => {
+            if is_dashes(dashes.as_slice()) {
+                script_by(seed.as_slice(), count.as_slice())
+            } else {
+                Err(Refusal::BadLine)
+            }
+        }
+        _ => Err(Refusal::BadLine),
+    }
+}
