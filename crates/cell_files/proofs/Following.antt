@@ -10,7 +10,8 @@ use Rattle.policy_rules.specs.Names.{is_policy_name}
 use Rattle.policy_rules.specs.Rules.{Rules}
 use Rattle.princ_record.specs.Policies.{IsPolicy}
 use Rattle.princ_record.specs.declared.princs.Princ.{Princ as Principal}
-use Rattle.princ_rows.specs.Rows.{key_cmp, AreInOrder, RowLists, AreRows}
+use Rattle.princ_rows.specs.Rows.{RowLists, AreRows}
+use Rattle.tagged_data.specs.KeyOrder.{key_cmp, AreInOrder}
 use Rattle.kdb_cells.specs.declared.units.StoredRow.{StoredRow}
 use Rattle.kdb_cells.specs.declared.units.StoredRow.TheVariants.{Princ, Policy}
 use Rattle.kdb_cells.specs.Cells.{Cell, name_of, IsRowOf, IsStored}

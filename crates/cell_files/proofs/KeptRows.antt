@@ -13,7 +13,8 @@ use Rattle.policy_rules.specs.Rules.{Rules}
 use Rattle.princ_record.specs.Policies.{IsPolicy}
 use Rattle.princ_record.specs.RowLimits.{IsRow}
 use Rattle.princ_record.specs.declared.princs.Princ.{Princ as Principal}
-use Rattle.princ_rows.specs.Rows.{key_cmp, AreInOrder, RowLists, AreRows, princ_keys, policy_keys}
+use Rattle.princ_rows.specs.Rows.{RowLists, AreRows, princ_keys, policy_keys}
+use Rattle.tagged_data.specs.KeyOrder.{key_cmp, AreInOrder}
 use Rattle.princ_rows.specs.Effects.{is_lower, is_higher, put_by, put_princ, put_policy}
 use Rattle.princ_rows.proofs.Orders.{put_order}
 use Rattle.kdb_cells.specs.declared.units.StoredRow.TheVariants.{Princ, Policy}

@@ -13,8 +13,8 @@ use Rattle.std.proofs.lemmas.List.Elements.{All-from_recursion, recursion_from_A
 use Rattle.std.proofs.lemmas.List.Sorted.{IsPermutation-refl, IsPermutation-sym, IsPermutation-cons, IsPermutation-trans, IsPermutation-middle, IsPermutation-map, All-permutation, Contains-permutation, sorted_far, ranks_by}
 use Rattle.std.proofs.lemmas.Map.Keys.{IsDistinct-head, IsDistinct-tail, IsDistinct-IsPermutation}
 use Rattle.std.proofs.lemmas.Map.Text.{is_eq-slice_cmp}
-use Rattle.princ_entries.specs.EntryLaws.{same_bytes, bytes_same}
-use Rattle.princ_rows.specs.Rows.{key_cmp, AreInOrder}
+use Rattle.princ_rows.specs.EntryLaws.{same_bytes, bytes_same}
+use Rattle.tagged_data.specs.KeyOrder.{key_cmp, AreInOrder}
 use Rattle.princ_rows.specs.Effects.{is_lower, is_higher, put_by}
 
 -- ---- keys

@@ -2,7 +2,7 @@
 ghost use Rattle.std.specs.Prelude.{◌≡◌, ℕ, List};
 ghost use Rattle.std.specs.List.Sorted.{IsPermutation, IsSortedBy};
 ghost use Rattle.std.specs.Ordering.{is_lt};
-ghost use Rattle.princ_rows.specs.Rows.{key_cmp};
+ghost use Rattle.tagged_data.specs.KeyOrder.{key_cmp};
 ghost use Rattle.kdb_cells.specs.Cells.{Cell};
 ghost use Rattle.kdb_cells.specs.Changes.{rows_of};
 ghost use Rattle.kdb_cells.specs.Scanning.{AreApart, princs_of, policies_of};

@@ -26,7 +26,9 @@ use Rattle.princ_record.specs.RowLimits.{IsRow}
 use Rattle.princ_record.specs.SizeLaws.{length-princ}
 use Rattle.princ_record.specs.declared.princs.Princ.{Princ}
 use Rattle.princ_record.specs.Policies.{IsPolicy}
-use Rattle.princ_rows.specs.Rows.{AreInOrder, AreRows, in_order, rises_from}
+use Rattle.princ_rows.specs.Rows.{AreRows}
+use Rattle.tagged_data.specs.KeyOrder.{AreInOrder, rises_from}
+use Rattle.tagged_data.specs.KeyOrderLaws.{in_order}
 use Rattle.policy_rules.specs.Rules.{Rules}
 use Rattle.tagged_data.specs.StringLaws.{no_strings}
 use Rattle.tagged_data.specs.Versions.{length-aux_keys_text}

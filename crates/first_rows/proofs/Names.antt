@@ -9,7 +9,8 @@ use Rattle.princ_name.specs.RealmNames.{name_in}
 use Rattle.princ_name.specs.RealmLaws.{all_stand, is_name_in, prints_in, prints_itself, realm_text}
 use Rattle.princ_name.specs.Realms.{IsRealm}
 use Rattle.princ_name.specs.Printed.{IsPrinted, is_master}
-use Rattle.princ_rows.specs.Rows.{AreInOrder, in_order, rises_from}
+use Rattle.tagged_data.specs.KeyOrder.{AreInOrder, rises_from}
+use Rattle.tagged_data.specs.KeyOrderLaws.{in_order}
 use Rattle.kdb_plain.specs.States.{history_name}
 use Rattle.master_keys.specs.First.{master_name}
 use Rattle.first_rows.specs.Creation.{ticket_name}

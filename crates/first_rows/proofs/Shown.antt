@@ -18,7 +18,7 @@ use Rattle.master_keys.specs.First.{first_record, master_name}
 use Rattle.master_keys.specs.Wrapping.{Unwraps, wrapped}
 use Rattle.master_keys.proofs.FirstRecord.{first_chain}
 use Rattle.plain_keys.specs.Keys.{drawn_len, item_of, items_of, random_keys}
-use Rattle.princ_entries.specs.EntryLaws.{bytes_same}
+use Rattle.princ_rows.specs.EntryLaws.{bytes_same}
 use Rattle.row_keys.specs.Lookups.{has_name, record_named}
 use Rattle.row_keys.specs.Shows.{Shows, ShowsItem}
 use Rattle.row_keys.specs.Wraps.{wrapped_item, wrapped_items}

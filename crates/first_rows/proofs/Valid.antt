@@ -12,9 +12,10 @@ use Rattle.master_keys.specs.First.{master_name}
 use Rattle.master_keys.proofs.Rising.{rising_one}
 use Rattle.plain_keys.specs.Keys.{item_of, items_of, random_keys}
 use Rattle.plain_keys.specs.declared.items.PlainItem.{PlainItem}
-use Rattle.princ_entries.specs.EntryLaws.{bytes_same}
+use Rattle.princ_rows.specs.EntryLaws.{bytes_same}
 use Rattle.princ_record.specs.Policies.{IsPolicy}
-use Rattle.princ_rows.specs.Rows.{in_order, rises_from}
+use Rattle.tagged_data.specs.KeyOrder.{rises_from}
+use Rattle.tagged_data.specs.KeyOrderLaws.{in_order}
 use Rattle.first_rows.specs.Creation.{behind_history, behind_master, first_head, first_items, first_plain}
 use Rattle.first_rows.specs.Creation.{first_princs, first_state, history_types, master_key_of, ticket_name, ticket_types}
 use Rattle.first_rows.specs.Parts.{IsSpec, SpecParts}

@@ -4,7 +4,7 @@ use Rattle.std.specs.Prelude.{nat_eq, slice_index_or, if◌then◌else◌}
 use Rattle.std.proofs.lemmas.Bool.{and_parts, eqb-true, eq-eqb}
 use Rattle.kdb_base.specs.Moment.{Moment}
 use Rattle.kdb_base.specs.declared.moments.Point.{Point}
-use Rattle.princ_entries.specs.declared.entries.Entry.{Entry}
+use Rattle.princ_rows.specs.declared.entries.Entry.{Entry}
 use Rattle.iprop_reply.specs.Polls.{AreHeld, is_moment, is_point, status_of, time_of, updates_after}
 use Rattle.iprop_reply.specs.declared.status.Status4.{Status4}
 use Rattle.iprop_reply.specs.declared.status.Status4.TheVariants as status

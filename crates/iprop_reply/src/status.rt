@@ -1,7 +1,7 @@
 //! Whether a log can tell what came after a point.
 
 ghost use Rattle.std.specs.Prelude.{◌≡◌, ◌≢◌, List, Some, false, true};
-ghost use Rattle.princ_entries.specs.declared.entries.Entry.{Entry};
+ghost use Rattle.princ_rows.specs.declared.entries.Entry.{Entry};
 ghost use Rattle.iprop_reply.specs.Polls.{AreHeld, status_of, time_of, updates_after};
 
 use kdb_base::{Point, Time};

@@ -1,7 +1,7 @@
 //! Lists of names.
 
 ghost use Rattle.std.specs.Prelude.{◌≡◌};
-ghost use Rattle.princ_rows.specs.Rows.{AreInOrder};
+ghost use Rattle.tagged_data.specs.KeyOrder.{AreInOrder};
 
 use kdb_base::Blob;
 use std::marker::Model;
@@ -14,7 +14,7 @@ pub struct NameList {
 
 impl Model for NameList {
     ghost use Rattle.std.specs.Prelude.{List, ℕ};
-    ghost use Rattle.princ_rows.specs.Rows.{AreInOrder};
+    ghost use Rattle.tagged_data.specs.KeyOrder.{AreInOrder};
 
     ghost Value = { List (List ℕ) };
 

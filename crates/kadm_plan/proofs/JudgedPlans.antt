@@ -13,7 +13,7 @@ use Rattle.kdb_base.specs.declared.outcomes.Stop.TheVariants.{Refused, Halt}
 use Rattle.kdb_model.specs.Calls.{Call}
 use Rattle.kdb_model.specs.Refusals.{refusal}
 use Rattle.kdb_plain.specs.declared.states.State.{State}
-use Rattle.princ_entries.specs.declared.entries.Op.{Op}
+use Rattle.princ_rows.specs.declared.entries.Op.{Op}
 
 module _ (g : Given) (cmd : Command) (plan : Result Planned Refusal) (judged : IsJudged g cmd plan) where
   module _ (s : State) (call : Call) (seen : IsSeenBy g.rows.now g.masters.now g.realm.now g.moment s)

@@ -13,7 +13,7 @@ ghost use Rattle.kdb_base.specs.declared.outcomes.Stop.TheVariants as stop;
 ghost use Rattle.kdb_model.specs.Calls.{Call};
 ghost use Rattle.kdb_model.specs.Refusals.{refusal};
 ghost use Rattle.kdb_plain.specs.declared.states.State.{State};
-ghost use Rattle.princ_entries.specs.declared.entries.Op.{Op as Operation};
+ghost use Rattle.princ_rows.specs.declared.entries.Op.{Op as Operation};
 ghost use Rattle.princ_name.specs.Realms.{IsRealm};
 
 use crate::ready::Ready;

@@ -5,7 +5,7 @@ use Rattle.std.specs.Str.{bytes_eq}
 use Rattle.std.proofs.lemmas.Bool.{false_from_ne_true, true≢false}
 use Rattle.std.proofs.lemmas.List.Elements.{All-from_recursion}
 use Rattle.policy_rules.specs.Rules.{Rules}
-use Rattle.princ_entries.specs.EntryLaws.{same_bytes, bytes_same}
+use Rattle.princ_rows.specs.EntryLaws.{same_bytes, bytes_same}
 use Rattle.princ_record.specs.Policies.{IsPolicy}
 use Rattle.princ_record.specs.RowLimits.{IsRow}
 use Rattle.princ_record.specs.declared.princs.Princ.{Princ as Principal}

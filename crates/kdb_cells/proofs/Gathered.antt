@@ -13,7 +13,7 @@ use Rattle.kdb_base.specs.declared.outcomes.Stop.{Stop}
 use Rattle.kdb_base.specs.declared.outcomes.Stop.TheVariants.{Refused, Halt}
 use Rattle.policy_rules.specs.Rules.{Rules}
 use Rattle.princ_record.specs.declared.princs.Princ.{Princ as Principal}
-use Rattle.princ_entries.specs.EntryLaws.{same_bytes, bytes_same}
+use Rattle.princ_rows.specs.EntryLaws.{same_bytes, bytes_same}
 use Rattle.kdb_cells.specs.declared.units.StoredRow.{StoredRow}
 use Rattle.kdb_cells.specs.Cells.{Cell, unit_size, unit_at, cell_of, IsCell, IsStored, name_of}
 use Rattle.kdb_cells.specs.Changes.{cell_no}

@@ -3,7 +3,7 @@ use Rattle.std.proofs.Common.{◌≡◌, ◌≢◌, ℕ, zero, suc, ◌+◌, ◌
 use Rattle.std.specs.Prelude.{Result, Ok, Err}
 use Rattle.std.proofs.lemmas.Bool.{cases_eq, cases_lt, cond-true, cond-false, false_from_ne_true, true≢false, le-ltb, ltb-false}
 use Rattle.kdb_base.specs.Limits.{most_rows}
-use Rattle.princ_entries.specs.EntryLaws.{same_bytes, bytes_same}
+use Rattle.princ_rows.specs.EntryLaws.{same_bytes, bytes_same}
 use Rattle.kdb_cells.specs.declared.units.StoredRow.TheVariants.{Princ, Policy}
 use Rattle.kdb_cells.specs.Cells.{Cell, unit_size, unit_text}
 use Rattle.kdb_cells.specs.Sheets.{realm_in, cell_in, cell_or_free, cells_from, cells_of, count_of, clash, clashes, taken_by, taken, is_too_far, is_fault, fault_from, Sheet, sheet_with, sheet_in, set_cell, put_cell}

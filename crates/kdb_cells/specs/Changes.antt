@@ -2,8 +2,8 @@
 use Rattle.std.specs.Prelude.{ℕ, zero, suc, List, [], ◌∷◌, Some, None}
 use Rattle.princ_rows.specs.Rows.{RowLists}
 use Rattle.princ_rows.specs.Effects.{put_princ, drop_princ, put_policy, drop_policy}
-use Rattle.princ_entries.specs.declared.entries.Op.{Op}
-use Rattle.princ_entries.specs.declared.entries.Op.TheVariants.{PutPrinc, DropPrinc, Rename, PutPolicy, DropPolicy}
+use Rattle.princ_rows.specs.declared.entries.Op.{Op}
+use Rattle.princ_rows.specs.declared.entries.Op.TheVariants.{PutPrinc, DropPrinc, Rename, PutPolicy, DropPolicy}
 use Rattle.kdb_cells.specs.declared.units.StoredRow.TheVariants.{Princ, Policy}
 use Rattle.kdb_cells.specs.Cells.{Cell}
 

@@ -9,7 +9,7 @@ use Rattle.kdb_cells.specs.declared.units.StoredRow.{StoredRow}
 use Rattle.kdb_cells.specs.declared.units.StoredRow.TheVariants.{Princ, Policy}
 use Rattle.kdb_cells.specs.Cells.{name_of, IsStored}
 use Rattle.kdb_cells.specs.Sheets.{same_key}
-use Rattle.princ_entries.specs.EntryLaws.{bytes_same}
+use Rattle.princ_rows.specs.EntryLaws.{bytes_same}
 
 -- what holds of each byte holds of those behind a front
 all_behind : (front rest : List ℕ) → list_all is_name_byte (front ++ rest) ≡ true → list_all is_name_byte rest ≡ true

@@ -6,7 +6,7 @@ use Rattle.kdb_histories.specs.Asks.{Ask, Enters, Keeps, Kind, Stashes, clock_of
 use Rattle.kdb_histories.specs.Seen.{Put, did, moment_at, planned, reset_for, reset_point}
 use Rattle.kdb_histories.specs.Stages.{Anew, Stage, stage}
 use Rattle.kdb_places.specs.Places.{Place, committed}
-use Rattle.princ_entries.specs.declared.entries.Op.{Op}
+use Rattle.princ_rows.specs.declared.entries.Op.{Op}
 
 abbrev pub made_next : Ask → Op → Place → List Stage
 made_next ask op p = did ask false op p (committed op (moment_at (clock_of ask) p) p) ∷ []

@@ -12,7 +12,7 @@ use Rattle.kdb_histories.specs.Sites.{Site, SiteEvent, Creates, Calls, Stops, Cr
 use Rattle.kdb_histories.specs.Stages.{Anew, Stage, onto, stage}
 use Rattle.kdb_places.specs.Places.{Place, log_anew}
 use Rattle.kdb_plain.specs.declared.states.State.{State}
-use Rattle.princ_entries.specs.declared.entries.Op.{Op}
+use Rattle.princ_rows.specs.declared.entries.Op.{Op}
 
 -- the format of the last place, or this one
 abbrev last_format : ℕ → List Stage → ℕ

@@ -20,8 +20,8 @@ use Rattle.kdb_places.proofs.Points.{committed_point, first_point}
 use Rattle.kdb_places.specs.Places.{Place, base_marker, change, committed, contents_of, last_entries, last_point, log_anew, next_point, no_point, point_of, replaced, restashed}
 use Rattle.kdb_plain.specs.States.{IsValid}
 use Rattle.kdb_plain.specs.declared.states.State.{State}
-use Rattle.princ_entries.specs.declared.entries.Entry.{Entry}
-use Rattle.princ_entries.specs.declared.entries.Op.{Op}
+use Rattle.princ_rows.specs.declared.entries.Entry.{Entry}
+use Rattle.princ_rows.specs.declared.entries.Op.{Op}
 use Rattle.princ_rows.specs.Rows.{RowLists}
 use Rattle.row_keys.specs.Shows.{Shows}
 

@@ -19,8 +19,8 @@ use Rattle.kdb_model.specs.Laws.{IsMoment, at_point}
 use Rattle.kdb_places.proofs.Points.{first_point}
 use Rattle.kdb_places.specs.Places.{Place, base_marker, log_anew, next_point, no_point, point_of}
 use Rattle.kdb_plain.specs.declared.states.State.{State}
-use Rattle.princ_entries.specs.Entries.{entry_len}
-use Rattle.princ_entries.specs.declared.entries.Op.{Op}
+use Rattle.princ_rows.specs.Entries.{entry_len}
+use Rattle.princ_rows.specs.declared.entries.Op.{Op}
 use Rattle.princ_rows.specs.Rows.{RowLists}
 
 -- what these stages make of a state

@@ -12,7 +12,7 @@ use Rattle.kdb_histories.specs.Seen.{Keep, Plan, Put, Write, did, is_due, made_b
 use Rattle.kdb_histories.specs.Stages.{Anew, Filled, Stage, Stashed, stage}
 use Rattle.kdb_places.specs.Places.{Place, committed, log_anew, replaced, restashed}
 use Rattle.kdb_plain.specs.declared.states.State.{State}
-use Rattle.princ_entries.specs.declared.entries.Op.{Op}
+use Rattle.princ_rows.specs.declared.entries.Op.{Op}
 
 -- each stage that begins the log anew has this cause
 abbrev AreCaused : Type 0 → List Stage → Type 0

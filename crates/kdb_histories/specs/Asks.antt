@@ -19,8 +19,8 @@ use Rattle.kdb_plain.specs.States.{master_of, princ_named}
 use Rattle.kdb_plain.specs.declared.princs.PlainPrinc.{PlainPrinc}
 use Rattle.kdb_plain.specs.declared.states.State.{State}
 use Rattle.mkey_admin.specs.KeptMasters.{kept_masters}
-use Rattle.princ_entries.specs.declared.entries.Op.{Op}
-use Rattle.princ_entries.specs.declared.entries.Op.TheVariants as op
+use Rattle.princ_rows.specs.declared.entries.Op.{Op}
+use Rattle.princ_rows.specs.declared.entries.Op.TheVariants as op
 use Rattle.princ_name.specs.Names.{NameParts, printed}
 use Rattle.princ_record.specs.declared.princs.Princ.{Princ}
 use Rattle.princ_rows.specs.Rows.{RowLists}

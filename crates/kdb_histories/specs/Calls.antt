@@ -10,7 +10,7 @@ use Rattle.kdb_places.specs.Applying.{may_apply}
 use Rattle.kdb_places.specs.Places.{Place, log_anew, point_of, replaced, restashed}
 use Rattle.kdb_plain.specs.States.{IsValid}
 use Rattle.kdb_plain.specs.declared.states.State.{State}
-use Rattle.princ_entries.specs.declared.entries.Op.{Op}
+use Rattle.princ_rows.specs.declared.entries.Op.{Op}
 use Rattle.princ_rows.specs.Rows.{RowLists}
 use Rattle.row_keys.specs.Shows.{Shows}
 

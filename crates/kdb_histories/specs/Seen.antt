@@ -10,7 +10,7 @@ use Rattle.kdb_histories.specs.Stages.{Did, Anew, Stashed, Stage, places, stage}
 use Rattle.kdb_model.specs.Calls.{next_moment}
 use Rattle.kdb_places.specs.Places.{Place, committed, log_anew, next_point, point_of, restashed}
 use Rattle.kdb_plain.specs.declared.states.State.{State}
-use Rattle.princ_entries.specs.declared.entries.Op.{Op}
+use Rattle.princ_rows.specs.declared.entries.Op.{Op}
 use Rattle.stash_file.specs.Written.{stash_text}
 
 pub record Seen : Type 0 where

@@ -6,8 +6,8 @@ use Rattle.kdb_model.specs.Laws.{at_point}
 use Rattle.kdb_places.specs.Places.{Place, base_marker, change, no_point, point_of}
 use Rattle.kdb_plain.specs.States.{IsValid}
 use Rattle.kdb_plain.specs.declared.states.State.{State}
-use Rattle.princ_entries.specs.declared.entries.Entry.{Entry}
-use Rattle.princ_entries.specs.declared.entries.Op.{Op}
+use Rattle.princ_rows.specs.declared.entries.Entry.{Entry}
+use Rattle.princ_rows.specs.declared.entries.Op.{Op}
 use Rattle.row_keys.specs.Shows.{Shows}
 
 -- what made a place

@@ -7,11 +7,11 @@ use Rattle.std.proofs.lemmas.List.Folds.{list_any_none, list_any_at}
 use Rattle.std.specs.Prelude.{Contains}
 use Rattle.princ_record.specs.declared.princs.Princ.{Princ}
 use Rattle.princ_rows.specs.Effects.{effect, IsRoom}
-use Rattle.princ_entries.specs.EntryLaws.{same_bytes, bytes_same}
+use Rattle.princ_rows.specs.EntryLaws.{same_bytes, bytes_same}
 use Rattle.princ_rows.specs.Rows.{RowLists}
 use Rattle.princ_rows.specs.Undoing.{IsNewName}
-use Rattle.princ_entries.specs.declared.entries.Op.{Op}
-use Rattle.princ_entries.specs.declared.entries.Op.TheVariants.{PutPrinc, DropPrinc, Rename, PutPolicy, DropPolicy}
+use Rattle.princ_rows.specs.declared.entries.Op.{Op}
+use Rattle.princ_rows.specs.declared.entries.Op.TheVariants.{PutPrinc, DropPrinc, Rename, PutPolicy, DropPolicy}
 use Rattle.kdb_places.specs.Applying.{is_room, is_new_name, may_apply}
 
 -- a test that is true exactly where the number is at most so great

@@ -3,8 +3,8 @@ use Rattle.std.proofs.Common.{◌≡◌, ◌-◌, ◌<◌, ◌≤◌, List, [], 
 use Rattle.std.proofs.lemmas.List.{drop-append-le}
 use Rattle.kdb_base.specs.Moment.{Moment}
 use Rattle.kdb_base.specs.declared.moments.Point.{Point}
-use Rattle.princ_entries.specs.declared.entries.Entry.{Entry}
-use Rattle.princ_entries.specs.declared.entries.Op.{Op}
+use Rattle.princ_rows.specs.declared.entries.Entry.{Entry}
+use Rattle.princ_rows.specs.declared.entries.Op.{Op}
 use Rattle.kdb_places.specs.Places.{Place, no_point, last_point, next_point, point_of, change, committed}
 
 pub last_of_more : (point : Point) (entries : List Entry) (e : Entry) → last_point point (entries ++ e ∷ []) ≡ e.point

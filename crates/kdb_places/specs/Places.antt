@@ -4,8 +4,8 @@ use Rattle.kdb_base.specs.Moment.{Moment}
 use Rattle.kdb_base.specs.declared.moments.Point.{Point}
 use Rattle.princ_rows.specs.Effects.{effect}
 use Rattle.princ_rows.specs.Rows.{RowLists}
-use Rattle.princ_entries.specs.declared.entries.Entry.{Entry}
-use Rattle.princ_entries.specs.declared.entries.Op.{Op}
+use Rattle.princ_rows.specs.declared.entries.Entry.{Entry}
+use Rattle.princ_rows.specs.declared.entries.Op.{Op}
 
 pub record Place : Type 0 where
   pub realm : List ℕ

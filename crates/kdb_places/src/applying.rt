@@ -3,7 +3,7 @@ ghost use Rattle.std.specs.Prelude.{◌≡◌, Some};
 ghost use Rattle.std.specs.List.{list_any};
 ghost use Rattle.std.specs.Str.{bytes_eq};
 ghost use Rattle.princ_rows.specs.Effects.{effect};
-ghost use Rattle.princ_entries.specs.declared.entries.Op.TheVariants as variants;
+ghost use Rattle.princ_rows.specs.declared.entries.Op.TheVariants as variants;
 ghost use Rattle.kdb_places.specs.Applying.{is_room, is_new_name, may_apply};
 
 use princ_record::Princ;

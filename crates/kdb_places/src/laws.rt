@@ -6,7 +6,7 @@ ghost use Rattle.kdb_base.specs.declared.moments.Point.{Point};
 ghost use Rattle.princ_rows.specs.Effects.{effect, IsRoom};
 ghost use Rattle.princ_rows.specs.Rows.{RowLists};
 ghost use Rattle.princ_rows.specs.Undoing.{IsNewName};
-ghost use Rattle.princ_entries.specs.declared.entries.Op.{Op};
+ghost use Rattle.princ_rows.specs.declared.entries.Op.{Op};
 ghost use Rattle.kdb_places.specs.Places.{Place, point_of, next_point, committed, log_anew, replaced, restashed, created};
 ghost use Rattle.kdb_places.specs.Applying.{may_apply};
 

@@ -11,9 +11,9 @@ use Rattle.kdb_disk.proofs.Runs.{started, weaken, then_on}
 use Rattle.kdb_control.specs.Choice.{Choice}
 use Rattle.kdb_control.specs.declared.force.Force.TheVariants.{Is}
 use Rattle.kdb_control.specs.Moments.{HasInForce}
-use Rattle.princ_entries.specs.declared.entries.Entry.{Entry}
-use Rattle.princ_entries.specs.declared.entries.Logged.{Logged}
-use Rattle.princ_entries.specs.declared.entries.Op.{Op}
+use Rattle.princ_rows.specs.declared.entries.Entry.{Entry}
+use Rattle.princ_rows.specs.declared.entries.Logged.{Logged}
+use Rattle.princ_rows.specs.declared.entries.Op.{Op}
 use Rattle.princ_rows.specs.Rows.{RowLists}
 use Rattle.princ_rows.specs.Effects.{effect}
 use Rattle.update_log.specs.Logs.{Journal, ComesNext, begun, marker_of, with_prepared, log_committed, entry_of}

@@ -7,10 +7,10 @@ use Rattle.kdb_disk.specs.Files.{Files}
 use Rattle.kdb_disk.specs.View.{View}
 use Rattle.kdb_disk.specs.Moments.{LeavesOnly}
 use Rattle.kdb_disk.proofs.Runs.{started, weaken}
-use Rattle.princ_entries.specs.Entries.{IsOp, key_of}
-use Rattle.princ_entries.specs.declared.entries.Entry.{Entry}
-use Rattle.princ_entries.specs.declared.entries.Logged.{Logged}
-use Rattle.princ_entries.specs.declared.entries.Op.{Op}
+use Rattle.princ_rows.specs.Entries.{IsOp, key_of}
+use Rattle.princ_rows.specs.declared.entries.Entry.{Entry}
+use Rattle.princ_rows.specs.declared.entries.Logged.{Logged}
+use Rattle.princ_rows.specs.declared.entries.Op.{Op}
 use Rattle.princ_rows.specs.Rows.{RowLists, AreRows}
 use Rattle.princ_rows.specs.Effects.{effect, IsRoom}
 use Rattle.princ_rows.specs.Undoing.{IsNewName, finished, undone}

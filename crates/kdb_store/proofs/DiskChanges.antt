@@ -7,7 +7,7 @@ use Rattle.kdb_disk.specs.View.{View}
 use Rattle.kdb_disk.specs.Moments.{LeavesOnly, LeavesTorn}
 use Rattle.kdb_disk.proofs.Puts.{written-other}
 use Rattle.kdb_disk.proofs.Runs.{started, then_on}
-use Rattle.princ_entries.specs.declared.entries.Logged.{Logged}
+use Rattle.princ_rows.specs.declared.entries.Logged.{Logged}
 use Rattle.update_log.specs.Logs.{Journal, with_prepared}
 use Rattle.update_log.specs.Moments.{IsDurable, ReadsOthers}
 use Rattle.kdb_cells.specs.Cells.{Cell, unit_size}

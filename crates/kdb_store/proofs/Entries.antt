@@ -3,7 +3,7 @@ use Rattle.std.proofs.Common.{◌≡◌, inl, Some}
 use Rattle.kdb_disk.specs.View.{View}
 use Rattle.kdb_disk.specs.Moments.{LeavesOnly}
 use Rattle.kdb_disk.proofs.Runs.{weaken, at_end, then_on}
-use Rattle.princ_entries.specs.declared.entries.Logged.{Logged}
+use Rattle.princ_rows.specs.declared.entries.Logged.{Logged}
 use Rattle.update_log.specs.Logs.{Journal, log_committed}
 use Rattle.update_log.specs.Moments.{HasLog, LeavesLog, LeavesEither}
 use Rattle.store_files.specs.Found.{Found}

@@ -4,9 +4,9 @@ use Rattle.kdb_base.specs.Moment.{Moment}
 use Rattle.kdb_base.specs.declared.moments.Point.{Point}
 use Rattle.kdb_disk.specs.View.{View}
 use Rattle.kdb_control.specs.Choice.{Choice}
-use Rattle.princ_entries.specs.Entries.{IsOp}
-use Rattle.princ_entries.specs.declared.entries.Entry.{Entry}
-use Rattle.princ_entries.specs.declared.entries.Op.{Op}
+use Rattle.princ_rows.specs.Entries.{IsOp}
+use Rattle.princ_rows.specs.declared.entries.Entry.{Entry}
+use Rattle.princ_rows.specs.declared.entries.Op.{Op}
 use Rattle.princ_rows.specs.Rows.{AreRows}
 use Rattle.princ_rows.specs.Effects.{effect, IsRoom}
 use Rattle.princ_rows.specs.Undoing.{IsNewName}

@@ -6,7 +6,7 @@ use Rattle.princ_rows.specs.Rows.{RowLists}
 use Rattle.store_files.specs.Kept.{Kept, HasChosen, IsOnDisk, place_kept, with_parts}
 use Rattle.kdb_disk.specs.Files.{Files}
 use Rattle.kdb_disk.specs.View.{View}
-use Rattle.princ_entries.specs.declared.entries.Logged.{Logged}
+use Rattle.princ_rows.specs.declared.entries.Logged.{Logged}
 use Rattle.store_files.specs.Found.{Found}
 use Rattle.store_files.specs.Standing.{Holds, Pending, IsLogOf, IsChange}
 use Rattle.kdb_cells.specs.CellFiles.{CellFile, units, count}

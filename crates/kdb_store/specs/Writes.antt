@@ -2,13 +2,13 @@
 use Rattle.std.specs.Prelude.{◌≡◌, ◌≢◌, ◌≤◌, ℕ, [], ◌∷◌, ◌++◌, Some}
 use Rattle.std.specs.List.{All}
 use Rattle.princ_rows.specs.Rows.{RowLists}
-use Rattle.princ_entries.specs.declared.entries.Op.{Op}
-use Rattle.princ_entries.specs.declared.entries.Op.TheVariants.{PutPrinc, DropPrinc, Rename, PutPolicy, DropPolicy}
+use Rattle.princ_rows.specs.declared.entries.Op.{Op}
+use Rattle.princ_rows.specs.declared.entries.Op.TheVariants.{PutPrinc, DropPrinc, Rename, PutPolicy, DropPolicy}
 use Rattle.kdb_base.specs.declared.moments.Point.{Point}
 use Rattle.kdb_cells.specs.Cells.{Cell}
 use Rattle.kdb_cells.specs.CellFiles.{CellFile, units}
 use Rattle.kdb_cells.specs.Changes.{cell_after}
-use Rattle.princ_entries.specs.Entries.{key_of}
+use Rattle.princ_rows.specs.Entries.{key_of}
 use Rattle.kdb_places.specs.Places.{change}
 use Rattle.store_files.specs.Standing.{IsGivenFor}
 use Rattle.update_log.specs.Logs.{Journal, newest}

@@ -1,8 +1,8 @@
 ghost use Rattle.std.specs.Prelude.{◌≡◌, ◌≢◌, ◌≤◌, ◌<◌, ◌↔◌, ◌-◌, ◌+◌, false, Contains, IfSome, IsTrue, None, Some, length, option_map, slice_index_or};
 ghost use Rattle.std.specs.List.{All};
 ghost use Rattle.kdb_places.specs.Places.{point_of};
-ghost use Rattle.princ_entries.specs.Entries.{IsOp, entry_len};
-ghost use Rattle.princ_entries.specs.declared.entries.Logged.{Logged};
+ghost use Rattle.princ_rows.specs.Entries.{IsOp, entry_len};
+ghost use Rattle.princ_rows.specs.declared.entries.Logged.{Logged};
 ghost use Rattle.store_files.specs.Kept.{Kept, IsKept, place_kept};
 
 use kdb_base::{Blob, Point};
@@ -40,7 +40,7 @@ impl Model for Database {
 }
 
 /// How many bytes the entry of a change has in a log: its key and its row, and what stands before them.
-#[tactic(auto, unfolding(princ_entries::specs::Entries::key_of, princ_entries::specs::Entries::row_of), using(crate::proofs::Lengths::policy_length, crate::proofs::Lengths::policy_name_short))]
+#[tactic(auto, unfolding(princ_rows::specs::Entries::key_of, princ_rows::specs::Entries::row_of), using(crate::proofs::Lengths::policy_length, crate::proofs::Lengths::policy_name_short))]
 pub fn entry_length(op: &Op) -> usize
     requires { IsOp (Some op.now) }
     ensures value { result ≡ entry_len (Some op.now) }

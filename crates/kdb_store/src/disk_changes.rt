@@ -4,7 +4,7 @@ ghost use Rattle.kdb_base.specs.declared.outcomes.Halt.TheVariants.{MemoryOut as
 ghost use Rattle.kdb_disk.specs.View.{View};
 ghost use Rattle.kdb_disk.specs.Frames.{IsCall};
 ghost use Rattle.kdb_disk.specs.Moments.{LeavesOnly};
-ghost use Rattle.princ_entries.specs.Entries.{IsOp, logged};
+ghost use Rattle.princ_rows.specs.Entries.{IsOp, logged};
 ghost use Rattle.update_log.specs.Logs.{ComesNext, with_prepared, log_committed};
 ghost use Rattle.update_log.specs.Moments.{HasLog, IsBodyFor, IsDurable};
 ghost use Rattle.kdb_cells.specs.Cells.{Cell, unit_size};

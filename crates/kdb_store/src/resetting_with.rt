@@ -4,7 +4,7 @@ ghost use Rattle.kdb_base.specs.Moments.{micros};
 ghost use Rattle.kdb_base.specs.declared.outcomes.Halt.TheVariants.{MemoryOut as IsMemoryOut, DiskFault as IsDiskFault};
 ghost use Rattle.kdb_disk.specs.View.{View};
 ghost use Rattle.kdb_disk.specs.Frames.{IsCall, IsCrashSafe};
-ghost use Rattle.princ_entries.specs.Entries.{IsOp, entry_len};
+ghost use Rattle.princ_rows.specs.Entries.{IsOp, entry_len};
 ghost use Rattle.kdb_places.specs.Applying.{may_apply};
 ghost use Rattle.kdb_places.specs.Places.{committed, log_anew};
 ghost use Rattle.store_files.specs.Kept.{IsOnDisk, place_kept};

@@ -1,6 +1,6 @@
 //! What a change writes into its unit: planned with the memory that it needs, and written.
 ghost use Rattle.std.specs.Prelude.{◌≡◌, ◌≢◌, ◌≤◌, ◌*◌, List, ℕ, Some, None, IfOk, length};
-ghost use Rattle.princ_entries.specs.Entries.{IsOp, key_of};
+ghost use Rattle.princ_rows.specs.Entries.{IsOp, key_of};
 ghost use Rattle.princ_record.specs.RowLimits.{IsRow};
 ghost use Rattle.princ_record.specs.Policies.{IsPolicy};
 ghost use Rattle.kdb_cells.specs.CellFiles.{units};
@@ -9,7 +9,7 @@ ghost use Rattle.kdb_cells.specs.Changes.{cell_after};
 ghost use Rattle.kdb_cells.specs.Leads.{giving};
 ghost use Rattle.kdb_cells.specs.Sheets.{last_unit};
 ghost use Rattle.kdb_cells.specs.declared.units.StoredRow.TheVariants as stored;
-ghost use Rattle.princ_entries.specs.declared.entries.Op.TheVariants as op;
+ghost use Rattle.princ_rows.specs.declared.entries.Op.TheVariants as op;
 ghost use Rattle.store_files.specs.Standing.{IsGivenFor};
 ghost use Rattle.kdb_store.specs.Writes.{number_of, Writes, IsGivenTo, HasNoRow};
 ghost use Rattle.kdb_store.specs.Parts.{LeadsAlike};
@@ -115,7 +115,7 @@ fn drop_policy(cells: &mut Cells, rows: &Rows, name: &[u8]) -> Result<UnitWrite,
 }
 
 /// What the change writes, with the memory that the write needs.
-#[tactic(auto, unfolding(princ_entries::specs::Entries::key_of))]
+#[tactic(auto, unfolding(princ_rows::specs::Entries::key_of))]
 pub(crate) fn plan(
     alloc: Global,
     cells: &mut Cells,

@@ -41,7 +41,7 @@ use Rattle.mkey_admin.proofs.MasterPuts.{MasterPutting, puts}
 use Rattle.mkey_admin.proofs.MasterTests.{add_tests}
 use Rattle.mkey_admin.proofs.OwnRecord.{own, own_activations, own_chain, own_keys, own_name, there}
 use Rattle.mkey_admin.proofs.ToldRows.{denied_alike}
-use Rattle.princ_entries.specs.declared.entries.Op.TheVariants as op
+use Rattle.princ_rows.specs.declared.entries.Op.TheVariants as op
 use Rattle.princ_record.specs.Princs.{IsPrinc}
 use Rattle.princ_record.specs.declared.facts.ChainPart.{ChainPart}
 use Rattle.princ_record.specs.declared.princs.Princ.{Princ}

@@ -34,8 +34,8 @@ use Rattle.mkey_admin.proofs.OwnRecord.{own, own_chain, own_keys, own_name, ther
 use Rattle.mkey_admin.proofs.PurgedRecord.{left_chain, others_stay, purged_name, purged_shows}
 use Rattle.mkey_admin.proofs.ToldRows.{dead_alike, denied_alike, rows_alike, secs_are}
 use Rattle.mkey_admin.proofs.Unserving.{newest_lives}
-use Rattle.princ_entries.specs.declared.entries.Op.{Op}
-use Rattle.princ_entries.specs.declared.entries.Op.TheVariants as op
+use Rattle.princ_rows.specs.declared.entries.Op.{Op}
+use Rattle.princ_rows.specs.declared.entries.Op.TheVariants as op
 use Rattle.princ_record.specs.Princs.{IsPrinc}
 use Rattle.princ_record.specs.declared.princs.Princ.{Princ}
 use Rattle.row_keys.specs.Shows.{ShowsPrinc}

@@ -16,7 +16,7 @@ use Rattle.master_keys.specs.First.{master_name}
 use Rattle.master_keys.specs.Versions.{is_live, last_version}
 use Rattle.mkey_admin.specs.Told.{Grounds, dead_told, is_dead, version_told, versions_told}
 use Rattle.plain_keys.specs.declared.items.PlainItem.{PlainItem}
-use Rattle.princ_entries.specs.EntryLaws.{bytes_same, same_bytes}
+use Rattle.princ_rows.specs.EntryLaws.{bytes_same, same_bytes}
 use Rattle.row_keys.proofs.Sides.{kept, left_out, truth}
 use Rattle.row_keys.specs.Lookups.{records_under}
 use Rattle.serving_versions.proofs.Causes.{serves_where}

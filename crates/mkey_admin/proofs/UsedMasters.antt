@@ -32,7 +32,7 @@ use Rattle.mkey_admin.proofs.MasterTests.{use_tests}
 use Rattle.mkey_admin.proofs.OwnRecord.{entry_row, own, own_activations, own_chain, own_name, there}
 use Rattle.mkey_admin.proofs.ToldRows.{denied_alike, secs_are}
 use Rattle.mkey_admin.proofs.UsedRecord.{used_fits}
-use Rattle.princ_entries.specs.declared.entries.Op.TheVariants as op
+use Rattle.princ_rows.specs.declared.entries.Op.TheVariants as op
 use Rattle.princ_record.specs.Princs.{IsPrinc}
 use Rattle.princ_record.specs.declared.facts.ChainPart.{ChainPart}
 use Rattle.princ_record.specs.declared.princs.Princ.{Princ}

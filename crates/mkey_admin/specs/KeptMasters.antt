@@ -15,8 +15,8 @@ use Rattle.kdb_plain.specs.declared.states.State.{State}
 use Rattle.master_keys.specs.Adding.{added_record}
 use Rattle.master_keys.specs.First.{master_name}
 use Rattle.master_keys.specs.Purging.{purged_record}
-use Rattle.princ_entries.specs.declared.entries.Op.{Op}
-use Rattle.princ_entries.specs.declared.entries.Op.TheVariants as op
+use Rattle.princ_rows.specs.declared.entries.Op.{Op}
+use Rattle.princ_rows.specs.declared.entries.Op.TheVariants as op
 use Rattle.princ_record.specs.declared.facts.ChainPart.{ChainPart}
 use Rattle.princ_record.specs.declared.princs.Princ.{Princ}
 use Rattle.princ_rows.specs.Rows.{RowLists}

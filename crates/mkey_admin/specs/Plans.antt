@@ -34,7 +34,7 @@ use Rattle.mkey_admin.specs.declared.planned.MasterPlan.{MasterPlan}
 use Rattle.mkey_admin.specs.declared.planned.MasterPlan.TheVariants.{Answer, Change}
 use Rattle.mkey_admin.specs.declared.planned.Told.{Told}
 use Rattle.mkey_admin.specs.declared.planned.Told.TheVariants.{Added, Used, Purged}
-use Rattle.princ_entries.specs.declared.entries.Op.TheVariants as op
+use Rattle.princ_rows.specs.declared.entries.Op.TheVariants as op
 use Rattle.princ_record.specs.Princs.{princ}
 use Rattle.princ_record.specs.declared.facts.ChainPart.{ChainPart}
 use Rattle.princ_record.specs.declared.princs.Princ.{Princ}

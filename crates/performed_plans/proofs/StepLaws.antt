@@ -14,7 +14,7 @@ use Rattle.kdb_plain.specs.Changes.{Spares, effect_on}
 use Rattle.kdb_plain.specs.States.{IsValid, IsValidState, history_key}
 use Rattle.kdb_plain.specs.declared.changes.PlainOp.{PlainOp}
 use Rattle.kdb_plain.specs.declared.states.State.{State}
-use Rattle.princ_entries.specs.declared.entries.Op.{Op}
+use Rattle.princ_rows.specs.declared.entries.Op.{Op}
 use Rattle.princ_rows.specs.Effects.{effect}
 use Rattle.princ_rows.specs.Rows.{RowLists}
 use Rattle.row_keys.specs.ShownChanges.{ShowsOp, SparesKeys}

@@ -11,7 +11,7 @@ use Rattle.kdb_model.specs.Laws.{IsMoment, IsPoint}
 use Rattle.kdb_places.specs.Applying.{may_apply}
 use Rattle.kdb_places.specs.Places.{Place, committed}
 use Rattle.kdb_plain.specs.declared.states.State.{State}
-use Rattle.princ_entries.specs.declared.entries.Op.{Op}
+use Rattle.princ_rows.specs.declared.entries.Op.{Op}
 
 -- The place shows the state, the command is one that a line can give, and the change may be made: where the log is to begin anew a later
 -- time is left for it, and else a serial.

@@ -23,7 +23,7 @@ use Rattle.primary_rekeying.proofs.Taken.{active_there}
 use Rattle.primary_rekeying.specs.Moving.{IsFoundOut, IsInPlace, IsMoving, IsStored, IsTake, MayStore}
 use Rattle.primary_rekeying.specs.declared.taking.TakeAnswer.{TakeAnswer}
 use Rattle.primary_rekeying.specs.declared.taking.TakeAnswer.TheVariants as answers
-use Rattle.princ_entries.specs.declared.entries.Op.TheVariants.{PutPrinc}
+use Rattle.princ_rows.specs.declared.entries.Op.TheVariants.{PutPrinc}
 use Rattle.princ_name.specs.Names.{NameParts, printed}
 use Rattle.princ_record.specs.Princs.{IsPrinc, princ}
 use Rattle.princ_record.specs.declared.princs.Princ.{Princ}

@@ -36,8 +36,8 @@ use Rattle.primary_core.proofs.Performed.{ask_keeps, ask_puts}
 use Rattle.primary_core.specs.Deciding.{ends_time}
 use Rattle.primary_rekeying.specs.Moving.{IsInPlace, IsMoving, IsStored, MayStore}
 use Rattle.primary_core.specs.Opened.{HasState, IsAnswered, IsOpened, Opened, place_of}
-use Rattle.princ_entries.specs.declared.entries.Op.{Op}
-use Rattle.princ_entries.specs.declared.entries.Op.TheVariants.{PutPrinc}
+use Rattle.princ_rows.specs.declared.entries.Op.{Op}
+use Rattle.princ_rows.specs.declared.entries.Op.TheVariants.{PutPrinc}
 use Rattle.princ_name.specs.Names.{NameParts, printed}
 use Rattle.princ_name.specs.Printed.{is_master}
 use Rattle.princ_record.specs.Princs.{princ}

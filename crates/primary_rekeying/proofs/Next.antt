@@ -24,7 +24,7 @@ use Rattle.primary_rekeying.proofs.FoundOut.{AreOneBySpelling}
 use Rattle.primary_rekeying.proofs.Moved.{RowLaws, after, left_after, rekey_is}
 use Rattle.primary_rekeying.proofs.Settled.{IsSame, is_same, work_in_place, work_moves}
 use Rattle.primary_rekeying.specs.Moving.{IsInPlace, IsMoving}
-use Rattle.princ_entries.specs.declared.entries.Op.TheVariants.{PutPrinc}
+use Rattle.princ_rows.specs.declared.entries.Op.TheVariants.{PutPrinc}
 use Rattle.princ_name.specs.Names.{NameParts, printed}
 use Rattle.princ_record.specs.declared.princs.Princ.{Princ}
 use Rattle.princ_rows.specs.Rows.{AreRows}

@@ -22,8 +22,8 @@ use Rattle.kdb_plain.specs.declared.states.State.{State}
 use Rattle.master_keys.specs.Rewrapping.{Holds, IsRewrapped, with_keys}
 use Rattle.plain_keys.specs.declared.items.PlainItem.{PlainItem}
 use Rattle.primary_rekeying.proofs.Moved.{outcome_by}
-use Rattle.princ_entries.specs.declared.entries.Op.{Op}
-use Rattle.princ_entries.specs.declared.entries.Op.TheVariants.{PutPrinc}
+use Rattle.princ_rows.specs.declared.entries.Op.{Op}
+use Rattle.princ_rows.specs.declared.entries.Op.TheVariants.{PutPrinc}
 use Rattle.princ_keys.specs.declared.keys.KeyItem.{KeyItem}
 use Rattle.princ_name.specs.Names.{NameParts, printed}
 use Rattle.princ_record.specs.declared.princs.Princ.{Princ}

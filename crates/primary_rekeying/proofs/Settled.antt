@@ -18,7 +18,7 @@ use Rattle.policy_rules.specs.Reuse.{is_same_key}
 use Rattle.primary_rekeying.proofs.Rekeyed.{work_shown}
 use Rattle.primary_rekeying.specs.Moving.{IsInPlace, IsMoving}
 use Rattle.primary_core.specs.Opened.{HasState, Opened}
-use Rattle.princ_entries.specs.EntryLaws.{same_bytes}
+use Rattle.princ_rows.specs.EntryLaws.{same_bytes}
 use Rattle.princ_record.specs.Princs.{IsPrinc, princ}
 use Rattle.princ_record.specs.declared.princs.Princ.{Princ}
 use Rattle.rekey_work.specs.Works.{IsWork}

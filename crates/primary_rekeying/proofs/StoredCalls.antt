@@ -15,7 +15,7 @@ use Rattle.primary_core.proofs.Asking.{kept_so, left_so, mastered_so}
 use Rattle.primary_core.proofs.Carried.{ask_does, ask_leaves, ask_reaches}
 use Rattle.primary_core.specs.Deciding.{rows_changed}
 use Rattle.primary_core.specs.Opened.{HasState, IsAnswered, MayLeave, Opened, place_of}
-use Rattle.princ_entries.specs.declared.entries.Op.{Op}
+use Rattle.princ_rows.specs.declared.entries.Op.{Op}
 use Rattle.store_files.specs.Recovery.{LeavesPart}
 
 module _ (o : Opened) (ask : Ask) (answer : Answer) (s : State) (has : HasState o s) where

@@ -18,7 +18,7 @@ use Rattle.primary_core.specs.Deciding.{ends_time, rows_changed}
 use Rattle.primary_core.specs.Opened.{IsAnswered, MayMake, Opened, place_of}
 use Rattle.primary_rekeying.specs.declared.taking.TakeAnswer.{TakeAnswer}
 use Rattle.primary_rekeying.specs.declared.taking.TakeAnswer.TheVariants.{Ready, Already, Gone, Closed}
-use Rattle.princ_entries.specs.declared.entries.Op.TheVariants.{PutPrinc}
+use Rattle.princ_rows.specs.declared.entries.Op.TheVariants.{PutPrinc}
 use Rattle.princ_name.specs.Printed.{is_master}
 use Rattle.princ_record.specs.Princs.{IsPrinc, princ}
 use Rattle.princ_record.specs.declared.facts.ChainPart.{ChainPart}

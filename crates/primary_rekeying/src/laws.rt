@@ -9,7 +9,7 @@ ghost use Rattle.kdb_model.specs.Laws.{IsMoment};
 ghost use Rattle.kdb_model.specs.Rekeying.{Stored, Work, settle};
 ghost use Rattle.kdb_plain.specs.declared.states.State.{State};
 ghost use Rattle.primary_core.specs.Opened.{HasState, Opened, place_of};
-ghost use Rattle.princ_entries.specs.declared.entries.Op.TheVariants.{PutPrinc};
+ghost use Rattle.princ_rows.specs.declared.entries.Op.TheVariants.{PutPrinc};
 ghost use Rattle.princ_name.specs.Names.{NameParts, printed};
 ghost use Rattle.princ_record.specs.declared.princs.Princ.{Princ};
 ghost use Rattle.princ_rows.specs.Rows.{AreRows};

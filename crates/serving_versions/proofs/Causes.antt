@@ -9,7 +9,7 @@ use Rattle.kdb_base.specs.declared.versions.Activation.{Activation}
 use Rattle.key_activation.specs.Activations.{active}
 use Rattle.master_keys.specs.First.{master_name}
 use Rattle.master_keys.specs.Versions.{last_version}
-use Rattle.princ_entries.specs.EntryLaws.{same_bytes, bytes_same}
+use Rattle.princ_rows.specs.EntryLaws.{same_bytes, bytes_same}
 use Rattle.serving_versions.specs.Versions.{HasActivationAfter, HasCause, HasPrincipal, becomes_active, cause_from, cause_of, is_active_at, is_pending, is_under, is_version_of, protected_by, serves}
 use Rattle.kdb_plain.specs.declared.princs.PlainPrinc.{PlainPrinc}
 use Rattle.kdb_plain.specs.declared.states.State.{State}

@@ -15,8 +15,9 @@ use Rattle.key_activation.specs.Activations.{active, with_activation}
 use Rattle.master_keys.specs.First.{master_name}
 use Rattle.master_keys.specs.Versions.{last_version}
 use Rattle.princ_rows.specs.Effects.{put_by}
-use Rattle.princ_entries.specs.EntryLaws.{same_bytes, bytes_same}
-use Rattle.princ_rows.specs.Rows.{AreInOrder, IsAt}
+use Rattle.princ_rows.specs.EntryLaws.{same_bytes, bytes_same}
+use Rattle.princ_rows.specs.Rows.{IsAt}
+use Rattle.tagged_data.specs.KeyOrder.{AreInOrder}
 use Rattle.princ_rows.proofs.Edits.{set_is_put}
 use Rattle.princ_rows.proofs.Orders.{put_order, put_each}
 use Rattle.kdb_plain.specs.Changes.{effect_on, name_of, put_princ}

@@ -4,8 +4,9 @@ use Rattle.std.specs.Prelude.{find}
 use Rattle.std.specs.List.{All}
 use Rattle.std.proofs.lemmas.List.{length-set}
 use Rattle.princ_rows.specs.Effects.{put_by, drop_by}
-use Rattle.princ_entries.specs.EntryLaws.{same_bytes}
-use Rattle.princ_rows.specs.Rows.{AreInOrder, IsAt}
+use Rattle.princ_rows.specs.EntryLaws.{same_bytes}
+use Rattle.princ_rows.specs.Rows.{IsAt}
+use Rattle.tagged_data.specs.KeyOrder.{AreInOrder}
 use Rattle.princ_rows.proofs.Edits.{remove_is_drop, set_is_put}
 use Rattle.std.proofs.lemmas.List.Edits.{length-remove}
 use Rattle.kdb_plain.proofs.Finds.{has}

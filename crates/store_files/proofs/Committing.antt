@@ -14,7 +14,7 @@ use Rattle.kdb_disk.proofs.Runs.{weaken, at_end, then_on, started}
 use Rattle.kdb_control.specs.Choice.{Choice}
 use Rattle.kdb_control.specs.Force.{in_force}
 use Rattle.kdb_control.specs.declared.force.Force.TheVariants.{Is}
-use Rattle.princ_entries.specs.declared.entries.Logged.{Logged}
+use Rattle.princ_rows.specs.declared.entries.Logged.{Logged}
 use Rattle.update_log.specs.Logs.{Journal, HoldsIn, newest, log_committed, with_prepared}
 use Rattle.update_log.specs.Logs as logs
 use Rattle.update_log.specs.Moments.{HasLog, Leaves, LeavesLog, LeavesEither, IsDurable, ReadsOthers}

@@ -11,7 +11,7 @@ use Rattle.kdb_control.specs.Choice.{Choice}
 use Rattle.kdb_control.specs.Force.{in_force}
 use Rattle.kdb_control.specs.declared.force.Force.{Force}
 use Rattle.kdb_control.specs.declared.force.Force.TheVariants.{Is}
-use Rattle.princ_entries.specs.declared.entries.Logged.{Logged}
+use Rattle.princ_rows.specs.declared.entries.Logged.{Logged}
 use Rattle.update_log.specs.Logs.{newest}
 use Rattle.update_log.specs.Runs.{log_in}
 use Rattle.kdb_cells.specs.Cells.{Cell}

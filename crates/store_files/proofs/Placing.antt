@@ -12,10 +12,10 @@ use Rattle.princ_name.specs.Printed.{IsPrinted}
 use Rattle.princ_record.specs.RowLimits.{IsRow}
 use Rattle.princ_record.specs.Policies.{IsPolicy}
 use Rattle.princ_record.specs.declared.princs.Princ.{Princ as Principal}
-use Rattle.princ_entries.specs.EntryLaws.{same_bytes, bytes_same}
-use Rattle.princ_entries.specs.Entries.{IsOp, key_of}
-use Rattle.princ_entries.specs.declared.entries.Op.{Op}
-use Rattle.princ_entries.specs.declared.entries.Op.TheVariants.{PutPrinc, DropPrinc, Rename, PutPolicy, DropPolicy}
+use Rattle.princ_rows.specs.EntryLaws.{same_bytes, bytes_same}
+use Rattle.princ_rows.specs.Entries.{IsOp, key_of}
+use Rattle.princ_rows.specs.declared.entries.Op.{Op}
+use Rattle.princ_rows.specs.declared.entries.Op.TheVariants.{PutPrinc, DropPrinc, Rename, PutPolicy, DropPolicy}
 use Rattle.princ_rows.specs.Rows.{RowLists, AreRows}
 use Rattle.princ_rows.specs.Effects.{is_lower, is_higher, put_by, drop_by, put_princ, drop_princ, put_policy, drop_policy, effect, IsRoom}
 use Rattle.princ_rows.specs.Undoing.{IsNewName}

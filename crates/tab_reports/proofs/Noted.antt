@@ -14,7 +14,8 @@ use Rattle.std.proofs.lemmas.Map.Keys.{Less-from_sorted}
 use Rattle.std.proofs.lemmas.Slice.Eq.{bytes_eq-Decides}
 use Rattle.policy_rules.specs.Rules.{Rules}
 use Rattle.princ_record.specs.declared.princs.Princ.{Princ}
-use Rattle.princ_rows.specs.Rows.{AreInOrder, AreRows, IsAt, IsGap, RowLists, key_cmp, policy_keys}
+use Rattle.princ_rows.specs.Rows.{AreRows, IsAt, IsGap, RowLists, policy_keys}
+use Rattle.tagged_data.specs.KeyOrder.{AreInOrder, key_cmp}
 use Rattle.princ_rows.proofs.Searches.{none_has}
 use Rattle.tab_reports.specs.Counts.{is_name, names_policy, users_of}
 use Rattle.tab_reports.specs.Noting.{AreCounted, IsNamed, IsNoted, NamesNone}

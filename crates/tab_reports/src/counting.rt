@@ -3,7 +3,8 @@
 
 ghost use Rattle.std.specs.Prelude.{◌≡◌, ◌+◌, ◌<◌, ◌^◌, ℕ, Err, IfOk, IfSome, None, Ok, get_or, length, map, set};
 ghost use Rattle.std.specs.List.{All};
-ghost use Rattle.princ_rows.specs.Rows.{AreInOrder, AreRows, IsAt, IsGap, key_cmp, policy_keys};
+ghost use Rattle.princ_rows.specs.Rows.{AreRows, IsAt, IsGap, policy_keys};
+ghost use Rattle.tagged_data.specs.KeyOrder.{AreInOrder, key_cmp};
 ghost use Rattle.policy_rules.specs.Rules.{Rules};
 ghost use Rattle.tab_reports.specs.Noting.{AreCounted, IsNamed, IsNoted, NamesNone};
 

@@ -7,8 +7,8 @@ use Rattle.kdb_base.specs.declared.moments.Point.{Point}
 use Rattle.kadm_replies.specs.Texts.{field_line}
 use Rattle.kadm_values.specs.Points.{point_text}
 use Rattle.primary_answers.proofs.Polled.{IsHeldBy, all_there, one_more}
-use Rattle.princ_entries.specs.declared.entries.Entry.{Entry}
-use Rattle.princ_entries.specs.declared.entries.Logged.{Logged}
+use Rattle.princ_rows.specs.declared.entries.Entry.{Entry}
+use Rattle.princ_rows.specs.declared.entries.Logged.{Logged}
 use Rattle.ulog_text.specs.Ulogs.{entries_text, entry_text, size_text, ulog_text}
 use Rattle.update_log.specs.Logs.{Journal, entry_of}
 

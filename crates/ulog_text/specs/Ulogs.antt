@@ -4,9 +4,9 @@ use Rattle.std.specs.Fmt.{decimal}
 use Rattle.kadm_replies.specs.Texts.{data_line, field_line}
 use Rattle.kadm_values.specs.Points.{point_text}
 use Rattle.kdb_base.specs.declared.moments.Point.{Point}
-use Rattle.princ_entries.specs.declared.entries.Entry.{Entry}
-use Rattle.princ_entries.specs.declared.entries.Op.{Op}
-use Rattle.princ_entries.specs.declared.entries.Op.TheVariants.{PutPrinc, DropPrinc, Rename, PutPolicy, DropPolicy}
+use Rattle.princ_rows.specs.declared.entries.Entry.{Entry}
+use Rattle.princ_rows.specs.declared.entries.Op.{Op}
+use Rattle.princ_rows.specs.declared.entries.Op.TheVariants.{PutPrinc, DropPrinc, Rename, PutPolicy, DropPolicy}
 
 abbrev pub named : List ℕ → List ℕ → List ℕ
 named word name = word ++ (codes " " ++ name)

@@ -1,14 +1,14 @@
 //! The lines of entries.
 
 ghost use Rattle.std.specs.Prelude.{◌≡◌, ◌++◌, OnOk, Some};
-ghost use Rattle.princ_entries.specs.declared.entries.Op.TheVariants.{Rename as Renames};
+ghost use Rattle.princ_rows.specs.declared.entries.Op.TheVariants.{Rename as Renames};
 ghost use Rattle.ulog_text.specs.Ulogs.{change_text, entry_text, named};
 
 use kadm_replies::texts::push;
 use kadm_values::push_point;
 use kdb_base::MemoryOut;
-use princ_entries::{Entry, Op};
 use princ_record::Princ;
+use princ_rows::{Entry, Op};
 use std::alloc::Global;
 
 // A word and a name.

@@ -1,8 +1,8 @@
 use crate::entries::push_entry;
 use crate::print_ulog;
 use kdb_base::{Blob, Point, Time};
-use princ_entries::{Entry, Op};
 use princ_record::{Princ, decode};
+use princ_rows::{Entry, Op};
 use std::alloc::Global;
 use std::test::*;
 use update_log::NewLog;

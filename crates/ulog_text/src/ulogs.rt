@@ -5,7 +5,7 @@ ghost use Rattle.kadm_replies.specs.Texts.{field_line};
 ghost use Rattle.kadm_values.specs.Points.{point_text};
 ghost use Rattle.iprop_reply.specs.Polls.{AreHeld};
 ghost use Rattle.kdb_base.specs.declared.moments.Point.{Point as At};
-ghost use Rattle.princ_entries.specs.declared.entries.Entry.{Entry as Held};
+ghost use Rattle.princ_rows.specs.declared.entries.Entry.{Entry as Held};
 ghost use Rattle.ulog_text.specs.Ulogs.{entries_text, size_text, ulog_text};
 ghost use Rattle.update_log.specs.Logs.{entry_of};
 

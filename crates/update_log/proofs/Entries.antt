@@ -8,10 +8,10 @@ use Rattle.kdb_base.specs.Moment.{Moment}
 use Rattle.kdb_base.specs.declared.moments.Point.{Point}
 use Rattle.kdb_format.specs.Readings.{padded, bytes_at}
 use Rattle.kdb_format.specs.Laws.{bind_some, guard_some}
-use Rattle.princ_entries.specs.Entries.{logged_at, kind_of}
-use Rattle.princ_entries.specs.declared.entries.Op.{Op}
-use Rattle.princ_entries.specs.declared.entries.Op.TheVariants.{PutPrinc, DropPrinc, Rename, PutPolicy, DropPolicy}
-use Rattle.princ_entries.specs.declared.entries.Logged.{Logged}
+use Rattle.princ_rows.specs.Entries.{logged_at, kind_of}
+use Rattle.princ_rows.specs.declared.entries.Op.{Op}
+use Rattle.princ_rows.specs.declared.entries.Op.TheVariants.{PutPrinc, DropPrinc, Rename, PutPolicy, DropPolicy}
+use Rattle.princ_rows.specs.declared.entries.Logged.{Logged}
 use Rattle.update_log.specs.Slots.{slot_of, slot_bytes, IsOpen, IsClosed, Spells, Stands}
 use Rattle.update_log.specs.Logs.{IsMarked}
 use Rattle.update_log.specs.Runs.{is_open, spelled_in, stands_in, is_marker, is_marked, belongs, slot_in, is_missing, joined, is_wrong, entry_in}

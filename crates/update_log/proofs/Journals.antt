@@ -8,7 +8,7 @@ use Rattle.std.proofs.lemmas.List.{get_or_append_left, get_or-append-add, get_or
 use Rattle.kdb_base.specs.declared.moments.Point.{Point}
 use Rattle.kdb_base.specs.Moments.{micros}
 use Rattle.kdb_disk.specs.Files.{put}
-use Rattle.princ_entries.specs.declared.entries.Logged.{Logged}
+use Rattle.princ_rows.specs.declared.entries.Logged.{Logged}
 use Rattle.update_log.specs.Slots.{slot_of, slot_bytes, IsOpen, IsClosed, Spells, Stands, SameBut, Shuts, Fills}
 use Rattle.update_log.specs.Logs.{IsMarked, IsRun, IsLog, HoldsIn, Journal, Holds, ComesNext, newest, marker_of}
 use Rattle.update_log.specs.Moments.{IsReady}

@@ -10,7 +10,7 @@ use Rattle.kdb_disk.specs.Moments.{LeavesOnly, Differs, Replaced, Stands as Disk
 use Rattle.kdb_disk.proofs.Runs.{weaken, stands_here, stands_other}
 use Rattle.kdb_disk.proofs.Puts.{same_files, with_file-same, with_file-other}
 use Rattle.kdb_disk.proofs.Differing.{differs_run}
-use Rattle.princ_entries.specs.declared.entries.Logged.{Logged}
+use Rattle.princ_rows.specs.declared.entries.Logged.{Logged}
 use Rattle.update_log.specs.Slots.{slot_of, Shuts, Fills, Spells}
 use Rattle.update_log.specs.Logs.{Journal, Holds, HoldsIn, ComesNext, with_prepared, log_committed, newest, begun, marker_of}
 use Rattle.update_log.specs.Moments.{LeavesLog, HasLog, IsBodyFor, IsDurable, MayShut, IsFilled, IsNext, IsReady, HasPrepared, Prepares, LeavesEither, IsMarker, ReadsOthers}

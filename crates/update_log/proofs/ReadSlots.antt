@@ -20,9 +20,9 @@ use Rattle.kdb_format.specs.Laws.{padded_field}
 use Rattle.kdb_format.specs.Readings.{padded}
 use Rattle.kdb_format.specs.declared.faults.FormatFault.{FormatFault}
 use Rattle.kdb_format.specs.declared.faults.FormatFault.TheVariants.{Malformed, MemoryOut}
-use Rattle.princ_entries.specs.Entries.{logged_at}
-use Rattle.princ_entries.specs.EntryLaws.{logged_field}
-use Rattle.princ_entries.specs.declared.entries.Logged.{Logged}
+use Rattle.princ_rows.specs.Entries.{logged_at}
+use Rattle.princ_rows.specs.EntryLaws.{logged_field}
+use Rattle.princ_rows.specs.declared.entries.Logged.{Logged}
 use Rattle.update_log.specs.Slots.{slot_of, slot_bytes, IsSpelled}
 use Rattle.update_log.specs.Logs.{IsMarked, IsJournal, Journal, newest, log_of}
 use Rattle.update_log.specs.Moments.{HasLog, IsDurable}

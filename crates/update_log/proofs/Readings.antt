@@ -5,7 +5,7 @@ use Rattle.std.specs.List.{All}
 use Rattle.std.proofs.lemmas.Bool.{cases_eq, cases_lt, cond-true, cond-false, and_from, and_left, eq-eqb, ne_eqb, le-leb, lt-leb, lt-ltb, le-ltb}
 use Rattle.kdb_base.specs.declared.moments.Point.{Point}
 use Rattle.kdb_base.specs.Moments.{micros}
-use Rattle.princ_entries.specs.declared.entries.Logged.{Logged}
+use Rattle.princ_rows.specs.declared.entries.Logged.{Logged}
 use Rattle.update_log.specs.Slots.{slot_of, slot_bytes}
 use Rattle.update_log.specs.Logs.{IsRun, IsLog, HoldsIn, newest, marker_of}
 use Rattle.update_log.specs.Runs.{stands_in, goes_before, if_before, before, back, is_left, slot_in, entry_in, is_wrong, if_whole, run_in, if_right, last_upto, first_of, log_in}

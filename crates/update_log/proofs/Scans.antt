@@ -4,7 +4,7 @@ use Rattle.std.specs.Prelude.{Result, Ok}
 use Rattle.std.specs.List.{All}
 use Rattle.std.proofs.lemmas.Bool.{leb-false}
 use Rattle.kdb_base.specs.declared.moments.Point.{Point}
-use Rattle.princ_entries.specs.declared.entries.Logged.{Logged}
+use Rattle.princ_rows.specs.declared.entries.Logged.{Logged}
 use Rattle.update_log.specs.Slots.{slot_of, slot_bytes, IsClosed, Stands}
 use Rattle.update_log.specs.Logs.{IsLog, HoldsIn, newest, marker_of}
 use Rattle.update_log.specs.Runs.{back, is_left, entry_in, is_wrong, if_whole, run_in, if_right, last_upto, first_of, log_in}

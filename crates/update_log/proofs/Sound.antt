@@ -4,7 +4,7 @@ use Rattle.std.specs.Prelude.{option_to_list}
 use Rattle.std.specs.List.{All}
 use Rattle.std.proofs.lemmas.List.{append-nil}
 use Rattle.kdb_base.specs.declared.moments.Point.{Point}
-use Rattle.princ_entries.specs.declared.entries.Logged.{Logged}
+use Rattle.princ_rows.specs.declared.entries.Logged.{Logged}
 use Rattle.update_log.specs.Slots.{IsSpelled}
 use Rattle.update_log.specs.Logs.{IsMarked, IsRun, Journal, IsJournal, HasRoom, newest, begun, marker_of}
 use Rattle.update_log.proofs.Journals.{all_behind, all_more, run_behind, run_more, next_serial, next_marked, one_only, one_run, base_marked}

@@ -7,12 +7,12 @@ use Rattle.kdb_format.specs.Readings.{padded}
 use Rattle.kdb_format.specs.Spellings.{zeros}
 use Rattle.kdb_format.specs.Lengths.{length-zeros}
 use Rattle.kdb_format.specs.Laws.{padded_field}
-use Rattle.princ_entries.specs.Entries.{logged_at, logged}
-use Rattle.princ_entries.specs.EntryLaws.{logged_field}
+use Rattle.princ_rows.specs.Entries.{logged_at, logged}
+use Rattle.princ_rows.specs.EntryLaws.{logged_field}
 use Rattle.kdb_base.specs.declared.moments.Point.{Point}
 use Rattle.kdb_base.specs.Moments.{micros}
-use Rattle.princ_entries.specs.declared.entries.Entry.{Entry}
-use Rattle.princ_entries.specs.declared.entries.Logged.{Logged}
+use Rattle.princ_rows.specs.declared.entries.Entry.{Entry}
+use Rattle.princ_rows.specs.declared.entries.Logged.{Logged}
 use Rattle.update_log.specs.Slots.{Spells, IsSpelled}
 use Rattle.update_log.specs.Logs.{ComesNext}
 

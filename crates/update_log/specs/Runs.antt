@@ -4,10 +4,10 @@ use Rattle.kdb_base.specs.declared.moments.Point.{Point}
 use Rattle.kdb_base.specs.Moments.{micros}
 use Rattle.kdb_format.specs.Readings.{padded}
 use Rattle.princ_record.specs.RowLimits.{is_row_1}
-use Rattle.princ_entries.specs.Entries.{logged_at, kind_of}
-use Rattle.princ_entries.specs.declared.entries.Op.{Op}
-use Rattle.princ_entries.specs.declared.entries.Op.TheVariants.{PutPrinc, DropPrinc, Rename, PutPolicy, DropPolicy}
-use Rattle.princ_entries.specs.declared.entries.Logged.{Logged}
+use Rattle.princ_rows.specs.Entries.{logged_at, kind_of}
+use Rattle.princ_rows.specs.declared.entries.Op.{Op}
+use Rattle.princ_rows.specs.declared.entries.Op.TheVariants.{PutPrinc, DropPrinc, Rename, PutPolicy, DropPolicy}
+use Rattle.princ_rows.specs.declared.entries.Logged.{Logged}
 use Rattle.update_log.specs.Slots.{slot_of, slot_bytes}
 use Rattle.update_log.specs.Logs.{newest}
 

@@ -5,7 +5,7 @@ use Rattle.kdb_base.specs.declared.outcomes.Refusal.TheVariants.{Damaged}
 use Rattle.kdb_base.specs.declared.outcomes.Stop.{Stop}
 use Rattle.kdb_base.specs.declared.outcomes.Stop.TheVariants.{Refused, Halt}
 use Rattle.kdb_control.specs.Choice.{Choice}
-use Rattle.princ_entries.specs.declared.entries.Logged.{Logged}
+use Rattle.princ_rows.specs.declared.entries.Logged.{Logged}
 use Rattle.update_log.specs.Slots.{slot_bytes, IsSpelled}
 use Rattle.update_log.specs.Logs.{Journal, log_of, newest}
 use Rattle.update_log.specs.Runs.{belongs, slot_in, back, last_upto, run_in, log_in}

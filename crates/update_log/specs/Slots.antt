@@ -2,8 +2,8 @@
 use Rattle.std.specs.Prelude.{ℕ, ◌+◌, ◌-◌, ◌*◌, ◌%◌, ◌≤◌, ◌≡◌, ◌≢◌, List, [], take, drop, length, slice_index, Some}
 use Rattle.kdb_base.specs.declared.moments.Point.{Point}
 use Rattle.kdb_format.specs.Readings.{padded}
-use Rattle.princ_entries.specs.Entries.{logged_at, logged, IsLogged}
-use Rattle.princ_entries.specs.declared.entries.Logged.{Logged}
+use Rattle.princ_rows.specs.Entries.{logged_at, logged, IsLogged}
+use Rattle.princ_rows.specs.declared.entries.Logged.{Logged}
 
 -- the slot in which the entry of a serial stands: the log has one slot more than it holds entries
 unfoldable pub slot_of : Point → ℕ → ℕ → ℕ

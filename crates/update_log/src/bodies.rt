@@ -1,13 +1,13 @@
 ghost use Rattle.std.specs.Prelude.{◌≡◌, ◌≤◌, ◌-◌, ◌∷◌, length, IfOk};
 ghost use Rattle.kdb_format.specs.Moments.{IsPoint};
-ghost use Rattle.princ_entries.specs.Entries.{IsOp, logged};
-ghost use Rattle.princ_entries.specs.declared.entries.Logged.{Logged};
+ghost use Rattle.princ_rows.specs.Entries.{IsOp, logged};
+ghost use Rattle.princ_rows.specs.declared.entries.Logged.{Logged};
 ghost use Rattle.update_log.specs.Slots.{Spells, IsSpelled};
 
 use kdb_base::{MemoryOut, Point};
 use kdb_format::writing::push_zeros;
-use princ_entries::entries::push_logged;
 use princ_rows::Entry;
+use princ_rows::entries::push_logged;
 use std::alloc::Global;
 
 // Tells a proof that a point has a spelling, and does nothing.

@@ -2,7 +2,7 @@
 
 ghost use Rattle.std.specs.Prelude.{◌≡◌, ◌<◌, ◌++◌, true, All, List, ℕ, Ok};
 ghost use Rattle.kdb_base.specs.declared.moments.Point.{Point};
-ghost use Rattle.princ_entries.specs.declared.entries.Logged.{Logged};
+ghost use Rattle.princ_rows.specs.declared.entries.Logged.{Logged};
 ghost use Rattle.update_log.specs.Logs.{HoldsIn};
 ghost use Rattle.update_log.specs.Runs.{log_in, stands_in};
 

@@ -4,9 +4,9 @@ ghost use Rattle.kdb_disk.specs.View.{View, IsAfter};
 ghost use Rattle.kdb_base.specs.declared.outcomes.Stop.TheVariants.{Halt as Halts};
 ghost use Rattle.kdb_disk.specs.Moments.{Differs, Keeps};
 ghost use Rattle.kdb_disk.specs.Frames.{IsCall, IsCrashSafe};
-ghost use Rattle.princ_entries.specs.declared.entries.Logged.{Logged};
+ghost use Rattle.princ_rows.specs.declared.entries.Logged.{Logged};
 ghost use Rattle.std.specs.VecDeque.{deque_len, deque_capacity};
-ghost use Rattle.princ_entries.specs.Entries.{IsOp, logged};
+ghost use Rattle.princ_rows.specs.Entries.{IsOp, logged};
 ghost use Rattle.update_log.specs.Slots.{slot_of, Spells, IsSpelled};
 ghost use Rattle.update_log.specs.Logs.{IsJournal, ComesNext, entry_of, log_of, marker_of, with_prepared, log_committed, newest, begun};
 ghost use Rattle.update_log.specs.Moments.{HasLog, HasPrepared, IsBodyFor, IsDurable, LeavesLog, LeavesEither, ReadsOthers};
@@ -21,7 +21,7 @@ use crate::writes::{write_first, write_next};
 use kdb_base::{Halt, MemoryOut, Point, Stop};
 use kdb_control::Control;
 use kdb_disk::{Disk, DiskFailed, open_gate};
-use princ_entries::laws::entries_have_their_lengths;
+use princ_rows::entry_laws::entries_have_their_lengths;
 use princ_rows::{Entry, Logged, Op, copy_entry};
 use std::alloc::Global;
 use std::collections::VecDeque;
@@ -65,7 +65,7 @@ fn marker_of(base: &Point) -> Logged
 }
 
 // Tells a proof that a slot has room for the base marker, and does nothing.
-#[tactic(auto, unfolding(princ_entries::specs::Entries::key_of, princ_entries::specs::Entries::row_of))]
+#[tactic(auto, unfolding(princ_rows::specs::Entries::key_of, princ_rows::specs::Entries::row_of))]
 fn holds_marker(marker: &Logged, base: &Point, block: u32)
     requires block { 2048 ≤ block }
     requires marker { marker.now ≡ marker_of base.now }

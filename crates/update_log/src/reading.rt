@@ -1,8 +1,8 @@
 //! What one slot of a log's file holds, read from its bytes.
 ghost use Rattle.std.specs.Prelude.{◌≡◌, ◌≤◌, true, length, Some, IfOk};
 ghost use Rattle.kdb_format.specs.Answers.{Finds};
-ghost use Rattle.princ_entries.specs.Entries.{IsOp};
-ghost use Rattle.princ_entries.specs.declared.entries.Logged.{Logged as LoggedEntry};
+ghost use Rattle.princ_rows.specs.Entries.{IsOp};
+ghost use Rattle.princ_rows.specs.declared.entries.Logged.{Logged as LoggedEntry};
 ghost use Rattle.update_log.specs.Slots.{IsSpelled};
 ghost use Rattle.update_log.specs.Runs.{is_open, spelled_in, stands_in_1, stands_in, is_marker, is_marked, belongs, slot_in};
 ghost use Rattle.update_log.specs.Scanning.{IsRead};
@@ -13,8 +13,8 @@ use kdb_control::Control;
 use kdb_disk::OPEN;
 use kdb_format::format::read_padded;
 use kdb_format::{FormatFault, Reader};
-use princ_entries::entries::{LoggedFormat, kind_of};
 use princ_record::is_row_1;
+use princ_rows::entries::{LoggedFormat, kind_of};
 use princ_rows::{Logged, Op};
 use std::alloc::Global;
 

@@ -7,7 +7,7 @@ ghost use Rattle.kdb_disk.specs.Frames.{IsCall};
 ghost use Rattle.kdb_disk.specs.Moments.{Keeps};
 ghost use Rattle.kdb_disk.specs.Reader.{left_of, IsOver};
 ghost use Rattle.kdb_disk.specs.View.{View};
-ghost use Rattle.princ_entries.specs.declared.entries.Logged.{Logged as LoggedEntry};
+ghost use Rattle.princ_rows.specs.declared.entries.Logged.{Logged as LoggedEntry};
 ghost use Rattle.update_log.specs.Runs.{slot_in};
 ghost use Rattle.update_log.specs.Scanning.{scanned, AreRead, HasSlots, IsRead, SlotAnswers};
 

@@ -1,13 +1,13 @@
 ghost use Rattle.std.specs.Prelude.{◌≡◌, ◌≢◌, ◌≤◌, ◌+◌, IfOk, OnOk, None, length, ℕ};
-ghost use Rattle.princ_entries.specs.Entries.{IsOp, logged};
+ghost use Rattle.princ_rows.specs.Entries.{IsOp, logged};
 ghost use Rattle.princ_name.specs.Printed.{IsPrinted};
 ghost use Rattle.update_log.specs.Moments.{HasLog, IsDurable};
 
 use super::*;
 use kdb_base::{Blob, Fails, Halt, Point, Time};
 use kdb_disk::{Disk, MemoryDisk, Pick};
-use princ_entries::laws::entries_have_their_lengths;
 use princ_name::is_printed;
+use princ_rows::entry_laws::entries_have_their_lengths;
 use princ_rows::{Entry, Op};
 use std::alloc::Global;
 use std::test::*;
@@ -55,7 +55,7 @@ fn make_on(alloc: Global, disk: &mut MemoryDisk) -> Result<Log, Fail>
 }
 
 // The entry that drops a principal, behind the last one and at its time.
-#[tactic(auto, unfolding(princ_entries::specs::Entries::key_of, princ_entries::specs::Entries::row_of))]
+#[tactic(auto, unfolding(princ_rows::specs::Entries::key_of, princ_rows::specs::Entries::row_of))]
 fn next_entry(alloc: Global, last: &Point) -> Result<Entry, Fail>
     ensures point { IfOk result (λ e. e.point ≡ record { sno = last.now.sno + 1; time = last.now.time }) }
     ensures change { IfOk result (λ e. e.op ≢ None) }

@@ -3,7 +3,7 @@ ghost use Rattle.kdb_base.specs.declared.moments.Point.{Point};
 ghost use Rattle.kdb_disk.specs.View.{View, IsAfter};
 ghost use Rattle.kdb_disk.specs.Moments.{LeavesOnly, Differs};
 ghost use Rattle.kdb_disk.specs.Frames.{IsCall, IsCrashSafe};
-ghost use Rattle.princ_entries.specs.declared.entries.Logged.{Logged};
+ghost use Rattle.princ_rows.specs.declared.entries.Logged.{Logged};
 ghost use Rattle.update_log.specs.Logs.{Journal, begun};
 ghost use Rattle.update_log.specs.Moments.{IsDurable, MayShut, IsShut, IsFilled, HasLog, LeavesLog, IsNext, IsMarker, Prepares, ReadsOthers};
 

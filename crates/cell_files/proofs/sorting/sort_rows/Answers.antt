@@ -3,7 +3,7 @@ use Rattle.std.specs.Ordering.{is_lt}
 use Rattle.std.proofs.lemmas.Cmp.{nat_list_cmp_total}
 use Rattle.std.proofs.lemmas.Fn.{always_returns_same}
 use Rattle.std.proofs.lemmas.List.Sorted.{ranks_by}
-use Rattle.princ_rows.specs.Rows.{key_cmp}
+use Rattle.tagged_data.specs.KeyOrder.{key_cmp}
 use Rattle.cell_files.proofs.sorting.sort_rows.Goals as goal
 
 pub returns-clause-sorted : goal.returns-clause-sorted

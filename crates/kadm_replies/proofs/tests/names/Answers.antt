@@ -1,6 +1,6 @@
 use Rattle.std.proofs.Common.{List, ℕ}
 use Rattle.std.specs.List.Sorted.{IsStrictlySortedBy}
-use Rattle.princ_rows.specs.Rows.{AreInOrder}
+use Rattle.tagged_data.specs.KeyOrder.{AreInOrder}
 use Rattle.kadm_replies.proofs.TestLemmas.{one_item}
 use Rattle.kadm_replies.proofs.tests.names.Goals as goal
 

@@ -2,7 +2,7 @@ use Rattle.std.proofs.Common.{◌≡◌, Some, ap, subst, ◌∙◌}
 use Rattle.std.specs.Prelude.{OnOk, [], ◌∷◌, ◌++◌}
 use Rattle.std.proofs.lemmas.Result.{on_ok_weaker}
 use Rattle.kdb_disk.specs.Moments.{LeavesOnly}
-use Rattle.princ_entries.specs.declared.entries.Entry.{Entry}
+use Rattle.princ_rows.specs.declared.entries.Entry.{Entry}
 use Rattle.kdb_cells.specs.FileCells.{IsFileOf}
 use Rattle.kdb_places.specs.Places.{committed}
 use Rattle.update_log.specs.Logs.{Journal, newest, with_prepared, log_committed}

@@ -1,6 +1,6 @@
 use Rattle.std.proofs.Common.{◌<◌, sym, subst, arith}
 use Rattle.kdb_base.specs.declared.moments.Point.{Point}
-use Rattle.princ_entries.specs.declared.entries.Logged.{Logged}
+use Rattle.princ_rows.specs.declared.entries.Logged.{Logged}
 use Rattle.update_log.specs.Logs.{marker_of}
 use Rattle.kdb_store.proofs.committing.next_in.Goals as goal
 

@@ -1,6 +1,6 @@
 use Rattle.std.proofs.Common.{ℕ, inl, Some, ap, ◌∙◌}
 use Rattle.kdb_disk.proofs.Runs.{started}
-use Rattle.princ_entries.specs.declared.entries.Logged.{Logged}
+use Rattle.princ_rows.specs.declared.entries.Logged.{Logged}
 use Rattle.update_log.specs.Logs.{Journal, with_prepared, log_committed}
 use Rattle.update_log.proofs.Preparing.{noted_log}
 use Rattle.store_files.specs.Standing.{IsUnderWay}

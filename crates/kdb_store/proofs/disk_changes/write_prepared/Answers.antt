@@ -1,7 +1,7 @@
 use Rattle.std.proofs.Common.{◌*◌, ℕ, sym, subst, ap}
 use Rattle.kdb_disk.specs.Moments.{LeavesOnly}
 use Rattle.kdb_cells.specs.Cells.{unit_size}
-use Rattle.princ_entries.specs.declared.entries.Logged.{Logged}
+use Rattle.princ_rows.specs.declared.entries.Logged.{Logged}
 use Rattle.update_log.specs.Logs.{Journal, log_committed}
 use Rattle.update_log.specs.Moments.{HasLog, IsDurable}
 use Rattle.store_files.proofs.Committing.{other_log}

@@ -1,6 +1,6 @@
 use Rattle.std.proofs.Common.{ℕ, Some, refl, ap, sym, subst, ◌∙◌}
 use Rattle.std.proofs.lemmas.Result.{on_ok_weaker}
-use Rattle.princ_entries.specs.declared.entries.Entry.{Entry}
+use Rattle.princ_rows.specs.declared.entries.Entry.{Entry}
 use Rattle.princ_rows.specs.Effects.{effect}
 use Rattle.kdb_places.specs.Places.{change, committed, log_anew}
 use Rattle.store_files.specs.Kept.{place_kept, with_parts}

@@ -1,6 +1,6 @@
 use Rattle.std.proofs.Common.{◌≢◌, ℕ, ◌*◌, ◌≤◌, List, length, Some, sym, ap, subst, ◌∙◌}
 use Rattle.kdb_control.specs.Choice.{Choice}
-use Rattle.princ_entries.specs.declared.entries.Logged.{Logged}
+use Rattle.princ_rows.specs.declared.entries.Logged.{Logged}
 use Rattle.update_log.specs.Logs.{Journal, with_prepared}
 use Rattle.update_log.specs.Moments.{IsBodyFor, IsDurable}
 use Rattle.update_log.proofs.Preparing.{noted_log}

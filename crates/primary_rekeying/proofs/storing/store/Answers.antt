@@ -12,7 +12,7 @@ use Rattle.primary_core.specs.Deciding.{ends_time}
 use Rattle.primary_core.specs.Opened.{place_of}
 use Rattle.primary_rekeying.proofs.StoredCalls.{answers_state, stores_leaves, stores_reaches, stores_state}
 use Rattle.primary_rekeying.proofs.storing.store.Goals as goal
-use Rattle.princ_entries.specs.declared.entries.Op.TheVariants.{PutPrinc}
+use Rattle.princ_rows.specs.declared.entries.Op.TheVariants.{PutPrinc}
 use Rattle.princ_record.specs.Princs.{princ}
 use Rattle.princ_record.specs.declared.princs.Princ.{Princ}
 use Rattle.rekey_work.specs.declared.works.Settled.TheVariants.{Updated}

@@ -1,7 +1,7 @@
 use Rattle.std.proofs.Common.{rules}
 use Rattle.std.proofs.lemmas.Fn.{always_returns_same}
 use Rattle.policy_rules.specs.Rules.{Rules}
-use Rattle.princ_rows.specs.Rows.{key_cmp}
+use Rattle.tagged_data.specs.KeyOrder.{key_cmp}
 use Rattle.princ_rows.proofs.Searches.{found_at, gap_at}
 use Rattle.tab_reports.proofs.counting.place_of.Goals as goal
 

@@ -1,7 +1,7 @@
 use Rattle.std.proofs.Common.{rules, ◌≡◌, ◌-◌, ◌++◌, length, List, ℕ, ◌∙◌, ap}
 use Rattle.kdb_format.specs.Spellings.{zeros}
-use Rattle.princ_entries.specs.Entries.{logged}
-use Rattle.princ_entries.specs.declared.entries.Logged.{Logged}
+use Rattle.princ_rows.specs.Entries.{logged}
+use Rattle.princ_rows.specs.declared.entries.Logged.{Logged}
 use Rattle.update_log.proofs.Spelled.{spelled, long_body}
 use Rattle.update_log.proofs.bodies.write_body.Goals as goal
 

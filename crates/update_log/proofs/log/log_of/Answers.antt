@@ -1,6 +1,6 @@
 use Rattle.std.proofs.Common.{List, ◌∙◌, ap, length, sym, subst, refl}
 use Rattle.std.specs.VecDeque.{deque_len, deque_capacity}
-use Rattle.princ_entries.specs.declared.entries.Logged.{Logged}
+use Rattle.princ_rows.specs.declared.entries.Logged.{Logged}
 use Rattle.update_log.specs.Logs.{IsJournal, log_of}
 use Rattle.update_log.proofs.Sound.{begun_journal, nothing_prepared}
 use Rattle.update_log.proofs.log.log_of.Goals as goal

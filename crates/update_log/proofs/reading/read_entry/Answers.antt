@@ -1,7 +1,7 @@
 use Rattle.std.proofs.Common.{◌≡◌, ◌-◌, ◌∙◌, ap, subst, List, ℕ, length, drop, arith, length-drop, take_all}
 use Rattle.kdb_format.specs.Answers.{Gives}
 use Rattle.kdb_format.specs.Readings.{padded}
-use Rattle.princ_entries.specs.Entries.{logged_at}
+use Rattle.princ_rows.specs.Entries.{logged_at}
 use Rattle.update_log.specs.Runs.{spelled_in}
 use Rattle.update_log.proofs.ReadSlots.{finds_front, reads_spelled}
 use Rattle.update_log.proofs.reading.read_entry.Goals as goal

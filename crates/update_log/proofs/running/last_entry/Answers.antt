@@ -1,6 +1,6 @@
 use Rattle.std.proofs.Common.{◌≡◌, ℕ, suc, ◌+◌, ◌-◌, ◌∙◌, refl, sym, ap, arith, Option}
 use Rattle.std.specs.Prelude.{option_map}
-use Rattle.princ_entries.specs.declared.entries.Logged.{Logged}
+use Rattle.princ_rows.specs.declared.entries.Logged.{Logged}
 use Rattle.update_log.specs.Runs.{last_upto, later}
 use Rattle.update_log.specs.Scanning.{read_at}
 use Rattle.update_log.proofs.ReadSlots.{last_past}

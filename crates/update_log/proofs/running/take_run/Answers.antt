@@ -7,7 +7,7 @@ use Rattle.std.specs.VecDeque.{deque_len}
 use Rattle.std.specs.declared.alloc.Global.{Global}
 use Rattle.std.specs.declared.collections.VecDeque.{VecDeque}
 use Rattle.kdb_control.specs.Choice.{Choice}
-use Rattle.princ_entries.specs.declared.entries.Logged.{Logged}
+use Rattle.princ_rows.specs.declared.entries.Logged.{Logged}
 use Rattle.update_log.specs.Slots.{slot_of}
 use Rattle.update_log.specs.Logs.{newest, log_of, IsJournal}
 use Rattle.update_log.specs.Runs.{stands_in}

@@ -1,6 +1,6 @@
 use Rattle.std.proofs.Common.{◌≡◌, Some, take, length}
 use Rattle.std.specs.VecDeque.{deque_len}
-use Rattle.princ_entries.specs.declared.entries.Logged.{Logged}
+use Rattle.princ_rows.specs.declared.entries.Logged.{Logged}
 use Rattle.update_log.specs.Logs.{newest}
 use Rattle.update_log.specs.Scanning.{run_to, last_in}
 use Rattle.update_log.proofs.ReadSlots.{AreLeft}

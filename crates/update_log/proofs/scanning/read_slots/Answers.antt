@@ -6,7 +6,7 @@ use Rattle.kdb_base.specs.declared.outcomes.Stop.TheVariants.{Refused}
 use Rattle.kdb_control.specs.Choice.{Choice}
 use Rattle.kdb_disk.proofs.Runs.{keeps_then}
 use Rattle.kdb_disk.specs.Reader.{left_of}
-use Rattle.princ_entries.specs.declared.entries.Logged.{Logged}
+use Rattle.princ_rows.specs.declared.entries.Logged.{Logged}
 use Rattle.update_log.specs.Runs.{slot_in}
 use Rattle.update_log.specs.Scanning.{SlotAnswers}
 use Rattle.update_log.proofs.ReadSlots.{read_more, has_more, next_bytes, left_behind, next_wrong, past_closed, past_none}

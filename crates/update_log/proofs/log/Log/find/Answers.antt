@@ -1,6 +1,6 @@
 use Rattle.std.proofs.Common.{◌≡◌, ◌-◌, ◌+◌, ◌∙◌, ap, subst, arith}
 use Rattle.std.specs.Prelude.{IfSome, Contains}
-use Rattle.princ_entries.specs.declared.entries.Logged.{Logged}
+use Rattle.princ_rows.specs.declared.entries.Logged.{Logged}
 use Rattle.update_log.specs.Logs.{Journal}
 use Rattle.update_log.proofs.Spelled.{found}
 use Rattle.update_log.proofs.log.Log.find.Goals as goal

@@ -3,7 +3,7 @@ use Rattle.kdb_disk.proofs.Differing.{started_differs}
 use Rattle.kdb_disk.proofs.Runs.{started}
 use Rattle.kdb_disk.specs.Moments.{Differs}
 use Rattle.kdb_disk.specs.View.{IsAfter}
-use Rattle.princ_entries.specs.declared.entries.Logged.{Logged}
+use Rattle.princ_rows.specs.declared.entries.Logged.{Logged}
 use Rattle.update_log.specs.Logs.{marker_of}
 use Rattle.update_log.specs.Moments.{IsMarker}
 use Rattle.update_log.proofs.log.Log.make.Goals as goal

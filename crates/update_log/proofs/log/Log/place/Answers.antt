@@ -1,5 +1,5 @@
 use Rattle.std.proofs.Common.{◌-◌, length, sym, subst, arith}
-use Rattle.princ_entries.specs.declared.entries.Logged.{Logged}
+use Rattle.princ_rows.specs.declared.entries.Logged.{Logged}
 use Rattle.update_log.specs.Logs.{Journal, ComesNext}
 use Rattle.update_log.proofs.log.Log.place.Goals as goal
 

@@ -1,6 +1,6 @@
 use Rattle.std.proofs.Common.{◌∙◌, Some, ap, sym, subst}
 use Rattle.kdb_disk.specs.Moments.{LeavesOnly}
-use Rattle.princ_entries.specs.declared.entries.Logged.{Logged}
+use Rattle.princ_rows.specs.declared.entries.Logged.{Logged}
 use Rattle.update_log.specs.Logs.{Journal, with_prepared}
 use Rattle.update_log.specs.Moments.{HasLog, IsDurable, LeavesLog}
 use Rattle.update_log.proofs.Preparing.{noted_log}

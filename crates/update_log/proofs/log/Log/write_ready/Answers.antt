@@ -1,6 +1,6 @@
 use Rattle.std.proofs.Common.{◌≤◌, ◌<◌, sym, subst, ℕ, length, Some, arith}
 use Rattle.std.proofs.lemmas.Result.{on_ok_weaker}
-use Rattle.princ_entries.specs.declared.entries.Logged.{Logged}
+use Rattle.princ_rows.specs.declared.entries.Logged.{Logged}
 use Rattle.update_log.specs.Logs.{Journal}
 use Rattle.update_log.specs.Moments.{HasPrepared, IsDurable}
 use Rattle.update_log.proofs.Journals.{place_within}
