@@ -1,108 +1,90 @@
--- Bits that are forced on, and bits that are forced off.
-use Rattle.std.proofs.Common.{◌≡◌, ℕ, ◌/◌, ◌%◌, ◌^◌, ◌<◌, ◌≤◌, ◌==◌, ◌&&◌, length, min, max, Bool, true, false, Option, Some, None, option_map, List, [], ◌∷◌, ◌⊎◌, inl, inr, sym, ap, ◌∙◌, fold, arith}
+-- Flags that are put in force by the bits that they force on, and those that they force off.
+use Rattle.std.proofs.Common.{◌≡◌, ℕ, ◌-◌, ◌^◌, ◌<◌, ◌≤◌, min, max, Bool, true, false, List, [], ◌∷◌, ◌⊎◌, inl, inr, sym, ap, ◌∙◌, fold, arith}
 use Rattle.std.specs.Prelude.{bit_and, bit_or, if◌then◌else◌}
 use Rattle.std.specs.Int.{bit_at, bit_not}
 use Rattle.std.specs.Int.Width.{w32}
-use Rattle.std.specs.List.{filter_map}
 use Rattle.std.proofs.lemmas.Bool.{cases_lt}
-use Rattle.std.proofs.Math.Nat.{div-eq_of_lt, pow-le-pow_right}
-use Rattle.std.proofs.lemmas.Nat.Bits.{bit_at-zero, bit_at_and, bit_at_not, bit_at_or, same_from_bits}
-use Rattle.acl_text.specs.Restrictions.{are_restrictions, bits_of, limits_among, limits_by, limits_from, limits_in, limits_of, restrictions, with_flag}
-use Rattle.acl_text.specs.declared.limits.Bits.{Bits}
-use Rattle.acl_text.specs.declared.limits.Limits.{Limits}
-use Rattle.kadm_options.specs.OptionValues.{flag_of}
-use Rattle.kadm_options.specs.Options.{OptionParts, option_named, options_in}
+use Rattle.std.proofs.lemmas.Nat.Bits.{bit_at-lt, bit_at-zero, bit_at_above, bit_at_and, bit_at_not, bit_at_ones, bit_at_or, same_from_bits}
+use Rattle.kadm_values.specs.Flags.{with_flag, with_flags}
 use Rattle.kadm_values.specs.declared.flags.FlagChange.{FlagChange}
-use Rattle.kadm_options.specs.declared.options.Given.{Given}
 
--- no bit is in both
-Apart : ℕ → ℕ → Type 0
-Apart a b = (i : ℕ) → min (bit_at a i) (bit_at b i) ≡ 0
+-- ---- what a flag makes of a bit, by what it makes of the bit where none stands and where all stand
 
-bit_small : (n i : ℕ) → bit_at n i ≤ 1
-bit_small n i = omega arith
+set_between : (a s c x b : ℕ) → x ≡ min (max a s) c → max x b ≡ min (max a (max s b)) (max c b)
+set_between a s c x b e = omega arith
 
-high_bit : (n i : ℕ) → n < 2 ^ 32 → 32 ≤ i → bit_at n i ≡ 0
-high_bit n i short high =
-    let large : 2 ^ 32 ≤ 2 ^ i = pow-le-pow_right (omega arith) high in
-    let none : n / 2 ^ i ≡ 0 = div-eq_of_lt (omega arith) in
-    ap (λ (q : ℕ). q % 2) none
+cleared_between : (a s c x b : ℕ) → x ≡ min (max a s) c → min x b ≡ min (max a (min s b)) (min c b)
+cleared_between a s c x b e = omega arith
 
-with_not : (bit i : ℕ) → (bit < 2 ^ 32) ⊎ (2 ^ 32 ≤ bit) → (i < 32) ⊎ (32 ≤ i) → min (bit_at bit i) (bit_at (bit_not w32 bit) i) ≡ 0
-with_not bit i (inl short) (inl low) = omega (arith, bit_at_not w32 bit i short low, bit_small bit i)
-with_not bit i (inl short) (inr high) = omega (arith, high_bit bit i short high)
-with_not bit i (inr long) place =
-    let none : bit_not w32 bit ≡ 0 = omega arith in
-    omega (arith, ap (λ (n : ℕ). bit_at n i) none, bit_at-zero i)
+abbrev Between : ℕ → ℕ → ℕ → ℕ → ℕ → Type 0
+Between a s c x i = bit_at x i ≡ min (max (bit_at a i) (bit_at s i)) (bit_at c i)
 
-apart_not : (bit : ℕ) → Apart bit (bit_not w32 bit)
-unfolding Apart
-apart_not bit i = with_not bit i (cases_lt bit (2 ^ 32)) (cases_lt i 32)
+abbrev changed : Bool → ℕ → ℕ → ℕ
+changed set n bit = if set then bit_or n bit else bit_and n (bit_not w32 bit)
 
-more_apart : (a b bit other : ℕ) → min a b ≡ 0 → min bit other ≡ 0 → min (max a bit) (min b other) ≡ 0
-more_apart a b bit other one two = omega arith
+one_between : (set : Bool) (a s c x bit i : ℕ) → Between a s c x i → Between a (changed set s bit) (changed set c bit) (changed set x bit) i
+one_between true a s c x bit i e =
+    rw (bit_at_or x bit i, bit_at_or s bit i, bit_at_or c bit i) (set_between (bit_at a i) (bit_at s i) (bit_at c i) (bit_at x i) (bit_at bit i) e)
+one_between false a s c x bit i e =
+    rw (bit_at_and x (bit_not w32 bit) i, bit_at_and s (bit_not w32 bit) i, bit_at_and c (bit_not w32 bit) i)
+    (cleared_between (bit_at a i) (bit_at s i) (bit_at c i) (bit_at x i) (bit_at (bit_not w32 bit) i) e)
 
-less_apart : (a b bit other : ℕ) → min a b ≡ 0 → min bit other ≡ 0 → min (min a other) (max b bit) ≡ 0
-less_apart a b bit other one two = omega arith
+all_between : (a s c x i : ℕ) (changes : List FlagChange) → Between a s c x i
+    → Between a (fold with_flag s changes) (fold with_flag c changes) (fold with_flag x changes) i
+all_between a s c x i [] e = e
+all_between a s c x i (change ∷ changes) e =
+    all_between a (with_flag s change) (with_flag c change) (with_flag x change) i changes (one_between change.set a s c x change.bit i e)
 
-set_apart : (set clear bit : ℕ) → Apart set clear → Apart (bit_or set bit) (bit_and clear (bit_not w32 bit))
-unfolding Apart
-set_apart set clear bit apart i =
-    ap (λ (n : ℕ). min n (bit_at (bit_and clear (bit_not w32 bit)) i)) (bit_at_or set bit i)
-    ∙ ap (λ (n : ℕ). min (max (bit_at set i) (bit_at bit i)) n) (bit_at_and clear (bit_not w32 bit) i)
-    ∙ more_apart (bit_at set i) (bit_at clear i) (bit_at bit i) (bit_at (bit_not w32 bit) i) (apart i) (apart_not bit i)
+-- ---- at the start
 
-clear_apart : (set clear bit : ℕ) → Apart set clear → Apart (bit_and set (bit_not w32 bit)) (bit_or clear bit)
-unfolding Apart
-clear_apart set clear bit apart i =
-    ap (λ (n : ℕ). min n (bit_at (bit_or clear bit) i)) (bit_at_and set (bit_not w32 bit) i)
-    ∙ ap (λ (n : ℕ). min (min (bit_at set i) (bit_at (bit_not w32 bit) i)) n) (bit_at_or clear bit i)
-    ∙ less_apart (bit_at set i) (bit_at clear i) (bit_at bit i) (bit_at (bit_not w32 bit) i) (apart i) (apart_not bit i)
+stays : (x s c : ℕ) → s ≡ 0 → c ≡ 1 → x < 2 → x ≡ min (max x s) c
+stays x s c none all small = omega arith
 
-changed_apart : (sets : Bool) (bits : Bits) (bit : ℕ) → Apart bits.set bits.clear
-    → Apart (with_flag bits (record { set = sets; bit = bit })).set (with_flag bits (record { set = sets; bit = bit })).clear
-unfolding with_flag
-changed_apart true bits bit apart = set_apart bits.set bits.clear bit apart
-changed_apart false bits bit apart = clear_apart bits.set bits.clear bit apart
+absent : (x s c : ℕ) → s ≡ 0 → x ≡ 0 → x ≡ min (max x s) c
+absent x s c none zeros = omega arith
 
-flags_apart : (bits : Bits) (changes : List FlagChange) → Apart bits.set bits.clear → Apart (fold with_flag bits changes).set (fold with_flag bits changes).clear
-flags_apart bits [] apart = apart
-flags_apart bits (change ∷ changes) apart = flags_apart (with_flag bits change) changes (changed_apart change.set bits change.bit apart)
+begun_at : (a i : ℕ) → a < 2 ^ 32 → (i < 32) ⊎ (32 ≤ i) → Between a 0 4294967295 a i
+begun_at a i short (inl low) = stays (bit_at a i) (bit_at 0 i) (bit_at 4294967295 i) (bit_at-zero i) (bit_at_ones 32 i low) (bit_at-lt a i)
+begun_at a i short (inr high) = absent (bit_at a i) (bit_at 0 i) (bit_at 4294967295 i) (bit_at-zero i) (bit_at_above a 32 i short high)
 
-none_apart : Apart 0 0
-unfolding Apart
-none_apart i = omega (arith, bit_at-zero i)
+flags_between : (a i : ℕ) (changes : List FlagChange) → a < 2 ^ 32 → Between a (with_flags 0 changes) (with_flags 4294967295 changes) (with_flags a changes) i
+unfolding with_flags
+flags_between a i changes short = all_between a 0 4294967295 a i changes (begun_at a i short (cases_lt i 32))
 
-apart_is : (a b : ℕ) → Apart a b → bit_and a b ≡ 0
-unfolding Apart
-apart_is a b apart = same_from_bits (bit_and a b) 0 (λ i. bit_at_and a b i ∙ apart i ∙ sym (bit_at-zero i))
+-- ---- all flags
 
-limits_apart : (options : List Given) → bit_and (limits_of options).set (limits_of options).clear ≡ 0
-unfolding limits_of bits_of
-limits_apart options = apart_is _ _ (flags_apart (record { set = 0; clear = 0 }) (filter_map flag_of options) none_apart)
+-- flags add to any bits what they leave of none, and take from them what they take of all
+pub flags_by_bits : (a : ℕ) (changes : List FlagChange) → a < 2 ^ 32
+    → bit_and (bit_or a (with_flags 0 changes)) (with_flags 4294967295 changes) ≡ with_flags a changes
+flags_by_bits a changes short = same_from_bits _ _ (λ i.
+    bit_at_and (bit_or a (with_flags 0 changes)) (with_flags 4294967295 changes) i
+    ∙ ap (λ (n : ℕ). min n (bit_at (with_flags 4294967295 changes) i)) (bit_at_or a (with_flags 0 changes) i)
+    ∙ sym (flags_between a i changes short))
 
-good_apart : (good : Bool) (options : List Given) (limits : Limits) → (if good then Some (limits_of options) else None) ≡ Some limits
-    → bit_and limits.set limits.clear ≡ 0
-good_apart true options limits is =
-    let same : limits_of options ≡ limits = cc in
-    ap (λ (l : Limits). bit_and l.set l.clear) (sym same) ∙ limits_apart options
-good_apart false options limits is = absurd (cc)
+opposed : (b c : ℕ) → c ≡ 1 - b → b < 2 → min b c ≡ 0
+opposed b c e small = omega arith
 
-from_apart : (found : Option OptionParts) (limits : Limits) → limits_from found ≡ Some limits → bit_and limits.set limits.clear ≡ 0
-unfolding limits_by
-from_apart None limits is = absurd (cc)
-from_apart (Some parts) limits is = good_apart (length parts.rest == 0 && are_restrictions parts.options) parts.options limits is
+one_empty : (b c : ℕ) → b ≡ 0 → min b c ≡ 0
+one_empty b c e = omega arith
 
-words_apart : (words : List (List ℕ)) (limits : Limits) → limits_among words ≡ Some limits → bit_and limits.set limits.clear ≡ 0
-unfolding limits_among
-words_apart words limits is = from_apart (options_in (option_named restrictions true) words) limits is
+other_empty : (b c : ℕ) → c ≡ 0 → min b c ≡ 0
+other_empty b c e = omega arith
 
-found_apart : (found : Option Limits) (limits : Limits) → option_map (λ l. Some l) found ≡ Some (Some limits) → found ≡ Some limits
-found_apart None limits is = absurd (cc)
-found_apart (Some other) limits is = cc
+with_not : (n i : ℕ) → (n < 2 ^ 32) ⊎ (2 ^ 32 ≤ n) → (i < 32) ⊎ (32 ≤ i) → min (bit_at n i) (bit_at (bit_not w32 n) i) ≡ 0
+with_not n i (inl short) (inl low) = opposed (bit_at n i) (bit_at (bit_not w32 n) i) (bit_at_not w32 n i short low) (bit_at-lt n i)
+with_not n i (inl short) (inr high) = one_empty (bit_at n i) (bit_at (bit_not w32 n) i) (bit_at_above n 32 i short high)
+with_not n i (inr long) place =
+    let none : bit_not w32 n ≡ 0 = omega arith in
+    other_empty (bit_at n i) (bit_at (bit_not w32 n) i) (ap (λ (m : ℕ). bit_at m i) none ∙ bit_at-zero i)
+
+part_apart : (z s c n : ℕ) → s ≡ min (max z s) c → min c n ≡ 0 → min s n ≡ 0
+part_apart z s c n part none = omega arith
 
 -- no bit is forced both on and off
-pub all_apart : (words : List (List ℕ)) (limits : Limits) → limits_in words ≡ Some (Some limits) → bit_and limits.set limits.clear ≡ 0
-unfolding limits_in
-all_apart [] limits is = absurd (cc)
-all_apart (word ∷ words) limits is = words_apart (word ∷ words) limits (found_apart (limits_among (word ∷ words)) limits is)
+pub flags_apart : (changes : List FlagChange) → bit_and (with_flags 0 changes) (bit_not w32 (with_flags 4294967295 changes)) ≡ 0
+flags_apart changes = same_from_bits _ _ (λ i.
+    bit_at_and (with_flags 0 changes) (bit_not w32 (with_flags 4294967295 changes)) i
+    ∙ part_apart (bit_at 0 i) (bit_at (with_flags 0 changes) i) (bit_at (with_flags 4294967295 changes) i)
+    (bit_at (bit_not w32 (with_flags 4294967295 changes)) i) (flags_between 0 i changes (omega arith))
+    (with_not (with_flags 4294967295 changes) i (cases_lt (with_flags 4294967295 changes) (2 ^ 32)) (cases_lt i 32))
+    ∙ sym (bit_at-zero i))

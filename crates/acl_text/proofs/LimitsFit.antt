@@ -1,14 +1,19 @@
--- What restrictions force is a principal's to have.
-use Rattle.std.proofs.Common.{◌≡◌, Bool, true, false, ◌&&◌, ◌||◌, not, List, [], ◌∷◌, ℕ, length, Option, Some, None, option_map, fold, find, refl, subst, ◌∙◌}
-use Rattle.std.specs.Prelude.{IfSome, cond, if◌then◌else◌, is_none, nat_eq, ◌==◌}
+-- What restrictions force is a principal's to have, and what their flags do to it is what flags of a command do.
+use Rattle.std.proofs.Common.{◌≡◌, ◌^◌, ◌<◌, Bool, true, false, ◌&&◌, ◌||◌, not, List, [], ◌∷◌, ℕ, length, Option, Some, None, option_map, fold, find, refl, sym, ap, subst, ◌∙◌, arith}
+use Rattle.std.specs.Prelude.{IfSome, bit_and, bit_or, cond, if◌then◌else◌, is_none, nat_eq, ◌==◌}
+use Rattle.std.specs.Int.{bit_not}
+use Rattle.std.specs.Int.Width.{w32}
 use Rattle.std.specs.List.{filter_map, list_all}
 use Rattle.std.specs.Str.{bytes_eq}
 use Rattle.std.proofs.lemmas.Bool.{and_from, and_parts}
-use Rattle.princ_record.proofs.Attributes.{either_known, part_known}
+use Rattle.std.proofs.lemmas.Nat.{and_le_l, or_of_32}
+use Rattle.princ_record.proofs.Attributes.{attributes_short, either_known, part_known}
+use Rattle.acl_text.proofs.BitLemmas.{flags_apart, flags_by_bits}
 use Rattle.acl_text.specs.Limits.{IsLimits}
-use Rattle.acl_text.specs.Restrictions.{are_restrictions, bits_of, limits_among, limits_by, limits_from, limits_in, limits_of, restrictions, with_flag}
-use Rattle.acl_text.specs.declared.limits.Bits.{Bits}
+use Rattle.acl_text.specs.Restricting.{restricted}
+use Rattle.acl_text.specs.Restrictions.{are_restrictions, limits_among, limits_by, limits_from, limits_in, limits_of, restrictions}
 use Rattle.acl_text.specs.declared.limits.Limits.{Limits}
+use Rattle.acl_text.specs.declared.limits.Wanted.{Wanted}
 use Rattle.kadm_options.proofs.OptionLemmas.{read_is_spelled}
 use Rattle.kadm_options.proofs.OptionValueLemmas.{found_readable}
 use Rattle.kadm_options.specs.OptionValues.{AreReadable, HasValue, first_bad_in, flag_of, is_named, policy_by, policy_given}
@@ -20,7 +25,7 @@ use Rattle.kadm_options.specs.declared.options.Opening.TheVariants as opening
 use Rattle.kadm_options.specs.declared.options.OptionName.TheVariants.{Policy, ClearPolicy}
 use Rattle.kadm_options.specs.declared.options.ValueKind.{ValueKind}
 use Rattle.kadm_options.specs.declared.options.ValueKind.TheVariants as kind
-use Rattle.kadm_values.specs.Flags.{FlagRow, flag_change, flag_named, flag_rows, signed_bit}
+use Rattle.kadm_values.specs.Flags.{FlagRow, flag_change, flag_named, flag_rows, signed_bit, with_flag, with_flags}
 use Rattle.kadm_values.specs.declared.flags.FlagChange.{FlagChange}
 use Rattle.princ_record.specs.Princs.{IsPolicyOr, are_attributes}
 
@@ -110,21 +115,40 @@ options_fit (option ∷ options) rest words led =
 
 -- ---- flags
 
-set_known : (set : Bool) (bits : Bits) (bit : ℕ) → are_attributes bit ≡ true → are_attributes bits.set ≡ true
-    → are_attributes (with_flag bits (record { set = set; bit = bit })).set ≡ true
-unfolding with_flag
-set_known true bits bit known old = either_known bits.set bit old known
-set_known false bits bit known old = part_known bits.set _ old
-
-flags_known : (options : List Given) (bits : Bits) → AreFit options → are_attributes bits.set ≡ true
-    → are_attributes (fold with_flag bits (filter_map flag_of options)).set ≡ true
+-- what holds of some attributes and stays with each known flag holds behind all flags
+flags_keep : (P : ℕ → Type 0) → ((n : ℕ) (change : FlagChange) → are_attributes change.bit ≡ true → P n → P (with_flag n change))
+    → (options : List Given) (n : ℕ) → AreFit options → P n → P (fold with_flag n (filter_map flag_of options))
 unfolding is_fit
-flags_known [] bits fit old = old
-flags_known (given.Flag change ∷ options) bits fit old =
+flags_keep P each [] n fit old = old
+flags_keep P each (given.Flag change ∷ options) n fit old =
     let both = fit_parts (given.Flag change) options fit in
-    flags_known options (with_flag bits change) both.1 (set_known change.set bits change.bit both.0 old)
-flags_known (given.Alone option ∷ options) bits fit old = flags_known options bits (fit_parts (given.Alone option) options fit).1 old
-flags_known (given.Value setting word ∷ options) bits fit old = flags_known options bits (fit_parts (given.Value setting word) options fit).1 old
+    flags_keep P each options (with_flag n change) both.1 (each n change both.0 old)
+flags_keep P each (given.Alone option ∷ options) n fit old = flags_keep P each options n (fit_parts (given.Alone option) options fit).1 old
+flags_keep P each (given.Value setting word ∷ options) n fit old = flags_keep P each options n (fit_parts (given.Value setting word) options fit).1 old
+
+set_known : (set : Bool) (n bit : ℕ) → are_attributes bit ≡ true → are_attributes n ≡ true
+    → are_attributes (if set then bit_or n bit else bit_and n (bit_not w32 bit)) ≡ true
+set_known true n bit known old = either_known n bit old known
+set_known false n bit known old = part_known n (bit_not w32 bit) old
+
+none_known : are_attributes 0 ≡ true
+unfolding are_attributes
+none_known = refl
+
+flags_known : (options : List Given) → AreFit options → are_attributes (with_flags 0 (filter_map flag_of options)) ≡ true
+unfolding with_flags
+flags_known options fit =
+    flags_keep (λ n. are_attributes n ≡ true) (λ n change known old. set_known change.set n change.bit known old) options 0 fit none_known
+
+set_short : (set : Bool) (n bit : ℕ) → bit < 2 ^ 32 → n < 2 ^ 32 → (if set then bit_or n bit else bit_and n (bit_not w32 bit)) < 2 ^ 32
+set_short true n bit short old = or_of_32 n bit old short
+set_short false n bit short old = let less = and_le_l n (bit_not w32 bit) in omega arith
+
+flags_short : (options : List Given) → AreFit options → with_flags 4294967295 (filter_map flag_of options) < 2 ^ 32
+unfolding with_flags
+flags_short options fit =
+    flags_keep (λ n. n < 2 ^ 32) (λ n change known old. set_short change.set n change.bit (attributes_short change.bit known) old) options 4294967295 fit
+    (omega arith)
 
 -- ---- policies
 
@@ -161,40 +185,58 @@ policy_fits (given.Value setting word ∷ options) fit readable =
 
 -- ---- restrictions
 
-none_known : are_attributes 0 ≡ true
-unfolding are_attributes
-none_known = refl
-
 none_bad : {A : Type 0} (o : Option A) → is_none o ≡ true → o ≡ None
 none_bad None e = refl
 none_bad (Some x) e = absurd (cc)
 
 options_limit : (options : List Given) → AreFit options → are_restrictions options ≡ true → IsLimits (limits_of options)
-unfolding limits_of bits_of are_restrictions
+unfolding limits_of are_restrictions
 options_limit options fit are =
     let both = and_parts (are_single options) (is_none (first_bad_in options)) are in
     record {
-      set = flags_known options (record { set = 0; clear = 0 }) fit none_known;
+      set = flags_known options fit;
       policy = policy_fits options fit (found_readable options (none_bad (first_bad_in options) both.1));
     }
 
-good_limits : (whole good : Bool) (options : List Given) (limits : Limits) → (if whole && good then Some (limits_of options) else None) ≡ Some limits
-    → (good ≡ true → IsLimits (limits_of options)) → IsLimits limits
-good_limits true true options limits is fits = let same : limits_of options ≡ limits = cc in subst IsLimits same (fits refl)
-good_limits true false options limits is fits = absurd (cc)
-good_limits false good options limits is fits = absurd (cc)
+-- what words restrict, by their options
+record Restricts (words : List (List ℕ)) (parts : OptionParts) (limits : Limits) : Type 0 where
+  found : options_in (option_named restrictions true) words ≡ Some parts
+  are : are_restrictions parts.options ≡ true
+  limits_are : limits_of parts.options ≡ limits
 
-from_parts : (words : List (List ℕ)) (found : Option OptionParts) (limits : Limits) → options_in (option_named restrictions true) words ≡ found
-    → limits_from found ≡ Some limits → IsLimits limits
+restricts : (words : List (List ℕ)) (parts : OptionParts) (limits : Limits) (whole good : Bool)
+    → options_in (option_named restrictions true) words ≡ Some parts → are_restrictions parts.options ≡ good
+    → (if whole && good then Some (limits_of parts.options) else None) ≡ Some limits → Restricts words parts limits
+restricts words parts limits true true found are is = record { found = found; are = are; limits_are = cc }
+restricts words parts limits true false found are is = absurd (cc)
+restricts words parts limits false good found are is = absurd (cc)
+
+from_parts : (words : List (List ℕ)) (parts : OptionParts) (limits : Limits) → options_in (option_named restrictions true) words ≡ Some parts
+    → limits_from (Some parts) ≡ Some limits → Restricts words parts limits
 unfolding limits_by
-from_parts words None limits found is = absurd (cc)
-from_parts words (Some parts) limits found is =
-    let fit = options_fit parts.options parts.rest words (read_is_spelled (option_named restrictions true) words parts found).options in
-    good_limits (length parts.rest == 0) (are_restrictions parts.options) parts.options limits is (options_limit parts.options fit)
+from_parts words parts limits found is = restricts words parts limits (length parts.rest == 0) (are_restrictions parts.options) found refl is
+
+of_parts : (words : List (List ℕ)) (parts : OptionParts) (limits : Limits) → options_in (option_named restrictions true) words ≡ Some parts
+    → limits_among words ≡ Some limits → Restricts words parts limits
+unfolding limits_among
+of_parts words parts limits found is = from_parts words parts limits found (sym (ap limits_from found) ∙ is)
+
+found_parts : (words : List (List ℕ)) (limits : Limits) (found : Option OptionParts) → options_in (option_named restrictions true) words ≡ found
+    → limits_from found ≡ Some limits → (parts : OptionParts) × Restricts words parts limits
+found_parts words limits None found is = absurd (cc)
+found_parts words limits (Some parts) found is = (parts, from_parts words parts limits found is)
+
+some_parts : (words : List (List ℕ)) (limits : Limits) → limits_among words ≡ Some limits → (parts : OptionParts) × Restricts words parts limits
+unfolding limits_among
+some_parts words limits is = found_parts words limits (options_in (option_named restrictions true) words) refl is
+
+parts_fit : (words : List (List ℕ)) (parts : OptionParts) (limits : Limits) → Restricts words parts limits → AreFit parts.options
+parts_fit words parts limits r = options_fit parts.options parts.rest words (read_is_spelled (option_named restrictions true) words parts r.found).options
 
 words_limit : (words : List (List ℕ)) (limits : Limits) → limits_among words ≡ Some limits → IsLimits limits
-unfolding limits_among
-words_limit words limits is = from_parts words (options_in (option_named restrictions true) words) limits refl is
+words_limit words limits is =
+    let some = some_parts words limits is in
+    subst IsLimits some.1.limits_are (options_limit some.0.options (parts_fit words some.0 limits some.1) some.1.are)
 
 found_limits : (words : List (List ℕ)) (found : Option Limits) (limits : Option Limits) → limits_among words ≡ found
     → option_map (λ l. Some l) found ≡ Some limits → IfSome limits IsLimits
@@ -208,3 +250,44 @@ pub limits_fit : (words : List (List ℕ)) (limits : Option Limits) → limits_i
 unfolding limits_in
 limits_fit [] limits is = let same : None ≡ limits = cc in subst (λ (o : Option Limits). IfSome o IsLimits) same tt
 limits_fit (word ∷ words) limits is = found_limits (word ∷ words) (limits_among (word ∷ words)) limits refl is
+
+-- ---- flags in force
+
+in_words : (words : List (List ℕ)) (found : Option Limits) (limits : Limits) → limits_among words ≡ found → option_map (λ l. Some l) found ≡ Some (Some limits)
+    → limits_among words ≡ Some limits
+in_words words None limits is e = absurd (cc)
+in_words words (Some other) limits is e = let same : Some other ≡ Some limits = cc in is ∙ same
+
+are_among : (words : List (List ℕ)) (limits : Limits) → limits_in words ≡ Some (Some limits) → limits_among words ≡ Some limits
+unfolding limits_in
+are_among [] limits is = absurd (cc)
+are_among (word ∷ words) limits is = in_words (word ∷ words) (limits_among (word ∷ words)) limits refl is
+
+bits_apart : (options : List Given) → bit_and (limits_of options).set (limits_of options).clear ≡ 0
+unfolding limits_of
+bits_apart options = flags_apart (filter_map flag_of options)
+
+-- no bit is forced both on and off
+pub all_apart : (words : List (List ℕ)) (limits : Limits) → limits_in words ≡ Some (Some limits) → bit_and limits.set limits.clear ≡ 0
+all_apart words limits is =
+    let some = some_parts words limits (are_among words limits is) in
+    ap (λ (l : Limits). bit_and l.set l.clear) (sym some.1.limits_are) ∙ bits_apart some.0.options
+
+not_twice : (n : ℕ) → n < 2 ^ 32 → bit_not w32 (bit_not w32 n) ≡ n
+not_twice n short = omega arith
+
+in_force : (options : List Given) (secs : ℕ) (wanted : Wanted) → AreFit options → wanted.attributes < 2 ^ 32
+    → (restricted (limits_of options) secs wanted).attributes ≡ with_flags wanted.attributes (filter_map flag_of options)
+unfolding limits_of restricted
+in_force options secs wanted fit short =
+    let changes = filter_map flag_of options in
+    ap (λ (n : ℕ). bit_and (bit_or wanted.attributes (with_flags 0 changes)) n) (not_twice (with_flags 4294967295 changes) (flags_short options fit))
+    ∙ flags_by_bits wanted.attributes changes short
+
+-- the flags of restrictions are put in force as those of a command
+pub flags_in_force : (words : List (List ℕ)) (parts : OptionParts) (limits : Limits) (secs : ℕ) (wanted : Wanted)
+    → options_in (option_named restrictions true) words ≡ Some parts → limits_in words ≡ Some (Some limits) → wanted.attributes < 2 ^ 32
+    → (restricted limits secs wanted).attributes ≡ with_flags wanted.attributes (filter_map flag_of parts.options)
+flags_in_force words parts limits secs wanted found is short =
+    let r = of_parts words parts limits found (are_among words limits is) in
+    ap (λ (l : Limits). (restricted l secs wanted).attributes) (sym r.limits_are) ∙ in_force parts.options secs wanted (parts_fit words parts limits r) short

@@ -1,18 +1,17 @@
 -- The restrictions of a line: options of addprinc and modprinc that are put in force.
-use Rattle.std.specs.Prelude.{ℕ, Bool, true, ◌==◌, ◌&&◌, List, [], ◌∷◌, fold, length, Option, Some, None, is_none, option_map, if◌then◌else◌, bit_and, bit_or}
+use Rattle.std.specs.Prelude.{ℕ, Bool, true, ◌==◌, ◌&&◌, List, [], ◌∷◌, length, Option, Some, None, is_none, option_map, if◌then◌else◌}
 use Rattle.std.specs.Int.{bit_not}
 use Rattle.std.specs.Int.Width.{w32}
 use Rattle.std.specs.List.{filter_map}
 use Rattle.kadm_options.specs.OptionValues.{first_bad_in, flag_of, policy_given, seconds_given}
 use Rattle.kadm_options.specs.Options.{OptionParts, are_single, option_named, options_in}
-use Rattle.kadm_values.specs.declared.flags.FlagChange.{FlagChange}
+use Rattle.kadm_values.specs.Flags.{with_flags}
 use Rattle.kadm_options.specs.declared.options.Given.{Given}
 use Rattle.kadm_options.specs.declared.options.Opening.{Opening}
 use Rattle.kadm_options.specs.declared.options.Opening.TheVariants.{Alone, Value}
 use Rattle.kadm_options.specs.declared.options.OptionName.TheVariants as option
 use Rattle.kadm_options.specs.declared.options.ValueKind.TheVariants.{Duration, PolicyName}
 use Rattle.kdb_base.specs.declared.outcomes.Field.TheVariants as field
-use Rattle.acl_text.specs.declared.limits.Bits.{Bits}
 use Rattle.acl_text.specs.declared.limits.Limits.{Limits}
 
 -- ---- the words
@@ -34,19 +33,12 @@ are_restrictions options = are_single options && is_none (first_bad_in options)
 
 -- ---- what they put in force
 
-unfoldable pub with_flag : Bits → FlagChange → Bits
-with_flag bits change =
-    if change.set then record { set = bit_or bits.set change.bit; clear = bit_and bits.clear (bit_not w32 change.bit) }
-    else record { set = bit_and bits.set (bit_not w32 change.bit); clear = bit_or bits.clear change.bit }
-
--- from left to right, so that the later flag on a bit counts
-unfoldable pub bits_of : List FlagChange → Bits
-bits_of changes = fold with_flag (record { set = 0; clear = 0 }) changes
-
+-- the flags are those of a command, of which the last one on a bit counts: what they leave of no bits is forced on, and what they take of all
+-- bits is forced off
 unfoldable pub limits_of : List Given → Limits
 limits_of options = record {
-  set = (bits_of (filter_map flag_of options)).set;
-  clear = (bits_of (filter_map flag_of options)).clear;
+  set = with_flags 0 (filter_map flag_of options);
+  clear = bit_not w32 (with_flags 4294967295 (filter_map flag_of options));
   policy = policy_given options;
   expire = seconds_given option.Expire options;
   pw_expire = seconds_given option.PwExpire options;

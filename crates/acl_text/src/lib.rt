@@ -9,8 +9,6 @@ mod letters;
 pub mod limits;
 mod rules;
 mod targets;
-#[cfg(test)]
-mod tests;
 mod texts;
 
 pub use acl::{Acl, Verdict};

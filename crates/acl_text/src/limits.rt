@@ -2,13 +2,13 @@
 
 ghost use Rattle.std.specs.Prelude.{◌≡◌, IfOk, OnErr, OnOk, is_some, option_map, true, unwrap_or};
 ghost use Rattle.acl_text.specs.Restricting.{counted_from, lesser, names_policy, restricted};
-ghost use Rattle.acl_text.specs.Restrictions.{are_restrictions, bits_of, limits_among, limits_by, limits_of, restrictions, with_flag};
+ghost use Rattle.acl_text.specs.Restrictions.{are_restrictions, limits_among, limits_by, limits_of, restrictions};
 
 use kadm_options::{
     Given, Opening, OptionName, Setting, ValueKind, are_single, find_policy, find_seconds,
     first_bad, flags_among, read_options,
 };
-use kadm_values::FlagChange;
+use kadm_values::with_flags;
 use kdb_base::{Blob, Field, MemoryOut, Time};
 use std::alloc::Global;
 
@@ -48,13 +48,6 @@ pub struct Wanted {
     pub max_renew: u32,
 }
 
-// The bits that are forced on, and those that are forced off.
-#[derive(Clone, Copy, Debug)]
-struct Bits {
-    set: u32,
-    clear: u32,
-}
-
 // What a line may have behind its target, beside flags.
 static RESTRICTIONS: [Opening; 6] = [
     Opening::Alone(OptionName::ClearPolicy),
@@ -92,46 +85,17 @@ fn known_restrictions() -> &'static [Opening; 6]
     &RESTRICTIONS
 }
 
-// The bits with one more flag, which counts for more than those before it.
-#[tactic(auto, unfolding(crate::specs::Restrictions::with_flag))]
-fn with_flag(bits: &Bits, change: &FlagChange) -> Bits
-    ensures { result ≡ with_flag bits.now change.now }
-{
-    if change.set {
-        Bits {
-            set: bits.set | change.bit,
-            clear: bits.clear & !change.bit,
-        }
-    } else {
-        Bits {
-            set: bits.set & !change.bit,
-            clear: bits.clear | change.bit,
-        }
-    }
-}
-
-#[tactic(auto, unfolding(crate::specs::Restrictions::bits_of))]
-fn bits_of(changes: &[FlagChange]) -> Bits
-    ensures { result ≡ bits_of changes.now }
-{
-    let mut bits = Bits { set: 0, clear: 0 };
-    for change in changes {
-        let next = with_flag(&bits, change);
-        bits = next;
-    }
-    bits
-}
-
+// The flags are those of a command: what they leave of no bits is forced on, and what they take of all bits is
+// forced off.
 #[tactic(auto, unfolding(crate::specs::Restrictions::limits_of))]
 fn limits_of(alloc: Global, options: &[Given]) -> Result<Limits, MemoryOut>
     ensures { IfOk result (λ limits. limits ≡ limits_of options.now) }
 {
     let changes = flags_among(alloc, options)?;
-    let bits = bits_of(&changes);
     let policy = find_policy(alloc, options)?;
     Ok(Limits {
-        set: bits.set,
-        clear: bits.clear,
+        set: with_flags(0, &changes),
+        clear: !with_flags(u32::MAX, &changes),
         policy,
         expire: find_seconds(OptionName::Expire, options),
         pw_expire: find_seconds(OptionName::PwExpire, options),

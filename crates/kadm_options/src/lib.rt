@@ -12,5 +12,6 @@ mod tests;
 pub use arguments::{LeadingOptions, read_options};
 pub use options::{
     Given, Opening, OptionName, Setting, ValueKind, are_single, is_chosen, is_dashes, is_given,
+    is_signed,
 };
 pub use settings::{find_policy, find_seconds, find_word, first_bad, flags_among, read_within};

@@ -70,7 +70,7 @@ pub enum ValueKind {
     /// The word of one encryption type.
     OneEtype,
     /// A number from the one to the other.
-    Number(u16, u16),
+    Number(u32, u32),
 }
 
 /// An option whose value is the next word.
@@ -214,9 +214,9 @@ pub fn is_dashes(word: &[u8]) -> bool
     is_same(word, b"--".as_slice())
 }
 
-// Whether the word begins as options do.
+/// Whether the word begins as options do, with `-` or `+`.
 #[tactic(auto, unfolding(crate::specs::Options::is_signed))]
-fn is_signed(word: &[u8]) -> bool
+pub fn is_signed(word: &[u8]) -> bool
     ensures { result ≡ is_signed word.now }
 {
     match word {

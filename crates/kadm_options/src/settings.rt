@@ -1,6 +1,6 @@
 //! The values of options.
 
-ghost use Rattle.std.specs.Prelude.{◌≡◌, IfOk, is_some, option_map};
+ghost use Rattle.std.specs.Prelude.{◌≡◌, ◌≤◌, IfOk, IfSome, is_some, option_map};
 ghost use Rattle.kadm_values.specs.EtypeWords.{etypes_in};
 ghost use Rattle.std.specs.List.{filter_map};
 ghost use Rattle.kadm_options.specs.OptionValues.{bad_in, first_bad_in, flag_of, is_readable, number_within, policy_by, policy_given, seconds_by, seconds_given, seconds_of, word_by, word_given};
@@ -13,13 +13,14 @@ use std::alloc::Global;
 
 /// The number of a word, where it is one from the least to the greatest.
 #[tactic(auto, unfolding(crate::specs::OptionValues::number_within))]
-pub fn read_within(least: u16, most: u16, word: &[u8]) -> Option<u16>
-    ensures { result ≡ number_within least most word.now }
+pub fn read_within(least: u32, most: u32, word: &[u8]) -> Option<u32>
+    ensures value { result ≡ number_within least most word.now }
+    ensures within { IfSome result (λ number. (least ≤ number) × (number ≤ most)) }
 {
     match read_number(word) {
         Some(number) => {
             if u64::from(least) <= number && number <= u64::from(most) {
-                Some(number as u16)
+                Some(number as u32)
             } else {
                 None
             }

@@ -1,6 +1,7 @@
 use crate::{
     Given, Opening, OptionName, Setting, ValueKind, are_single, find_policy, find_seconds,
-    find_word, first_bad, flags_among, is_chosen, is_dashes, is_given, read_options, read_within,
+    find_word, first_bad, flags_among, is_chosen, is_dashes, is_given, is_signed, read_options,
+    read_within,
 };
 use kadm_values::FlagChange;
 use kdb_base::{Blob, Field, MemoryOut};
@@ -82,6 +83,7 @@ fn options_end(rt: HostRuntime) -> Result<(), Fail> {
     let words = words_of(rt.alloc(), b"+needchange")?;
     assert!(rt; read_options(rt.alloc(), &KNOWN, false, &words)?.is_none());
     assert!(rt; is_dashes(b"--") && !is_dashes(b"-"));
+    assert!(rt; is_signed(b"-") && is_signed(b"+x") && !is_signed(b"x-") && !is_signed(b""));
     Ok(())
 }
 
@@ -147,7 +149,25 @@ fn kinds(rt: HostRuntime) -> Result<(), Fail> {
     assert!(rt; is_given(OptionName::Password, &options));
     assert!(rt; is_chosen(OptionName::NoKey, &options));
     assert!(rt; !is_given(OptionName::NoKey, &options));
-    assert_eq!(rt; read_within(1, 16, b"3"), Some(3));
+    Ok(())
+}
+
+/// Words, the range of each, and the number that they spell in it.
+const RANGED: [(u32, u32, &[u8], Option<u32>); 7] = [
+    (1, 16, b"3", Some(3)),
+    (0, 0, b"0", Some(0)),
+    (2, 10_000, b"10001", None),
+    (1, 4_294_967_295, b"0", None),
+    (1, 4_294_967_295, b"4294967295", Some(4_294_967_295)),
+    (1, 4_294_967_295, b"4294967296", None),
+    (1, 4_294_967_295, b"-1", None),
+];
+
+#[test]
+fn numbers(rt: HostRuntime) -> Result<(), Fail> {
+    for (least, most, word, expected) in RANGED.iter() {
+        assert_eq!(rt; read_within(*least, *most, word), *expected, "{word:?}");
+    }
     Ok(())
 }
 

@@ -44,6 +44,10 @@ of_number Aes256 = refl
 of_number Aes128Sha2 = refl
 of_number Aes256Sha2 = refl
 
+-- types of one number are one
+pub same_etype : (a b : Etype) → number_of a ≡ number_of b → a ≡ b
+same_etype a b e = same_Some a b (sym (of_number a) ∙ ap etype_of e ∙ of_number b)
+
 pub small_number : (t : Etype) → number_of t < 2 ^ 16
 small_number Aes128 = omega arith
 small_number Aes256 = omega arith

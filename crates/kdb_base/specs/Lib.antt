@@ -5,6 +5,7 @@ pub mod Outcomes
 pub mod Etypes
 pub mod EtypeLaws
 pub mod Key
+pub mod KeyLaws
 pub mod Limits
 pub mod KeyBytes
 pub mod Versions

@@ -1,5 +1,8 @@
 ghost use Rattle.std.specs.Prelude.{◌≡◌, length};
+ghost use Rattle.std.proofs.Common.{rules};
+ghost use Rattle.std.specs.Cmp.Rules.{comparing};
 ghost use Rattle.kdb_base.specs.Etypes.{key_len, tag_len, product_rounds, number_of, etype_of};
+ghost use Rattle.kdb_base.specs.Key.{is_same_key};
 
 use crate::blobs::Blob;
 use std::marker::Model;
@@ -87,7 +90,7 @@ pub enum Salt {
 }
 
 /// A key in the plain. Contracts see its encryption type and as many bytes as keys of that type have.
-#[derive(Clone, Copy, PartialEq, Eq)]
+#[derive(Clone, Copy)]
 pub struct PlainKey {
     etype: Etype,
     // Zeros follow a shorter key.
@@ -140,4 +143,19 @@ impl PlainKey {
     {
         &self.bytes[..self.etype.key_len()]
     }
+}
+
+/// Keys are one where their encryption types and their bytes are.
+impl PartialEq for PlainKey {
+    ghost eq = { is_same_key };
+
+    ghost laws = { Prim.search (comparing, rules) };
+
+    fn eq(&self, other: &PlainKey) -> bool {
+        self.etype() == other.etype() && self.as_slice() == other.as_slice()
+    }
+}
+
+impl Eq for PlainKey {
+    ghost laws = { Prim.search (comparing, rules) };
 }

@@ -6,6 +6,7 @@ pub mod blobs;
 pub mod extracts;
 pub mod fails;
 pub mod keys;
+pub mod laws;
 pub mod limits;
 pub mod moments;
 pub mod outcomes;

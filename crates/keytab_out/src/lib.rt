@@ -15,6 +15,3 @@ pub use reading::read_keytab;
 pub use removing::{Which, has_entry, remove_entries};
 pub use stash_file::Entry as KeytabEntry;
 pub use writing::write_keytab;
-
-#[cfg(test)]
-mod tests;

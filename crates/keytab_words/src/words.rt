@@ -1,15 +1,13 @@
 //! The words behind `ktremove` and `ktadd`.
 
 ghost use Rattle.std.specs.Prelude.{◌≡◌, IfOk, IfSome, Some, option_map};
-ghost use Rattle.std.specs.Str.{bytes_eq};
-ghost use Rattle.kadm_options.specs.OptionValues.{number_within};
-ghost use Rattle.kadm_options.specs.Options.{is_signed};
 ghost use Rattle.kadm_values.specs.EtypeWords.{etypes_in};
 ghost use Rattle.keytab_words.specs.Words.{AreTypes, AreValid, addition_by, addition_of, default_etypes, ktadd_in, ktremove_by, ktremove_in, listed_in, plain_words, removal_by, removal_of, renewal_by, renewal_in, renewal_of, standing_in, which_in};
 
 use crate::names::read_whole_name;
-use kadm_options::is_dashes;
-use kadm_values::{read_etypes, read_number};
+use kadm_options::{is_dashes, is_signed, read_within};
+use kadm_values::bytes::is_same;
+use kadm_values::read_etypes;
 use kdb_base::{Blob, Etype, Field, MemoryOut, Refusal};
 use keytab_out::Which;
 use plain_keys::Etypes;
@@ -31,24 +29,6 @@ pub enum KeytabWords {
 /// The most bytes of a word that is a name, as of a line.
 const LONGEST_WORD: usize = 65_536;
 
-// The words are text by text.
-fn is_word(word: &[u8], text: &[u8]) -> bool
-    ensures { result ≡ bytes_eq word.now text.now }
-{
-    word == text
-}
-
-// Whether the word begins as options do.
-#[tactic(auto, unfolding(kadm_options::specs::Options::is_signed))]
-fn is_signed(word: &[u8]) -> bool
-    ensures { result ≡ is_signed word.now }
-{
-    match word {
-        [byte, ..] => *byte == b'-' || *byte == b'+',
-        [] => false,
-    }
-}
-
 // The words behind the options, of which there are none; nothing, where one stands there.
 #[tactic(auto, unfolding(crate::specs::Words::plain_words))]
 fn plain_words(words: &[Blob]) -> Option<&[Blob]>
@@ -68,35 +48,18 @@ fn plain_words(words: &[Blob]) -> Option<&[Blob]>
     }
 }
 
-// A version of keys, 1 to 4294967295.
-#[tactic(auto, unfolding(kadm_options::specs::OptionValues::number_within))]
-fn read_version(word: &[u8]) -> Option<u32>
-    ensures { result ≡ number_within 1 4294967295 word.now }
-{
-    match read_number(word) {
-        Some(number) => {
-            if 1 <= number && number <= 4_294_967_295 {
-                Some(number as u32)
-            } else {
-                None
-            }
-        }
-        None => None,
-    }
-}
-
 // Which entries of a name a word names.
 #[tactic(auto, unfolding(crate::specs::Words::which_in))]
 fn which_in(word: &[u8]) -> Option<Which>
     ensures { result ≡ which_in word.now }
 {
-    if is_word(word, b"all") {
+    if is_same(word, b"all") {
         return Some(Which::All);
     }
-    if is_word(word, b"old") {
+    if is_same(word, b"old") {
         return Some(Which::Older);
     }
-    match read_version(word) {
+    match read_within(1, u32::MAX, word) {
         Some(version) => Some(Which::One(version)),
         None => None,
     }
@@ -308,10 +271,10 @@ pub fn read_ktadd(alloc: Global, words: &[Blob]) -> Result<Result<KeytabWords, R
     match words {
         [] => Ok(Err(Refusal::BadLine)),
         [word, rest @ ..] => {
-            if is_word(word.as_slice(), b"-norandkey") {
+            if is_same(word.as_slice(), b"-norandkey") {
                 return read_standing(alloc, rest);
             }
-            if is_word(word.as_slice(), b"-e") {
+            if is_same(word.as_slice(), b"-e") {
                 return read_listed(alloc, rest);
             }
             read_default(alloc, words)

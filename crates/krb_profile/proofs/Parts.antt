@@ -22,8 +22,8 @@ long_key Aes128Sha2 bytes long = inl long
 long_key Aes256Sha2 bytes long = inr long
 
 -- a tag of the types of RFC 3962
-pub short_tag : (etype : Etype) → is_sha2 etype ≡ false → tag_len etype ≤ 12
-short_tag Aes128 other = omega arith
-short_tag Aes256 other = omega arith
-short_tag Aes128Sha2 other = absurd cc
-short_tag Aes256Sha2 other = absurd cc
+pub tag_is_twelve : (etype : Etype) → is_sha2 etype ≡ false → tag_len etype ≡ 12
+tag_is_twelve Aes128 other = refl
+tag_is_twelve Aes256 other = refl
+tag_is_twelve Aes128Sha2 other = absurd cc
+tag_is_twelve Aes256Sha2 other = absurd cc

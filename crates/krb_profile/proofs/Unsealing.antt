@@ -10,13 +10,13 @@ use Rattle.krb_hmac.proofs.Lengths.{length-hmac}
 use Rattle.sha2_profile.specs.Sha2.{is_sha2}
 use Rattle.sha2_profile.proofs.Parts.{begins, ends, joined_is}
 use Rattle.krb_profile.specs.Sha1.{encryption_key, integrity_key, tag, sealed, IsSealed}
-use Rattle.krb_profile.proofs.Parts.{short_tag}
+use Rattle.krb_profile.proofs.Parts.{tag_is_twelve}
 
 pub length-tag : (key : Key) (usage : ℕ) (text : List ℕ) → is_sha2 key.etype ≡ false → length (tag key usage text) ≡ tag_len key.etype
 unfolding tag
 length-tag key usage text other =
     let digest = length-hmac (integrity_key key usage) text in
-    length-take-le (tag_len key.etype) (hmac (integrity_key key usage) text) (omega (arith, digest, short_tag key.etype other))
+    length-take-le (tag_len key.etype) (hmac (integrity_key key usage) text) (omega (arith, digest, tag_is_twelve key.etype other))
 
 -- the two parts that are written
 pub sealed_in_parts : (key : Key) (usage n : ℕ) (confounder plain text cipher found : List ℕ) → text ≡ confounder ++ plain →

@@ -105,10 +105,10 @@ impl Sha1Keys {
         }
     }
 
-    /// The bytes of a tag under a key of these types.
+    /// The bytes of a tag under a key of these types: 12 (RFC 3962, section 6).
     fn tag_len(&self) -> usize
         ensures exact { result ≡ tag_len self.now.key.etype }
-        ensures short { result ≤ 12 }
+        ensures twelve { result ≡ 12 }
         ensures kind { is_sha2 self.now.key.etype ≡ false }
     {
         self.key.etype().tag_len()

@@ -11,4 +11,5 @@ pub mod Spelled
 pub mod PurgedSpelled
 pub mod AddedSpelled
 pub mod OneKey
+pub mod OtherKeys
 pub mod NewActivations

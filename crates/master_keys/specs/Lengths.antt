@@ -1,7 +1,7 @@
 -- How long wrapped keys are.
 use Rattle.std.proofs.Common.{◌≡◌, ℕ, ◌^◌, ◌<◌, ◌≤◌, List, length, ap, arith}
 use Rattle.std.proofs.lemmas.List.{length-append}
-use Rattle.kdb_base.specs.Etypes.{key_len, tag_len}
+use Rattle.kdb_base.specs.Etypes.{key_len}
 use Rattle.kdb_base.specs.EtypeLaws.{key_fits, tag_fits}
 use Rattle.kdb_base.specs.Key.{Key}
 use Rattle.kdb_base.specs.declared.keys.Etype.{Etype}

@@ -8,7 +8,6 @@ ghost use Rattle.kdb_base.specs.declared.versions.Master.{Master};
 ghost use Rattle.master_keys.specs.Chain.{IsAuxOf, IsChain, IsKeyOf};
 
 use crate::faults::Unopened;
-use crate::opening::is_same;
 use crate::wrapping::MasterKey;
 use kdb_base::{AuxKey, Master, Masters, MemoryOut, PlainKey};
 use princ_record::{KeyItem, Princ};
@@ -41,7 +40,7 @@ fn check_key(
         return Err(Unopened::Wrong);
     }
     let opened = newest.unwrap(alloc, item.etype, item.wrapped.as_slice())?;
-    if !is_same(&opened, &master.key) {
+    if opened != master.key {
         return Err(Unopened::Wrong);
     }
     Ok(())
@@ -81,7 +80,7 @@ fn check_aux(alloc: Global, newest: &PlainKey, aux: &AuxKey, older: &Master) -> 
         return Err(Unopened::Wrong);
     }
     let opened = MasterKey::new(&older.key).unwrap(alloc, aux.etype, aux.wrapped.as_slice())?;
-    if !is_same(&opened, newest) {
+    if opened != *newest {
         return Err(Unopened::Wrong);
     }
     Ok(())

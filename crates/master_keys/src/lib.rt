@@ -18,8 +18,5 @@ pub use first::new_chain;
 pub use judging::holds_chain;
 pub use opening::open_with;
 pub use purging::purge;
-pub use rewrapping::{open_keys, rewrap, wrap_items};
+pub use rewrapping::{open_keys, rewrap, rewrap_by, wrap_items};
 pub use wrapping::{MasterKey, unwrap, wrap};
-
-#[cfg(test)]
-mod tests;

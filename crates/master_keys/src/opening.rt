@@ -20,13 +20,6 @@ fn has_version(keys: &[KeyItem], version: u16) -> bool
     keys.iter().any(|item| item.kvno == version)
 }
 
-/// Whether two keys are one.
-pub(crate) fn is_same(a: &PlainKey, b: &PlainKey) -> bool
-    ensures { IsTrue result ↔ (a.now ≡ b.now) }
-{
-    a.etype() == b.etype() && a.as_slice() == b.as_slice()
-}
-
 /// The auxiliary key of this version.
 fn find_aux(list: &[AuxKey], version: u16) -> Option<&AuxKey>
     ensures some { IfSome result (λ aux. Contains list.now aux.now) }
@@ -102,7 +95,9 @@ fn has_master(masters: &[Master], version: u16, key: &PlainKey) -> bool
     ensures yes { IsTrue result → Lists masters.now version key.now }
     ensures no { result ≡ false → All (λ m. m ≢ record { version = version; key = key.now }) masters.now }
 {
-    masters.iter().any(|master| master.version == version && is_same(&master.key, key))
+    masters
+        .iter()
+        .any(|master| master.version == version && master.key == *key)
 }
 
 /// The master keys of the entry, by the key of this version.

@@ -3,6 +3,7 @@
 ghost use Rattle.std.specs.Prelude.{◌≡◌, ◌≢◌, ℕ, ◌+◌, ◌*◌, ◌<◌, ◌≤◌, List, Err, None, IfErr, IfOk, MatchResult, length};
 ghost use Rattle.std.specs.List.{All, AllZip};
 ghost use Rattle.kdb_base.specs.Key.{Key};
+ghost use Rattle.kdb_base.specs.Limits.{most_keys};
 ghost use Rattle.princ_record.specs.Princs.{IsPrinc};
 ghost use Rattle.master_keys.specs.Rewrapping.{HoldNotAll, Holds, HoldsOne, IsRewrapped, confounder, with_key, with_keys};
 
@@ -120,20 +121,21 @@ pub(crate) fn with_master(
 
 /// The record with each of its keys wrapped anew, under the master key `fresh` of this version in place of
 /// `old`. The first 16 bytes of `random` are the first key's confounder, the next 16 the second's, and so on.
+/// Nothing is derived here, so who goes through many records derives once.
 ///
 /// # Errors
 ///
 /// `StashWrong` where some key does not unwrap under `old`, and `MemoryOut` where memory is wanted and not
 /// given.
-pub fn rewrap(
+pub fn rewrap_by(
     alloc: Global,
     princ: &Princ,
-    old: &PlainKey,
+    old: &MasterKey,
     version: u16,
-    fresh: &PlainKey,
+    fresh: &MasterKey,
     random: &[u8; 512],
 ) -> Result<Princ, ChainFault>
-    requires { length princ.now.keys ≤ 32 }
+    requires { length princ.now.keys ≤ most_keys }
     ensures ok { IfOk result (λ p. IsRewrapped princ.now old.now version fresh.now random.now p) }
     // The keys that it held under `old` it holds under `fresh`.
     ensures only { (plain : List Key) → AllZip (Holds old.now) princ.now.keys plain → IfOk result (λ p. AllZip (Holds fresh.now) p.keys plain) }
@@ -145,16 +147,45 @@ pub fn rewrap(
     ensures known { (asked : ℕ) → result ≢ Err (ChainFault.UnknownMaster asked) }
 {
     let items = princ.keys.as_slice();
-    let keys = match open_keys(alloc, &MasterKey::new(old), items) {
+    let keys = match open_keys(alloc, old, items) {
         Ok(keys) => keys,
         Err(fault) => return Err(ChainFault::from(fault)),
     };
-    let fresh = MasterKey::new(fresh);
-    let Ok(keys) = wrap_items(alloc, &fresh, random, 0, items, &keys) else {
+    let Ok(keys) = wrap_items(alloc, fresh, random, 0, items, &keys) else {
         return Err(ChainFault::MemoryOut);
     };
     match with_master(alloc, princ, version, keys) {
         Ok(rewrapped) => Ok(rewrapped),
         Err(MemoryOut) => Err(ChainFault::MemoryOut),
     }
+}
+
+/// The record with each of its keys wrapped anew, as `rewrap_by` does it, by master keys from which nothing is
+/// derived yet.
+///
+/// # Errors
+///
+/// Those of `rewrap_by`.
+pub fn rewrap(
+    alloc: Global,
+    princ: &Princ,
+    old: &PlainKey,
+    version: u16,
+    fresh: &PlainKey,
+    random: &[u8; 512],
+) -> Result<Princ, ChainFault>
+    requires { length princ.now.keys ≤ most_keys }
+    ensures ok { IfOk result (λ p. IsRewrapped princ.now old.now version fresh.now random.now p) }
+    // The keys that it held under `old` it holds under `fresh`.
+    ensures only { (plain : List Key) → AllZip (Holds old.now) princ.now.keys plain → IfOk result (λ p. AllZip (Holds fresh.now) p.keys plain) }
+    // A record other than K/M's that has a spelling gets one, under a version from 1.
+    ensures spelled { IsPrinc princ.now → princ.now.chain ≡ None → 0 < version → IfOk result (λ p. IsPrinc p) }
+    // Where each key unwraps, only memory can be wanted.
+    ensures complete { All (HoldsOne old.now) princ.now.keys → IfErr result (λ fault. fault ≡ ChainFault.MemoryOut) }
+    ensures wrong { result ≡ Err ChainFault.StashWrong → HoldNotAll old.now princ.now.keys }
+    ensures known { (asked : ℕ) → result ≢ Err (ChainFault.UnknownMaster asked) }
+{
+    let old = MasterKey::new(old);
+    let fresh = MasterKey::new(fresh);
+    rewrap_by(alloc, princ, &old, version, &fresh, random)
 }

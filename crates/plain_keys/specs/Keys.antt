@@ -2,13 +2,13 @@
 use Rattle.std.specs.Prelude.{ℕ, ◌+◌, ◌-◌, ◌≤◌, Bool, true, false, ◌&&◌, nat_eq, nat_le, List, [], ◌∷◌, ◌++◌, map, filter, take, drop, Option, unwrap_or, if◌then◌else◌}
 use Rattle.std.specs.List.{count_by, flat_map, sum_by}
 use Rattle.kdb_base.specs.Etypes.{key_len, number_of, product_rounds}
-use Rattle.kdb_base.specs.Key.{Key}
+use Rattle.kdb_base.specs.Key.{Key, is_same_key}
 use Rattle.kdb_base.specs.declared.extracts.Extract.{Extract}
 use Rattle.kdb_base.specs.declared.keys.Etype.{Etype}
 use Rattle.kdb_base.specs.declared.keys.Salt.{Salt}
 use Rattle.kdb_base.specs.declared.keys.Salt.TheVariants.{Normal, Special}
 use Rattle.krb_profile.specs.Profile.{string_key}
-use Rattle.policy_rules.specs.Reuse.{is_reused as is_among_keys, is_same_key}
+use Rattle.policy_rules.specs.Reuse.{is_reused as is_among_keys}
 use Rattle.princ_name.specs.Names.{NameParts}
 use Rattle.plain_keys.specs.declared.items.PlainItem.{PlainItem}
 use Rattle.plain_keys.specs.declared.items.PlainSet.{PlainSet}

@@ -6,8 +6,6 @@ pub mod items;
 pub mod laws;
 pub mod new_keys;
 mod remembering;
-#[cfg(test)]
-mod tests;
 
 pub use items::{PlainItem, PlainItems, PlainKeys, PlainSet, PlainSets};
 pub use new_keys::{

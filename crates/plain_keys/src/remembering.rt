@@ -2,7 +2,7 @@
 
 ghost use Rattle.std.specs.Prelude.{◌≡◌, ◌||◌, IfOk, filter, map};
 ghost use Rattle.std.specs.List.{list_any};
-ghost use Rattle.policy_rules.specs.Reuse.{is_among, is_same_key};
+ghost use Rattle.policy_rules.specs.Reuse.{is_among};
 ghost use Rattle.plain_keys.specs.Keys.{has_kvno, is_item, is_reused, newest_keys, newest_kvno, newest_set, old_keys, remembered, with_newest};
 
 use crate::items::{PlainItem, PlainKeys, PlainSet, PlainSets};
@@ -93,17 +93,11 @@ pub fn remembered(
     Ok(PlainSets::from_vec(sets))
 }
 
-fn is_same(a: &PlainKey, b: &PlainKey) -> bool
-    ensures { result ≡ is_same_key a.now b.now }
-{
-    a.etype() == b.etype() && a.as_slice() == b.as_slice()
-}
-
 /// Whether the item is of this version, and its key is this one.
 fn is_item(kvno: u16, key: &PlainKey, item: &PlainItem) -> bool
     ensures { result ≡ is_item kvno key.now item.now }
 {
-    item.kvno == kvno && is_same(&item.key, key)
+    item.kvno == kvno && item.key == *key
 }
 
 fn any_item(kvno: u16, key: &PlainKey, items: &[PlainItem]) -> bool
@@ -115,7 +109,7 @@ fn any_item(kvno: u16, key: &PlainKey, items: &[PlainItem]) -> bool
 fn holds(set: &PlainSet, key: &PlainKey) -> bool
     ensures { result ≡ is_among set.now.keys key.now }
 {
-    set.keys.as_slice().iter().any(|other| is_same(other, key))
+    set.keys.as_slice().iter().any(|other| other == key)
 }
 
 fn any_set(key: &PlainKey, sets: &[PlainSet]) -> bool

@@ -1,16 +1,11 @@
 -- Keys that were in use before.
-use Rattle.std.specs.Prelude.{Bool, ◌&&◌, ◌||◌, nat_eq, List, Any, Contains, ◌⊎◌}
+use Rattle.std.specs.Prelude.{Bool, ◌||◌, List, Any, Contains, ◌⊎◌}
 use Rattle.std.specs.List.{list_any}
-use Rattle.std.specs.Str.{bytes_eq}
-use Rattle.kdb_base.specs.Etypes.{number_of}
-use Rattle.kdb_base.specs.Key.{Key}
+use Rattle.kdb_base.specs.Key.{Key, is_same_key}
 
 -- some new key is, in its encryption type and its bytes, one of the standing or the remembered keys
 abbrev pub IsReused : List Key → List Key → List Key → Type 0
 IsReused fresh standing remembered = Any (λ key. Contains standing key ⊎ Contains remembered key) fresh
-
-abbrev pub is_same_key : Key → Key → Bool
-is_same_key a b = nat_eq (number_of a.etype) (number_of b.etype) && bytes_eq a.bytes b.bytes
 
 abbrev pub is_among : List Key → Key → Bool
 is_among keys key = list_any (λ other. is_same_key other key) keys

@@ -1,20 +1,13 @@
 ghost use Rattle.std.specs.Prelude.{◌≡◌, ◌||◌, ◌↔◌, ◌⊎◌, ◌-◌, ◌≤◌, Contains, IsTrue, min};
-ghost use Rattle.policy_rules.specs.Reuse.{IsReused, is_among, is_reused, is_same_key};
+ghost use Rattle.policy_rules.specs.Reuse.{IsReused, is_among, is_reused};
 
 use kdb_base::PlainKey;
-
-fn is_same(a: &PlainKey, b: &PlainKey) -> bool
-    ensures is { IsTrue result ↔ (a.now ≡ b.now) }
-    ensures value { result ≡ is_same_key a.now b.now }
-{
-    a.etype() == b.etype() && a.as_slice() == b.as_slice()
-}
 
 fn holds(keys: &[PlainKey], key: &PlainKey) -> bool
     ensures is { IsTrue result ↔ Contains keys.now key.now }
     ensures value { result ≡ is_among keys.now key.now }
 {
-    keys.iter().any(|other| is_same(other, key))
+    keys.iter().any(|other| other == key)
 }
 
 fn is_used(key: &PlainKey, now: &[PlainKey], old: &[PlainKey]) -> bool

@@ -13,8 +13,6 @@ pub mod printed;
 pub mod printing;
 mod reading;
 pub mod realms;
-#[cfg(test)]
-mod tests;
 mod whole;
 
 pub use faults::NameFault;

@@ -21,6 +21,3 @@ pub use princ_keys::{KeyItem, Keys, OldKey, OldKeys, OldSet, OldSets};
 pub use princs::{Princ, PrincFormat, decode, encode};
 pub use row_limits::{is_row, is_row_1};
 pub use rows::{PolicyRowFormat, RowFormat};
-
-#[cfg(test)]
-mod tests;

@@ -19,8 +19,3 @@ pub use entries::{Entries, Entry, Logged, Op};
 pub use replies::{PollReply, ReplyCode};
 pub use rows::Rows;
 pub use sorted::Keyed;
-
-#[cfg(test)]
-mod entry_tests;
-#[cfg(test)]
-mod tests;

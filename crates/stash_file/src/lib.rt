@@ -16,6 +16,3 @@ pub use keytabs::read_entries;
 pub use pieces::{Entry, has_key, is_end, read_entry, read_piece};
 pub use reading::read_stash;
 pub use writing::write_stash;
-
-#[cfg(test)]
-mod tests;

@@ -27,6 +27,3 @@ pub use string_attributes::{
     StringAttribute, StringAttributes, is_string_key, is_string_value, push_strings, strings,
 };
 pub use versions::{activations, aux_keys, push_activations, push_aux_keys};
-
-#[cfg(test)]
-mod tests;

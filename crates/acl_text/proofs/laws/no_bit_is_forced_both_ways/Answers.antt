@@ -1,4 +1,4 @@
-use Rattle.acl_text.proofs.BitLemmas.{all_apart}
+use Rattle.acl_text.proofs.LimitsFit.{all_apart}
 use Rattle.acl_text.proofs.laws.no_bit_is_forced_both_ways.Goals as goal
 
 pub returns : goal.returns

@@ -1,30 +1,11 @@
-use Rattle.std.proofs.Common.{◌≡◌, ap, rules, subst, sym, Err}
-use Rattle.std.specs.Prelude.{is_some}
+use Rattle.std.proofs.Common.{subst, sym}
+use Rattle.std.specs.List.{All}
 use Rattle.kdb_base.specs.Key.{Key}
-use Rattle.princ_keys.specs.declared.keys.KeyItem.{KeyItem}
-use Rattle.master_keys.specs.Rewrapping.{HoldNotAll, Holds}
-use Rattle.master_keys.proofs.Errors.{only_memory, was_wrong}
-use Rattle.master_keys.proofs.Rewrapped.{not_each, zip_to}
-use Rattle.master_keys.proofs.Spelled.{rewrapped_spelled}
+use Rattle.master_keys.specs.Rewrapping.{HoldNotAll, HoldsOne}
 use Rattle.master_keys.proofs.rewrapping.rewrap.Goals as goal
 
-pub returns-in-Err-clause-complete : goal.returns-in-Err-clause-complete
-returns-in-Err-clause-complete c all =
-    only_memory c.in-Err.fault c.from.result c.from.ensures
-    (λ wrong. not_each c.args.old.now c.args.princ.now.keys all (subst (λ (k : Key). HoldNotAll k c.args.princ.now.keys) c.new.ensures (rw c.as_slice-items.ensures at c.in-Err.ensures.wrong (ap Err wrong))))
+pub returns-clause-complete : goal.returns-clause-complete
+returns-clause-complete c all = c.rewrap_by.ensures.complete (subst (λ (k : Key). All (HoldsOne k) c.args.princ.now.keys) (sym c.new-old.ensures) all)
 
-pub returns-in-Err-clause-wrong : goal.returns-in-Err-clause-wrong
-returns-in-Err-clause-wrong c e =
-    subst (λ (k : Key). HoldNotAll k c.args.princ.now.keys) c.new.ensures (rw c.as_slice-items.ensures at c.in-Err.ensures.wrong (ap Err (was_wrong c.in-Err.fault c.from.result c.from.ensures e)))
-
-pub wrap_items-requires-clause-types : goal.wrap_items-requires-clause-types
-wrap_items-requires-clause-types c =
-    rw c.deref.ensures.value
-    (zip_to (Holds c.new.result) (λ (item : KeyItem) (key : Key). item.etype ≡ key.etype) (λ item key h. sym h.of_type) c.as_slice-items.result.now c.in-Ok.keys.items c.in-Ok.ensures.ok)
-
-pub returns-in-Ok-with_master-clause-ok : goal.returns-in-Ok-with_master-clause-ok
-returns-in-Ok-with_master-clause-ok c = search rules
-
-pub returns-in-Ok-with_master-clause-spelled : goal.returns-in-Ok-with_master-clause-spelled
-returns-in-Ok-with_master-clause-spelled c f none some =
-    rewrapped_spelled _ _ _ _ _ _ (returns-in-Ok-with_master-clause-ok c) f (ap is_some none) some c.ranges.version.fits
+pub returns-clause-wrong : goal.returns-clause-wrong
+returns-clause-wrong c e = subst (λ (k : Key). HoldNotAll k c.args.princ.now.keys) c.new-old.ensures (c.rewrap_by.ensures.wrong e)

@@ -1,6 +1,6 @@
 use Rattle.std.proofs.Common.{◌∙◌, ap}
 use Rattle.std.specs.List.{list_any}
-use Rattle.policy_rules.specs.Reuse.{is_same_key}
+use Rattle.kdb_base.specs.Key.{is_same_key}
 use Rattle.plain_keys.specs.Keys.{has_kvno, is_item, newest_keys, newest_kvno}
 use Rattle.plain_keys.proofs.Used.{any_kept}
 use Rattle.plain_keys.proofs.remembering.is_newest.Goals as goal

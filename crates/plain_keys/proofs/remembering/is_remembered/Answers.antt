@@ -1,5 +1,5 @@
 use Rattle.std.proofs.Common.{◌∙◌}
-use Rattle.policy_rules.specs.Reuse.{is_same_key}
+use Rattle.kdb_base.specs.Key.{is_same_key}
 use Rattle.plain_keys.proofs.Used.{any_flat}
 use Rattle.plain_keys.proofs.remembering.is_remembered.Goals as goal
 

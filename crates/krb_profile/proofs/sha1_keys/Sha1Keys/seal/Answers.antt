@@ -15,7 +15,7 @@ returns-clause-bytes c =
 pub returns-clause-sealed : goal.returns-clause-sealed
 returns-clause-sealed c =
     let u = c.args.self.now in
-    let fits : c.tag_len.result ≤ length c.tag-tag.result = omega (arith, c.tag_len.ensures.short) in
+    let fits : c.tag_len.result ≤ length c.tag-tag.result = omega (arith, c.tag_len.ensures.twelve) in
     let blob = ap length (c.from_vec.ensures ∙ c.in_ok-extend_from_slice.ensures.items) in
     let whole = ap length c.in_ok-text.ensures.text in
     let end : length (take c.tag_len.result c.tag-tag.result) ≡ tag_len u.key.etype = length-take-le c.tag_len.result c.tag-tag.result fits ∙ c.tag_len.ensures.exact in

@@ -1,6 +1,0 @@
-use Rattle.std.proofs.Common.{[], refl}
-use Rattle.master_keys.proofs.Rising.{rising_none}
-use Rattle.master_keys.proofs.tests.no_aux.Goals as goal
-
-pub from_vec-requires : goal.from_vec-requires
-from_vec-requires c = rw c.new.ensures.items (rising_none [] refl)

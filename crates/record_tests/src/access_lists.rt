@@ -1,0 +1,165 @@
+use acl_text::{Acl, AclFault, Wanted, restrict};
+use kdb_base::{Blob, Time};
+use princ_name::parse_name;
+use std::alloc::Global;
+use std::test::*;
+
+const REALM: &[u8] = b"EXAMPLE.ORG";
+
+/// The rules of a short text.
+fn read(alloc: Global, text: &[u8]) -> Result<Acl, AclFault> {
+    if text.len() > 1000 {
+        return Err(AclFault::MemoryOut);
+    }
+    Acl::read(alloc, text, REALM)
+}
+
+const RULES: &[u8] = b"joe/admin ADMCIL */root\n*/admin *\n*/user ci *1\n*/text i \\*1\n";
+
+/// A client, an operation's letter, a target, and the line that decides and its answer.
+const DECIDED: [(&[u8], u8, &[u8], u32, bool); 8] = [
+    (b"joe/admin", b'd', b"x/root", 1, false),
+    (b"joe/admin", b'd', b"bob", 2, true),
+    (b"joe/admin", b'e', b"bob", 2, false),
+    (b"bob/user", b'i', b"bob", 3, true),
+    (b"bob/user", b'i', b"carol", 0, false),
+    (b"bob/user@OTHER", b'i', b"bob", 0, false),
+    (b"bob/text", b'i', b"bob", 0, false),
+    (b"bob/text", b'i', b"*1", 4, true),
+];
+
+#[test]
+fn first_line_decides(rt: HostRuntime) -> Result<(), Fail> {
+    let acl = read(rt.alloc(), RULES)?;
+    for (client, letter, target, line, allowed) in DECIDED.iter() {
+        let client = parse_name(rt.alloc(), client, REALM)?;
+        let target = parse_name(rt.alloc(), target, REALM)?;
+        let verdict = acl.decide(&client, *letter, Some(&target));
+        assert_eq!(rt; verdict.line, *line);
+        assert_eq!(rt; verdict.allowed, *allowed);
+        assert!(rt; verdict.limits.is_none());
+    }
+    Ok(())
+}
+
+/// Texts, and the number of the line that is bad; 0 where none is.
+const READ: [(&[u8], u32); 29] = [
+    (b"", 0),
+    (b"\n\njoe a", 0),
+    (b"joe Q", 1),
+    (b" ", 1),
+    (b"#\n\njoe\n", 3),
+    (b"joe \\\nQ\n", 1),
+    (b"# comment\\\njoe Q\n", 0),
+    (b"# comment\\\njoe Q\njoe Q\n", 3),
+    (b"joe@ a", 1),
+    (b"* a *1", 1),
+    (b"*/* a *2", 0),
+    (b"*/* a *3", 1),
+    (b"*/x@* a *2/*0/*12@*1", 0),
+    (b"joe a \\*1", 0),
+    (b"joe a *\\1", 0),
+    (b"\\*/* a *2", 1),
+    (b"\\*/*1 a *1", 1),
+    (b"* a \\*1/*0/*a", 0),
+    (b"joe a +needchange", 0),
+    (b"joe a * +nonsense", 1),
+    (b"joe a * +needchange -needchange", 0),
+    (b"joe a * -maxlife", 1),
+    (b"joe a * -maxlife never", 1),
+    (b"joe a * -maxlife 1h -maxrenewlife 1d", 0),
+    (b"joe a * -maxlife 1h -maxlife 1h", 1),
+    (b"joe a * -policy p -clearpolicy", 1),
+    (b"joe a * -clearpolicy -clearpolicy", 1),
+    (b"joe a * -policy -clearpolicy", 1),
+    (b"joe a\\", 1),
+];
+
+#[test]
+fn first_bad_line_refuses(rt: HostRuntime) -> Result<(), Fail> {
+    for (text, line) in READ.iter() {
+        let found = match read(rt.alloc(), text) {
+            Ok(_) => 0,
+            Err(AclFault::BadAcl { line }) => line,
+            Err(AclFault::MemoryOut) => 99,
+        };
+        assert_eq!(rt; found, *line, "{text:?}");
+    }
+    Ok(())
+}
+
+/// The fields after the restrictions of the only line, where an operation has no target.
+fn restricted(alloc: Global, text: &[u8], wanted: Wanted) -> Result<Wanted, AclFault> {
+    let acl = read(alloc, text)?;
+    let client = match parse_name(alloc, b"ops/x", REALM) {
+        Ok(client) => client,
+        Err(_) => return Err(AclFault::MemoryOut),
+    };
+    let mut wanted = wanted;
+    match acl.decide(&client, b'a', None).limits {
+        Some(limits) => match restrict(alloc, limits, &mut wanted, Time::new(1000, 0)) {
+            Ok(()) => Ok(wanted),
+            Err(_) => Err(AclFault::MemoryOut),
+        },
+        None => Ok(wanted),
+    }
+}
+
+fn fields(attributes: u32, time: u32) -> Wanted {
+    Wanted {
+        attributes,
+        policy: None,
+        expire: time,
+        pw_expire: time,
+        max_life: time,
+        max_renew: time,
+    }
+}
+
+const LIMITED: [&[u8]; 2] = [
+    b"ops/* a * +requires_preauth -maxlife 1h",
+    b"ops/* a * \\\n+requires_preauth -maxlife 1h\n",
+];
+
+#[test]
+fn restrictions_are_put_in_force(rt: HostRuntime) -> Result<(), Fail> {
+    for text in LIMITED.iter() {
+        let acl = read(rt.alloc(), text)?;
+        let client = parse_name(rt.alloc(), b"ops/x", REALM)?;
+        let verdict = acl.decide(&client, b'd', None);
+        assert!(rt; verdict.line == 1 && !verdict.allowed);
+        let verdict = acl.decide(&client, b'a', None);
+        assert!(rt; verdict.line == 1 && verdict.allowed);
+        let limits = verdict.limits.expect(&rt, "limits");
+        assert_eq!(rt; (limits.set, limits.clear), (0x80, 0));
+        assert_eq!(rt; limits.max_life, Some(3600));
+        for life in [7200, 0] {
+            let wanted = restricted(rt.alloc(), text, fields(0x200, life))?;
+            assert_eq!(rt; wanted.attributes, 0x280);
+            assert_eq!(rt; wanted.max_life, 3600);
+            assert_eq!(rt; wanted.max_renew, life);
+        }
+    }
+    Ok(())
+}
+
+#[test]
+fn times_are_lowered(rt: HostRuntime) -> Result<(), Fail> {
+    let text = b"ops/* a * -policy p -needchange -expire 1d -pwexpire 4294967295 -maxrenewlife 0";
+    let wanted = restricted(rt.alloc(), text, fields(0x280, 100_000))?;
+    assert_eq!(rt; wanted.attributes, 0x80);
+    assert!(rt;
+        wanted
+            .policy
+            .map_or(false, |name| name.as_slice() == b"p".as_slice())
+    );
+    assert_eq!(rt; (wanted.expire, wanted.pw_expire), (87_400, 100_000));
+    assert_eq!(rt; (wanted.max_life, wanted.max_renew), (100_000, 0));
+    let wanted = restricted(rt.alloc(), text, fields(0, 0))?;
+    assert_eq!(rt; (wanted.expire, wanted.pw_expire), (87_400, 4_294_967_295));
+    let mut wanted = fields(0, 0);
+    wanted.policy = Some(Blob::from_bytes(rt.alloc(), b"p")?);
+    let wanted = restricted(rt.alloc(), b"ops/* a * -clearpolicy", wanted)?;
+    assert!(rt; wanted.policy.is_none());
+    Ok(())
+}
