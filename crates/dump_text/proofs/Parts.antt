@@ -13,7 +13,7 @@ use Rattle.kdb_ports.proofs.Told.{after_told-append}
 use Rattle.policy_rules.specs.Rules.{Rules}
 use Rattle.princ_rows.specs.Rows.{RowLists}
 use Rattle.princ_record.specs.declared.princs.Princ.{Princ}
-use Rattle.dump_text.specs.Dumps.{ended, princ_line, policy_line, end_line, row_count, rows_text}
+use Rattle.dump_text.specs.Dumps.{end_line, marked, marked_rows, policy_line, princ_line, row_count}
 use Rattle.dump_text.specs.Parts.{Holds}
 use Rattle.kdb_ports.specs.Parts.{SaidPart}
 
@@ -81,30 +81,30 @@ said_line line before xs i x b t u v lt is one two =
 pub said_in_front : (before x y : List ℕ) (t u : Option (List ℕ)) → SaidPart (before ++ x) t u → SaidPart (before ++ (x ++ y)) t u
 said_in_front before x y t u one = subst (λ (s : List ℕ). SaidPart s t u) (append_assoc before x y) (said_more (before ++ x) y t u one)
 
--- ---- the lines of rows
+-- ---- the lines of rows, each behind a mark
 
-pub rows_held : (rows : RowLists) (princs : List Princ) (policies : List Rules) (before b c : List ℕ) (t u v : Option (List ℕ)) → princs ≡ rows.princs → policies ≡ rows.policies
-    → Holds (before ++ flat_map (λ p. ended (princ_line p)) princs) t u b → Holds (b ++ flat_map (λ p. ended (policy_line p)) policies) u v c → Holds (before ++ rows_text rows) t v c
-unfolding rows_text
-rows_held rows princs policies before b c t u v first second one two =
-    rw (← first, ← second) (holds_next before (flat_map (λ p. ended (princ_line p)) princs) (flat_map (λ p. ended (policy_line p)) policies) b c t u v one two)
+pub rows_held : (mark : List ℕ) (rows : RowLists) (princs : List Princ) (policies : List Rules) (before b c : List ℕ) (t u v : Option (List ℕ)) → princs ≡ rows.princs → policies ≡ rows.policies
+    → Holds (before ++ flat_map (λ p. marked mark (princ_line p)) princs) t u b → Holds (b ++ flat_map (λ p. marked mark (policy_line p)) policies) u v c → Holds (before ++ marked_rows mark rows) t v c
+unfolding marked_rows
+rows_held mark rows princs policies before b c t u v first second one two =
+    rw (← first, ← second) (holds_next before (flat_map (λ p. marked mark (princ_line p)) princs) (flat_map (λ p. marked mark (policy_line p)) policies) b c t u v one two)
 
-pub rows_said : (rows : RowLists) (princs : List Princ) (policies : List Rules) (before b : List ℕ) (t u v : Option (List ℕ)) → princs ≡ rows.princs → policies ≡ rows.policies
-    → Holds (before ++ flat_map (λ p. ended (princ_line p)) princs) t u b → SaidPart (b ++ flat_map (λ p. ended (policy_line p)) policies) u v → SaidPart (before ++ rows_text rows) t v
-unfolding rows_text
-rows_said rows princs policies before b t u v first second one two =
-    rw (← first, ← second) (said_next before (flat_map (λ p. ended (princ_line p)) princs) (flat_map (λ p. ended (policy_line p)) policies) b t u v one two)
+pub rows_said : (mark : List ℕ) (rows : RowLists) (princs : List Princ) (policies : List Rules) (before b : List ℕ) (t u v : Option (List ℕ)) → princs ≡ rows.princs → policies ≡ rows.policies
+    → Holds (before ++ flat_map (λ p. marked mark (princ_line p)) princs) t u b → SaidPart (b ++ flat_map (λ p. marked mark (policy_line p)) policies) u v → SaidPart (before ++ marked_rows mark rows) t v
+unfolding marked_rows
+rows_said mark rows princs policies before b t u v first second one two =
+    rw (← first, ← second) (said_next before (flat_map (λ p. marked mark (princ_line p)) princs) (flat_map (λ p. marked mark (policy_line p)) policies) b t u v one two)
 
-pub princs_said : (rows : RowLists) (princs : List Princ) (before : List ℕ) (t u : Option (List ℕ)) → princs ≡ rows.princs
-    → SaidPart (before ++ flat_map (λ p. ended (princ_line p)) princs) t u → SaidPart (before ++ rows_text rows) t u
-unfolding rows_text
-princs_said rows princs before t u first one =
-    rw (← first) (said_in_front before (flat_map (λ p. ended (princ_line p)) princs) (flat_map (λ p. ended (policy_line p)) rows.policies) t u one)
+pub princs_said : (mark : List ℕ) (rows : RowLists) (princs : List Princ) (before : List ℕ) (t u : Option (List ℕ)) → princs ≡ rows.princs
+    → SaidPart (before ++ flat_map (λ p. marked mark (princ_line p)) princs) t u → SaidPart (before ++ marked_rows mark rows) t u
+unfolding marked_rows
+princs_said mark rows princs before t u first one =
+    rw (← first) (said_in_front before (flat_map (λ p. marked mark (princ_line p)) princs) (flat_map (λ p. marked mark (policy_line p)) rows.policies) t u one)
 
-pub end_said : (rows : RowLists) (count : ℕ) (before b : List ℕ) (t u v : Option (List ℕ)) → count ≡ row_count rows
-    → Holds (before ++ rows_text rows) t u b → SaidPart (b ++ ended (end_line count)) u v → SaidPart (before ++ (rows_text rows ++ ended (end_line (row_count rows)))) t v
-end_said rows count before b t u v is one two =
-    subst (λ (n : ℕ). SaidPart (before ++ (rows_text rows ++ ended (end_line n))) t v) is (said_next before (rows_text rows) (ended (end_line count)) b t u v one two)
+pub end_said : (mark : List ℕ) (rows : RowLists) (count : ℕ) (before b : List ℕ) (t u v : Option (List ℕ)) → count ≡ row_count rows
+    → Holds (before ++ marked_rows mark rows) t u b → SaidPart (b ++ marked mark (end_line count)) u v → SaidPart (before ++ (marked_rows mark rows ++ marked mark (end_line (row_count rows)))) t v
+end_said mark rows count before b t u v is one two =
+    subst (λ (n : ℕ). SaidPart (before ++ (marked_rows mark rows ++ marked mark (end_line n))) t v) is (said_next before (marked_rows mark rows) (marked mark (end_line count)) b t u v one two)
 
 -- the same of an item behind a box
 pub said_item : {A : Type 0} (line : A → List ℕ) (before : List ℕ) (xs : List A) (i : ℕ) (x y : A) (b : List ℕ) (t u v : Option (List ℕ)) → y ≡ x → i < length xs → x ≡ slice_index_or xs i x

@@ -16,7 +16,4 @@ pub use dumps::Dump;
 pub use reader::DumpReader;
 pub use stops::DumpStop;
 pub use versions::Version;
-pub use writer::write_dump;
-
-#[cfg(test)]
-mod tests;
+pub use writer::{write_dump, write_marked};

@@ -6,7 +6,7 @@ ghost use Rattle.kdb_ports.specs.Parts.{SaidPart};
 ghost use Rattle.kdb_ports.specs.Told.{after_told};
 ghost use Rattle.princ_record.specs.RowLimits.{IsRow};
 ghost use Rattle.princ_record.specs.Princs.{IsPrinc};
-ghost use Rattle.dump_text.specs.Dumps.{dump_text, end_line, ended, head_text, policy_line, princ_line, row_count, rows_text};
+ghost use Rattle.dump_text.specs.Dumps.{dump_text, end_line, marked, marked_head, marked_rows, marked_text, policy_line, princ_line, row_count};
 ghost use Rattle.dump_text.specs.declared.versions.Version.TheVariants.{Two};
 ghost use Rattle.dump_text.specs.Parts.{Holds};
 
@@ -23,7 +23,8 @@ use std::alloc::Global;
 /// So many bytes are written at once, but for the last ones.
 const PAGE: usize = 65536;
 
-/// What the buffer holds at most: a page, and behind it a line, which spells a row in hexadecimal behind a word.
+/// What the buffer holds at most: a page, and behind it a line, which spells a row in hexadecimal behind a mark of a few bytes and a
+/// word.
 const ROOM: usize = PAGE + 2 * MAX_ROW_LEN + 64;
 
 /// Writes what is held, once it is a page.
@@ -43,17 +44,18 @@ fn pass_on<K: Sink>(sink: &mut K, out: &mut Vec<u8>) -> Result<(), WriteFailed>
 /// Writes the line of a principal.
 fn write_princ<K: Sink>(
     alloc: Global,
+    mark: &[u8],
     princ: &Princ,
     sink: &mut K,
     out: &mut Vec<u8>,
 ) -> Result<(), WriteStop>
     requires { IsPrinc princ.now }
-    ensures ok { OnOk result (Holds (out.old.items ++ ended (princ_line princ.now)) (K.taken sink.old) (K.taken sink.new) out.new.items) }
-    ensures err { OnErr result (SaidPart (out.old.items ++ ended (princ_line princ.now)) (K.taken sink.old) (K.taken sink.new)) }
+    ensures ok { OnOk result (Holds (out.old.items ++ marked mark.now (princ_line princ.now)) (K.taken sink.old) (K.taken sink.new) out.new.items) }
+    ensures err { OnErr result (SaidPart (out.old.items ++ marked mark.now (princ_line princ.now)) (K.taken sink.old) (K.taken sink.new)) }
     ensures later { K.faults sink.old ≤ K.faults sink.new }
     ensures fault { result ≡ Err WriteStop.WriteFault → Rose (K.faults sink.old) (K.faults sink.new) }
 {
-    match push_princ(alloc, out, princ) {
+    match push_princ(alloc, out, mark, princ) {
         Ok(()) => match pass_on(sink, out) {
             Ok(()) => Ok(()),
             Err(_) => Err(WriteStop::WriteFault),
@@ -65,16 +67,17 @@ fn write_princ<K: Sink>(
 /// Writes the line of a policy.
 fn write_policy<K: Sink>(
     alloc: Global,
+    mark: &[u8],
     policy: &Policy,
     sink: &mut K,
     out: &mut Vec<u8>,
 ) -> Result<(), WriteStop>
-    ensures ok { OnOk result (Holds (out.old.items ++ ended (policy_line policy.now)) (K.taken sink.old) (K.taken sink.new) out.new.items) }
-    ensures err { OnErr result (SaidPart (out.old.items ++ ended (policy_line policy.now)) (K.taken sink.old) (K.taken sink.new)) }
+    ensures ok { OnOk result (Holds (out.old.items ++ marked mark.now (policy_line policy.now)) (K.taken sink.old) (K.taken sink.new) out.new.items) }
+    ensures err { OnErr result (SaidPart (out.old.items ++ marked mark.now (policy_line policy.now)) (K.taken sink.old) (K.taken sink.new)) }
     ensures later { K.faults sink.old ≤ K.faults sink.new }
     ensures fault { result ≡ Err WriteStop.WriteFault → Rose (K.faults sink.old) (K.faults sink.new) }
 {
-    match push_policy(alloc, out, policy) {
+    match push_policy(alloc, out, mark, policy) {
         Ok(()) => match pass_on(sink, out) {
             Ok(()) => Ok(()),
             Err(_) => Err(WriteStop::WriteFault),
@@ -86,18 +89,19 @@ fn write_policy<K: Sink>(
 /// Writes the lines of principals.
 fn write_princs<K: Sink>(
     alloc: Global,
+    mark: &[u8],
     princs: &[Boxed<Princ>],
     sink: &mut K,
     out: &mut Vec<u8>,
 ) -> Result<(), WriteStop>
     requires { All IsRow princs.now }
-    ensures ok { OnOk result (Holds (out.old.items ++ flat_map (λ p. ended (princ_line p)) princs.now) (K.taken sink.old) (K.taken sink.new) out.new.items) }
-    ensures err { OnErr result (SaidPart (out.old.items ++ flat_map (λ p. ended (princ_line p)) princs.now) (K.taken sink.old) (K.taken sink.new)) }
+    ensures ok { OnOk result (Holds (out.old.items ++ flat_map (λ p. marked mark.now (princ_line p)) princs.now) (K.taken sink.old) (K.taken sink.new) out.new.items) }
+    ensures err { OnErr result (SaidPart (out.old.items ++ flat_map (λ p. marked mark.now (princ_line p)) princs.now) (K.taken sink.old) (K.taken sink.new)) }
     ensures later { K.faults sink.old ≤ K.faults sink.new }
     ensures fault { result ≡ Err WriteStop.WriteFault → Rose (K.faults sink.old) (K.faults sink.new) }
 {
     for princ in princs {
-        match write_princ(alloc, princ.get(), sink, out) {
+        match write_princ(alloc, mark, princ.get(), sink, out) {
             Ok(()) => {}
             Err(stop) => return Err(stop),
         }
@@ -108,17 +112,18 @@ fn write_princs<K: Sink>(
 /// Writes the lines of policies.
 fn write_policies<K: Sink>(
     alloc: Global,
+    mark: &[u8],
     policies: &[Boxed<Policy>],
     sink: &mut K,
     out: &mut Vec<u8>,
 ) -> Result<(), WriteStop>
-    ensures ok { OnOk result (Holds (out.old.items ++ flat_map (λ p. ended (policy_line p)) policies.now) (K.taken sink.old) (K.taken sink.new) out.new.items) }
-    ensures err { OnErr result (SaidPart (out.old.items ++ flat_map (λ p. ended (policy_line p)) policies.now) (K.taken sink.old) (K.taken sink.new)) }
+    ensures ok { OnOk result (Holds (out.old.items ++ flat_map (λ p. marked mark.now (policy_line p)) policies.now) (K.taken sink.old) (K.taken sink.new) out.new.items) }
+    ensures err { OnErr result (SaidPart (out.old.items ++ flat_map (λ p. marked mark.now (policy_line p)) policies.now) (K.taken sink.old) (K.taken sink.new)) }
     ensures later { K.faults sink.old ≤ K.faults sink.new }
     ensures fault { result ≡ Err WriteStop.WriteFault → Rose (K.faults sink.old) (K.faults sink.new) }
 {
     for policy in policies {
-        match write_policy(alloc, policy.get(), sink, out) {
+        match write_policy(alloc, mark, policy.get(), sink, out) {
             Ok(()) => {}
             Err(stop) => return Err(stop),
         }
@@ -127,20 +132,21 @@ fn write_policies<K: Sink>(
 }
 
 /// Writes the lines of the rows.
-#[tactic(auto, unfolding(crate::specs::Dumps::rows_text))]
+#[tactic(auto, unfolding(crate::specs::Dumps::marked_rows))]
 fn write_rows<K: Sink>(
     alloc: Global,
+    mark: &[u8],
     rows: &Rows,
     sink: &mut K,
     out: &mut Vec<u8>,
 ) -> Result<(), WriteStop>
-    ensures ok { OnOk result (Holds (out.old.items ++ rows_text rows.now) (K.taken sink.old) (K.taken sink.new) out.new.items) }
-    ensures err { OnErr result (SaidPart (out.old.items ++ rows_text rows.now) (K.taken sink.old) (K.taken sink.new)) }
+    ensures ok { OnOk result (Holds (out.old.items ++ marked_rows mark.now rows.now) (K.taken sink.old) (K.taken sink.new) out.new.items) }
+    ensures err { OnErr result (SaidPart (out.old.items ++ marked_rows mark.now rows.now) (K.taken sink.old) (K.taken sink.new)) }
     ensures later { K.faults sink.old ≤ K.faults sink.new }
     ensures fault { result ≡ Err WriteStop.WriteFault → Rose (K.faults sink.old) (K.faults sink.new) }
 {
-    match write_princs(alloc, rows.princs(), sink, out) {
-        Ok(()) => match write_policies(alloc, rows.policies(), sink, out) {
+    match write_princs(alloc, mark, rows.princs(), sink, out) {
+        Ok(()) => match write_policies(alloc, mark, rows.policies(), sink, out) {
             Ok(()) => Ok(()),
             Err(stop) => Err(stop),
         },
@@ -151,16 +157,17 @@ fn write_rows<K: Sink>(
 /// Writes the last line, and all that is held.
 fn write_end<K: Sink>(
     alloc: Global,
+    mark: &[u8],
     count: usize,
     sink: &mut K,
     out: &mut Vec<u8>,
 ) -> Result<(), WriteStop>
-    ensures ok { OnOk result (K.taken sink.new ≡ after_told (K.taken sink.old) (out.old.items ++ ended (end_line count))) }
-    ensures err { OnErr result (SaidPart (out.old.items ++ ended (end_line count)) (K.taken sink.old) (K.taken sink.new)) }
+    ensures ok { OnOk result (K.taken sink.new ≡ after_told (K.taken sink.old) (out.old.items ++ marked mark.now (end_line count))) }
+    ensures err { OnErr result (SaidPart (out.old.items ++ marked mark.now (end_line count)) (K.taken sink.old) (K.taken sink.new)) }
     ensures later { K.faults sink.old ≤ K.faults sink.new }
     ensures fault { result ≡ Err WriteStop.WriteFault → Rose (K.faults sink.old) (K.faults sink.new) }
 {
-    match push_end(alloc, out, count) {
+    match push_end(alloc, out, mark, count) {
         Ok(()) => match write_whole(sink, out) {
             Ok(()) => Ok(()),
             Err(_) => Err(WriteStop::WriteFault),
@@ -170,11 +177,11 @@ fn write_end<K: Sink>(
 }
 
 /// Takes the buffer, and puts into it what stands before the rows.
-fn begin(alloc: Global, realm: &[u8], point: &Point) -> Result<Vec<u8>, MemoryOut>
-    ensures { IfOk result (λ out. out.items ≡ head_text Two realm.now point.now) }
+fn begin(alloc: Global, mark: &[u8], realm: &[u8], point: &Point) -> Result<Vec<u8>, MemoryOut>
+    ensures { IfOk result (λ out. out.items ≡ marked_head mark.now Two realm.now point.now) }
 {
     let mut out = Vec::with_capacity(alloc, ROOM)?;
-    push_head(alloc, &mut out, realm, point)?;
+    push_head(alloc, &mut out, mark, realm, point)?;
     Ok(out)
 }
 
@@ -188,18 +195,19 @@ fn count_rows(rows: &Rows) -> usize
 /// Writes the rows and the last line behind what is held.
 fn write_body<K: Sink>(
     alloc: Global,
+    mark: &[u8],
     rows: &Rows,
     sink: &mut K,
     out: &mut Vec<u8>,
 ) -> Result<(), WriteStop>
-    ensures ok { OnOk result (K.taken sink.new ≡ after_told (K.taken sink.old) (out.old.items ++ (rows_text rows.now ++ ended (end_line (row_count rows.now))))) }
-    ensures err { OnErr result (SaidPart (out.old.items ++ (rows_text rows.now ++ ended (end_line (row_count rows.now)))) (K.taken sink.old) (K.taken sink.new)) }
+    ensures ok { OnOk result (K.taken sink.new ≡ after_told (K.taken sink.old) (out.old.items ++ (marked_rows mark.now rows.now ++ marked mark.now (end_line (row_count rows.now))))) }
+    ensures err { OnErr result (SaidPart (out.old.items ++ (marked_rows mark.now rows.now ++ marked mark.now (end_line (row_count rows.now)))) (K.taken sink.old) (K.taken sink.new)) }
     ensures later { K.faults sink.old ≤ K.faults sink.new }
     ensures fault { result ≡ Err WriteStop.WriteFault → Rose (K.faults sink.old) (K.faults sink.new) }
 {
     let count = count_rows(rows);
-    match write_rows(alloc, rows, sink, out) {
-        Ok(()) => match write_end(alloc, count, sink, out) {
+    match write_rows(alloc, mark, rows, sink, out) {
+        Ok(()) => match write_end(alloc, mark, count, sink, out) {
             Ok(()) => Ok(()),
             Err(stop) => Err(stop),
         },
@@ -207,9 +215,37 @@ fn write_body<K: Sink>(
     }
 }
 
+/// Writes the dump of a database in the second version with a mark before each line, line by line through a buffer of some 64 KB.
+/// After an error the sink has taken a front of it. WriteFault where the sink failed; only want of memory can refuse it otherwise.
+#[tactic(auto, unfolding(crate::specs::Dumps::marked_text))]
+pub fn write_marked<K: Sink>(
+    alloc: Global,
+    mark: &[u8],
+    realm: &[u8],
+    point: Point,
+    rows: &Rows,
+    sink: &mut K,
+) -> Result<(), DumpStop>
+    // The sink took these lines, and nothing else.
+    ensures ok { OnOk result (K.taken sink.new ≡ after_told (K.taken sink.old) (marked_text mark.now Two realm.now point rows.now)) }
+    // The sink took a front of them, and nothing else.
+    ensures err { OnErr result (SaidPart (marked_text mark.now Two realm.now point rows.now) (K.taken sink.old) (K.taken sink.new)) }
+    ensures later { K.faults sink.old ≤ K.faults sink.new }
+    ensures fault { result ≡ Err DumpStop.WriteFault → Rose (K.faults sink.old) (K.faults sink.new) }
+    ensures not_bad { (line : ℕ) → result ≢ Err (DumpStop.DumpBad line) }
+{
+    match begin(alloc, mark, realm, &point) {
+        Ok(mut out) => match write_body(alloc, mark, rows, sink, &mut out) {
+            Ok(()) => Ok(()),
+            Err(stop) => Err(DumpStop::from(stop)),
+        },
+        Err(_) => Err(DumpStop::MemoryOut),
+    }
+}
+
 /// Writes the dump of a database in the second version, line by line through a buffer of some 64 KB. After an error the sink has
 /// taken a front of it. WriteFault where the sink failed; only want of memory can refuse it otherwise.
-#[tactic(auto, unfolding(crate::specs::Dumps::dump_text))]
+#[tactic(auto, unfolding(crate::specs::Dumps::dump_text, crate::specs::Dumps::head_text, crate::specs::Dumps::marked_head, crate::specs::Dumps::marked_rows, crate::specs::Dumps::marked_text, crate::specs::Dumps::rows_text))]
 pub fn write_dump<K: Sink>(
     alloc: Global,
     realm: &[u8],
@@ -225,11 +261,5 @@ pub fn write_dump<K: Sink>(
     ensures fault { result ≡ Err DumpStop.WriteFault → Rose (K.faults sink.old) (K.faults sink.new) }
     ensures not_bad { (line : ℕ) → result ≢ Err (DumpStop.DumpBad line) }
 {
-    match begin(alloc, realm, &point) {
-        Ok(mut out) => match write_body(alloc, rows, sink, &mut out) {
-            Ok(()) => Ok(()),
-            Err(stop) => Err(DumpStop::from(stop)),
-        },
-        Err(_) => Err(DumpStop::MemoryOut),
-    }
+    write_marked(alloc, b"", realm, point, rows, sink)
 }

@@ -15,6 +15,3 @@ pub use files::{Scanned, scan};
 pub use headings::push_heading;
 pub use index::UnitIndex;
 pub use units::{StoredRow, clear_unit, fill_unit, read_unit};
-
-#[cfg(test)]
-mod tests;

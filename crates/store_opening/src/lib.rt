@@ -17,6 +17,3 @@ pub use parts::Parts;
 pub use recovering::recover_parts;
 pub use redoing::{is_placed, rows_after};
 pub use unit_writes::{UnitWrite, write_unit};
-
-#[cfg(test)]
-mod tests;

@@ -4,11 +4,17 @@
 #![tactic(auto)]
 
 #[cfg(test)]
+mod cells;
+#[cfg(test)]
 mod changes;
 #[cfg(test)]
 mod damage;
 #[cfg(test)]
+mod logs;
+#[cfg(test)]
 mod looks;
+#[cfg(test)]
+mod openings;
 #[cfg(test)]
 mod places;
 #[cfg(test)]

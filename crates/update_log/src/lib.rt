@@ -14,6 +14,3 @@ mod writes;
 
 pub use log::Log;
 pub use making::NewLog;
-
-#[cfg(test)]
-mod tests;

@@ -3,7 +3,6 @@ ghost use Rattle.princ_rows.specs.Entries.{IsOp, logged};
 ghost use Rattle.princ_name.specs.Printed.{IsPrinted};
 ghost use Rattle.update_log.specs.Moments.{HasLog, IsDurable};
 
-use super::*;
 use kdb_base::{Blob, Fails, Halt, Point, Time};
 use kdb_disk::{Disk, MemoryDisk, Pick};
 use princ_name::is_printed;
@@ -11,6 +10,7 @@ use princ_rows::entry_laws::entries_have_their_lengths;
 use princ_rows::{Entry, Op};
 use std::alloc::Global;
 use std::test::*;
+use update_log::Log;
 
 // The slot of the base marker: an open gate, the serial 1, 1700000000 seconds (6553f100 in
 // hexadecimal) and no microseconds, the kind 0, four zero bytes, an empty key and an empty row.
@@ -77,7 +77,7 @@ fn next_entry(alloc: Global, last: &Point) -> Result<Entry, Fail>
 }
 
 // Prepares and commits the next entry, of the unit that has its serial.
-#[tactic(auto, using(crate::proofs::Spelled::follows))]
+#[tactic(auto, using(update_log::proofs::Spelled::follows))]
 fn append(alloc: Global, disk: &mut MemoryDisk, log: &mut Log) -> Result<(), Fail>
     requires log { HasLog log.old (⟦<MemoryDisk as Disk>⟧.view disk.old) }
     requires durable { IsDurable log.old.file (⟦<MemoryDisk as Disk>⟧.view disk.old) }
@@ -143,7 +143,7 @@ fn a_log_holds_its_last_entries(rt: HostRuntime) -> Result<(), Fail> {
 }
 
 // Prepares the next entry, where the disk fails.
-#[tactic(auto, using(crate::proofs::Spelled::follows))]
+#[tactic(auto, using(update_log::proofs::Spelled::follows))]
 fn prepare_in_vain(alloc: Global, disk: &mut MemoryDisk, log: &mut Log) -> Result<(), Fail>
     requires log { HasLog log.old (⟦<MemoryDisk as Disk>⟧.view disk.old) }
     requires durable { IsDurable log.old.file (⟦<MemoryDisk as Disk>⟧.view disk.old) }

@@ -1,8 +1,8 @@
 ghost use Rattle.std.specs.Prelude.{◌≡◌, length, IfOk};
 
-use super::*;
-use crate::units::{FREE, POLICY, PRINC};
 use kdb_base::MemoryOut;
+use kdb_cells::units::{FREE, POLICY, PRINC};
+use kdb_cells::{Cells, StoredRow, UnitIndex, fill_unit, read_unit, unit_size};
 use std::alloc::Global;
 use std::test::*;
 

@@ -1,11 +1,11 @@
 ghost use Rattle.std.specs.Prelude.{◌≡◌, [], IfOk};
 
-use super::*;
 use kdb_base::{Fails, Point, Refusal, Stop, Time};
 use kdb_disk::MemoryDisk;
 use princ_rows::Rows;
 use std::alloc::Global;
 use std::test::*;
+use store_opening::create_parts;
 
 fn no_rows(alloc: Global) -> Result<Rows, Fail>
     ensures { IfOk result (λ r. r.princs ≡ []) }
