@@ -9,8 +9,8 @@ use Rattle.entry_lengths.proofs.Entries.{no_chain}
 use Rattle.entry_lengths.proofs.RekeyedRows.{anew_long, entry_rekeyed, made_long}
 use Rattle.entry_lengths.specs.Lengths.{IsAsLong}
 use Rattle.entry_lengths.specs.Rekeyings.{MayRekey, MaySettle, rekeyed_in}
-use Rattle.kdb_base.specs.EtypeLaws.{of_number}
-use Rattle.kdb_base.specs.Etypes.{etype_of, number_of}
+use Rattle.kdb_base.specs.EtypeLaws.{same_etype}
+use Rattle.kdb_base.specs.Etypes.{number_of}
 use Rattle.kdb_base.specs.Key.{Key}
 use Rattle.kdb_base.specs.Moment.{Moment}
 use Rattle.kdb_base.specs.Moments.{later_moment}
@@ -94,9 +94,6 @@ module _ (rows : RowLists) (s : State) (time clock : Moment) (name : NameParts) 
   now_rekeyed = by_active (active_at s (at_clock clock false)) refl
 
 -- ---- by work that comes back
-
-same_etype : (a b : Etype) → number_of a ≡ number_of b → a ≡ b
-same_etype a b e = same_Some a b (sym (of_number a) ∙ ap etype_of e ∙ of_number b)
 
 -- the master key of the version is of the type of the one that was taken
 pub record IsListedAs (masters : List Master) (version : ℕ) (key : Key) : Type 0 where

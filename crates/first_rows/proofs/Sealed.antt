@@ -14,7 +14,7 @@ use Rattle.krb_profile.specs.Profile.{IsSealed, sealed}
 use Rattle.krb_profile.specs.Sha1 as Sha1
 use Rattle.krb_profile.proofs.Cases.{from_sha1, from_sha2, sealed_sha1, sealed_sha2}
 use Rattle.krb_profile.proofs.KeyBytes.{derived_long, kdf_long}
-use Rattle.krb_profile.proofs.Parts.{short_tag}
+use Rattle.krb_profile.proofs.Parts.{tag_is_twelve}
 use Rattle.sha2_profile.specs.Sha2.{is_sha2}
 use Rattle.sha2_profile.specs.Sha2 as Sha2
 use Rattle.sha2_profile.proofs.Lengths.{length-tag}
@@ -35,7 +35,7 @@ module _ (key : Key) (usage : ℕ) (confounder plain : List ℕ) (long : length 
   unfolding Sha1.tag
   tag_1 other text =
       length-take-le (tag_len key.etype) (hmac (Sha1.integrity_key key usage) text)
-      (omega (arith, length-hmac (Sha1.integrity_key key usage) text, short_tag key.etype other))
+      (omega (arith, length-hmac (Sha1.integrity_key key usage) text, tag_is_twelve key.etype other))
 
   text_1 : length (cts (Sha1.encryption_key key usage) (confounder ++ plain)) ≡ length (confounder ++ plain)
   unfolding Sha1.encryption_key Sha1.usage_key

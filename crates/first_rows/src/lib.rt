@@ -6,8 +6,6 @@ mod first_keys;
 pub mod laws;
 mod records;
 mod rows;
-#[cfg(test)]
-mod tests;
 
 pub use create_spec::CreateSpec;
 pub use rows::first_rows;

@@ -1,1 +1,2 @@
 pub mod JudgedPlans
+pub mod Lines

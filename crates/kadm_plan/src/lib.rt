@@ -1,6 +1,7 @@
 //! The judge of a command against rows with wrapped keys, and what is made of a command before.
 #![tactic(auto)]
 
+pub mod laws;
 pub mod plans;
 pub mod ready;
 

@@ -23,24 +23,13 @@ use Rattle.kdb_plain.specs.declared.states.State.{State}
 use Rattle.princ_rows.specs.declared.entries.Entry.{Entry}
 use Rattle.princ_rows.specs.declared.entries.Op.{Op}
 use Rattle.princ_rows.specs.Rows.{RowLists}
+use Rattle.row_keys.proofs.Effects.{shows_at}
 use Rattle.row_keys.specs.Shows.{Shows}
 
 -- what is valid stays so, at later times and other points
 pub record StaysValid : Type 0 where
   pub later : (s : State) (early late : Moment) → early.secs ≤ late.secs → IsValid early s → IsValid late s
   pub point : (s : State) (time : Moment) (point : Point) → IsValid time s → IsValid time (record s { point = point })
-
--- rows say nothing of a point
-pub shows_at : (rows : RowLists) (point : Point) (s : State) → Shows rows s → Shows rows (at_point point s)
-shows_at rows point s h = record {
-  history = h.history;
-  history_is = h.history_is;
-  princs = h.princs;
-  policies = h.policies;
-  entry = h.entry;
-  there = h.there;
-  chain = record { chain = h.chain.chain; part = h.chain.part; part_is = h.chain.part_is; activations_are = h.chain.activations_are };
-}
 
 pub later_all : (a b c : Seen) → IsLater a b → IsLater b c → IsLater a c
 later_all a b c (inl x) (inl y) = inl (before_all (point_of a.place) (point_of b.place) (point_of c.place) x y)

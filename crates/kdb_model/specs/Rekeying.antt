@@ -2,7 +2,7 @@
 -- update_princ_encryption does it name by name; that it may be done beside commands is this project's own.
 use Rattle.std.specs.Prelude.{ℕ, Bool, false, ◌&&◌, nat_eq, nat_lt, List, Option, Some, None, if◌then◌else◌}
 use Rattle.std.specs.Str.{bytes_eq}
-use Rattle.kdb_base.specs.Key.{Key}
+use Rattle.kdb_base.specs.Key.{Key, is_same_key}
 use Rattle.kdb_base.specs.Limits.{longest_row}
 use Rattle.kdb_base.specs.Moment.{Moment}
 use Rattle.kdb_base.specs.Moments.{later_moment}
@@ -18,7 +18,6 @@ use Rattle.kdb_plain.specs.States.{master_of, princ_named}
 use Rattle.kdb_plain.specs.declared.princs.PlainPrinc.{PlainPrinc}
 use Rattle.kdb_plain.specs.declared.states.State.{State}
 use Rattle.key_activation.specs.Activations.{active}
-use Rattle.policy_rules.specs.Reuse.{is_same_key}
 use Rattle.princ_name.specs.Names.{NameParts, printed}
 use Rattle.princ_record.specs.Princs.{princ}
 use Rattle.princ_record.specs.declared.princs.Princ.{Princ}

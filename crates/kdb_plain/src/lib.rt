@@ -25,6 +25,3 @@ pub use lookups::{
 pub use princs::PlainPrinc;
 pub use states::State;
 pub use strings::{has_room_for, has_string, with_string, without_string};
-
-#[cfg(test)]
-mod tests;

@@ -10,6 +10,7 @@ use Rattle.kadm_commands.specs.declared.commands.Command.{Command}
 use Rattle.kadm_commands.specs.declared.commands.Command.TheVariants as command
 use Rattle.kadm_commands.specs.declared.replies.Reply.{Reply}
 use Rattle.kadm_commands.specs.declared.replies.Reply.TheVariants.{Done, Refused}
+use Rattle.kadm_plan.proofs.Lines.{no_master_line}
 use Rattle.kadm_plan.specs.Ready.{is_planned}
 use Rattle.kdb_base.specs.Moment.{Moment}
 use Rattle.kdb_base.specs.Moments.{later_moment}
@@ -22,7 +23,7 @@ use Rattle.kdb_histories.specs.Seen.{Keep, Plan, Put, Write, changed, due_at, en
 use Rattle.kdb_histories.specs.Stages.{ShowsAt}
 use Rattle.kdb_model.specs.Calls.{Call, call_of, change_point, is_last, next_moment, point_after}
 use Rattle.kdb_model.specs.Entries.{entry}
-use Rattle.kdb_model.specs.Laws.{IsMoment, IsPoint, IsStep, at_point, is_master_line, told}
+use Rattle.kdb_model.specs.Laws.{IsMoment, IsPoint, IsStep, at_point, told}
 use Rattle.kdb_model.specs.Refusals.{refusal}
 use Rattle.kdb_model.specs.Steps as steps
 use Rattle.kdb_model.specs.Steps.{answered, change_reply, committed, performed, reading, step, unless_refused}
@@ -39,6 +40,7 @@ use Rattle.princ_rows.specs.declared.entries.Op.{Op}
 use Rattle.princ_name.specs.Names.{NameParts}
 use Rattle.princ_rows.specs.Effects.{effect}
 use Rattle.princ_rows.specs.Rows.{RowLists}
+use Rattle.row_keys.proofs.Effects.{shows_at}
 use Rattle.row_keys.specs.Shows.{Shows}
 
 -- ---- commands that rows alone decide
@@ -100,33 +102,6 @@ done_reply s call point (command.RekeyPrincs glob) e = absurd cc
 done_reply s call point command.Stash e = absurd cc
 done_reply s call point command.Dump e = absurd cc
 
-no_master_line : (cmd : Command) → is_planned cmd ≡ true → is_master_line cmd ≡ false
-no_master_line (command.AddPrinc c) e = refl
-no_master_line (command.ModPrinc c) e = refl
-no_master_line (command.ChangeKeys c) e = refl
-no_master_line (command.RenPrinc c) e = refl
-no_master_line (command.DelPrinc name) e = refl
-no_master_line (command.GetPrinc name) e = refl
-no_master_line (command.ListPrincs glob) e = refl
-no_master_line (command.PurgeKeys c) e = refl
-no_master_line (command.SetString c) e = refl
-no_master_line (command.DelString c) e = refl
-no_master_line (command.GetStrings name) e = refl
-no_master_line (command.Extract name) e = refl
-no_master_line (command.AddPolicy p) e = refl
-no_master_line (command.ModPolicy c) e = refl
-no_master_line (command.DelPolicy name) e = refl
-no_master_line (command.GetPolicy name) e = refl
-no_master_line command.ListPolicies e = refl
-no_master_line command.GetPrivs e = refl
-no_master_line (command.AddMaster etype) e = absurd cc
-no_master_line (command.UseMaster c) e = absurd cc
-no_master_line command.ListMasters e = refl
-no_master_line command.PurgeMasters e = absurd cc
-no_master_line (command.RekeyPrincs glob) e = refl
-no_master_line command.Stash e = refl
-no_master_line command.Dump e = refl
-
 -- ---- steps
 
 pub step_commits : (s : State) (call : Call) (plain : PlainOp) → refusal s call ≡ None → entry s call ≡ Some plain → step s call ≡ committed s call plain
@@ -140,10 +115,6 @@ step_reads s call accepted is = ap (unless_refused s call) accepted ∙ ap (perf
 pub step_refuses : (s : State) (call : Call) (why : Refusal) → refusal s call ≡ Some why → step s call ≡ answered s (Refused why)
 unfolding step unless_refused
 step_refuses s call why is = ap (unless_refused s call) is
-
--- nothing is said of the point
-pub shows_at : (rows : RowLists) (point : Point) (s : State) → Shows rows s → Shows rows (at_point point s)
-shows_at rows point s h = record { history = h.history; history_is = h.history_is; princs = h.princs; policies = h.policies; entry = h.entry; there = h.there; chain = h.chain }
 
 -- the state of an outcome whose step is known
 abbrev pub outcome_of : Kind → steps.Outcome → Outcome

@@ -30,13 +30,14 @@ use Rattle.kdb_plain.specs.declared.states.State.{State}
 use Rattle.mkey_admin.specs.KeptMasters.{kept_masters}
 use Rattle.mkey_admin.specs.Plans.{IsMasterChange, is_master_command, reply_at}
 use Rattle.mkey_admin.specs.declared.planned.MasterChange.{MasterChange}
-use Rattle.performed_plans.proofs.Performed.{accepted_told, commanded_is, kept_performs, outcome_of, point_is, put_performs, reads_told, shows_at, step_commits}
+use Rattle.performed_plans.proofs.Performed.{accepted_told, commanded_is, kept_performs, outcome_of, point_is, put_performs, reads_told, step_commits}
 use Rattle.performed_plans.proofs.StepLaws.{StepLaws}
 use Rattle.performed_plans.specs.Ready.{IsReady}
 use Rattle.princ_rows.specs.declared.entries.Op.{Op}
 use Rattle.princ_name.specs.Names.{NameParts}
 use Rattle.princ_rows.specs.Effects.{effect}
 use Rattle.princ_rows.specs.Rows.{RowLists}
+use Rattle.row_keys.proofs.Effects.{shows_at}
 
 -- ---- the commands of master keys
 

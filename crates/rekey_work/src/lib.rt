@@ -6,11 +6,9 @@ pub mod laws;
 pub mod rewrapping;
 pub mod settling;
 pub mod taking;
-#[cfg(test)]
-mod tests;
 pub mod works;
 
-pub use rewrapping::rewrap_outside;
+pub use rewrapping::{rewrap_outside, rewrap_taken};
 pub use settling::settle;
 pub use taking::take;
 pub use works::{Rewrapped, Settled, Taken};

@@ -3,7 +3,6 @@
 ghost use Rattle.std.specs.Prelude.{◌≡◌, IfOk, IfSome, Some, option_map};
 ghost use Rattle.kdb_model.specs.Rekeying.{has_keys, is_key, is_record, is_version, unless_same};
 ghost use Rattle.kdb_plain.specs.States.{master_of};
-ghost use Rattle.policy_rules.specs.Reuse.{is_same_key};
 ghost use Rattle.princ_record.specs.Princs.{IsPrinc, princ};
 ghost use Rattle.rekey_work.specs.Works.{settled_with};
 
@@ -24,18 +23,12 @@ fn is_record(alloc: Global, one: &Princ, other: &Princ) -> Result<bool, MemoryOu
     Ok(one.as_slice() == other.as_slice())
 }
 
-fn is_same(one: &PlainKey, other: &PlainKey) -> bool
-    ensures { result ≡ is_same_key one.now other.now }
-{
-    one.etype() == other.etype() && one.as_slice() == other.as_slice()
-}
-
 /// Whether this is the master key of the version.
 fn is_master(masters: &Masters, version: u16, key: &PlainKey) -> bool
     ensures { result ≡ is_key (master_of masters.now version) key.now }
 {
     match master_of(masters, version) {
-        Some(found) => is_same(&found, key),
+        Some(found) => found == *key,
         None => false,
     }
 }

@@ -6,6 +6,7 @@ use Rattle.std.specs.Ordering.{is_lt, is_gt}
 use Rattle.std.specs.Str.{bytes_eq}
 use Rattle.std.proofs.lemmas.List.Elements.{recursion_from_All}
 use Rattle.kdb_base.specs.Key.{Key}
+use Rattle.kdb_base.specs.declared.moments.Point.{Point}
 use Rattle.kdb_base.specs.declared.versions.Activation.{Activation}
 use Rattle.kdb_base.specs.declared.versions.Master.{Master}
 use Rattle.master_keys.specs.First.{master_name}
@@ -249,3 +250,7 @@ ordinary_spares s (Rename old q) may = may
 ordinary_spares s (PutPolicy q) may = tt
 ordinary_spares s (DropPolicy name) may = tt
 ordinary_spares s (PutMasters q kept activations) may = absurd may
+
+-- rows say nothing of a point
+pub shows_at : (rows : RowLists) (point : Point) (s : State) → Shows rows s → Shows rows (record s { point = point })
+shows_at rows point s h = record { history = h.history; history_is = h.history_is; princs = h.princs; policies = h.policies; entry = h.entry; there = h.there; chain = h.chain }

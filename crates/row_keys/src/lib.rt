@@ -18,6 +18,3 @@ pub use remembering::remembered_sets;
 pub use ring::MasterRing;
 pub use sound::{Unsound, check_rows};
 pub use wraps::{behind_items, rekeyed_items, taken_len, wrapped_items};
-
-#[cfg(test)]
-mod tests;

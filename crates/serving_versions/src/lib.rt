@@ -5,8 +5,6 @@
 pub mod laws;
 pub mod master_laws;
 pub mod serving;
-#[cfg(test)]
-mod tests;
 
 pub use serving::{
     Cause, cause_from, cause_of, dead_versions, protected_by, serves, serving_masters,

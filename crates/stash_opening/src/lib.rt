@@ -4,7 +4,5 @@
 mod finding;
 mod opening;
 mod stash_keys;
-#[cfg(test)]
-mod tests;
 
 pub use opening::{find_masters, stash_masters};

@@ -1,7 +1,0 @@
-use Rattle.std.proofs.Common.{refl}
-use Rattle.std.specs.List.Sorted.{IsStrictlySortedBy}
-use Rattle.serving_versions.proofs.tests.two_masters.Goals as goal
-
-pub from_vec-requires : goal.from_vec-requires
-unfolding IsStrictlySortedBy
-from_vec-requires c = rw c.in_ok-items.ensures.items ((refl, tt), (tt, tt))
