@@ -1,13 +1,14 @@
 //! Messages received over a link.
-ghost use Rattle.std.specs.Prelude.{◌≡◌, ◌≤◌, ◌<◌, ◌+◌, [], true, false, length, option_map, Option, Some, None, Err, Ok, IfErr, IfOk};
-ghost use Rattle.iprop_links.specs.Arriving.{Arrives, Counts, HasGiven, Holds, IsOver, coming, in_all};
-ghost use Rattle.iprop_wire.specs.Decoding.{fresh, is_going};
+ghost use Rattle.std.specs.Prelude.{◌≡◌, ◌≤◌, ◌<◌, ◌+◌, ◌⊎◌, [], true, false, length, option_map, Option, Some, None, Err, Ok, IfErr, IfOk, OnErr, OnOk};
+ghost use Rattle.iprop_links.specs.Arriving.{Arrives, Counts, EndsEarly, HasEnded, HasGiven, Holds, IsOver, Needs, StopsShort, coming, in_all, led};
+ghost use Rattle.iprop_wire.specs.Decoding.{fed, fresh, is_going};
+ghost use Rattle.iprop_wire.specs.Due.{narrowed};
 ghost use Rattle.iprop_wire.specs.declared.messages.Message.{Message as Heard};
-ghost use Rattle.kdb_ports.specs.Links.{Wire};
+ghost use Rattle.kdb_ports.specs.Links.{Wire, before_received};
 
 use crate::halts::LinkHalt;
 use crate::pieces::Piece;
-use iprop_wire::{Decoder, FrameFault, Message};
+use iprop_wire::{Decoder, Due, FrameFault, Message};
 use kdb_base::MemoryOut;
 use kdb_ports::Link;
 use std::alloc::Global;
@@ -19,11 +20,11 @@ const MOST_RECEIVED: u64 = 4294967296;
 /// What came of the bytes that a connection gives.
 #[derive(Debug, Drop)]
 pub enum Arrival {
-    /// The next message.
+    /// The message that was due.
     Came(Message),
-    /// The peer ended before the end of a message.
+    /// The peer ended before its end.
     Cut,
-    /// No message goes on with these bytes.
+    /// No message that is due goes on with these bytes.
     Bad,
 }
 
@@ -62,10 +63,12 @@ impl Inbox {
     }
 
     /// Takes what waits, up to the end of a message.
-    fn take_held(&mut self) -> Result<Option<Arrival>, LinkHalt>
-        ensures holds { (told : Option Wire) → Holds result self.old.state (coming self.old.pending told) self.new.state (coming self.new.pending told) }
+    fn take_held(&mut self, due: Due) -> Result<Option<Arrival>, LinkHalt>
+        ensures holds { (told : Option Wire) → Holds due result self.old.state (coming self.old.pending told) self.new.state (coming self.new.pending told) }
         ensures fresh { (message : Heard) → result ≡ Ok (Some (Arrival.Came message)) → self.new.state ≡ fresh }
-        ensures going { result ≡ Ok None → is_going self.new.state ≡ true }
+        ensures going { result ≡ Ok None → is_going (narrowed due self.new.state) ≡ true }
+        ensures ended { (arrival : Arrival) → result ≡ Ok (Some arrival) → is_going (led due self.old.state self.old.pending) ≡ false }
+        ensures leads { result ≡ Ok None → self.new.state ≡ fed self.old.state self.old.pending }
         ensures none { result ≡ Ok None → self.new.pending ≡ [] }
         ensures halt { IfErr result (λ halt. halt ≡ LinkHalt.MemoryOut) }
         ensures received { self.new.received ≡ self.old.received }
@@ -75,6 +78,9 @@ impl Inbox {
             Ok(count) => self.piece.pass(count),
             Err(FrameFault::BadFrame) => return Ok(Some(Arrival::Bad)),
             Err(FrameFault::MemoryOut) => return Err(LinkHalt::MemoryOut),
+        }
+        if !self.decoder.is_due(due) {
+            return Ok(Some(Arrival::Bad));
         }
         match self.decoder.next() {
             Some(message) => Ok(Some(Arrival::Came(message))),
@@ -89,9 +95,13 @@ impl Inbox {
         ensures same { coming self.new.pending (L.wire link.new) ≡ coming self.old.pending (L.wire link.old) }
         ensures over { result ≡ Ok false → IsOver (coming self.new.pending (L.wire link.new)) }
         ensures gave { HasGiven (L.wire link.old) (L.wire link.new) }
+        ensures piece { L.wire link.old ≡ before_received self.new.pending (L.wire link.new) }
+        ensures few { length self.new.pending ≤ 16384 }
+        ensures err { OnErr result (L.wire link.new ≡ L.wire link.old) }
         ensures received { in_all self.old.received (L.wire link.old) ≡ in_all self.new.received (L.wire link.new) }
         ensures falls { result ≡ Ok true → self.old.received < self.new.received }
         ensures room { self.new.received ≤ 4294967296 }
+        ensures early { result ≡ Ok false → self.new.received < 4294967296 }
         ensures too_long { result ≡ Err LinkHalt.InputTooLong → self.new.received ≡ 4294967296 }
         ensures faults { Counts (L.faults link.old) (L.faults link.new) (result ≡ Err LinkHalt.LinkFault) }
     {
@@ -108,23 +118,29 @@ impl Inbox {
         }
     }
 
-    /// Receives up to the end of the next message. What is received behind it waits.
+    /// Receives up to the end of the next message. What is received behind it waits. Bytes that are, or go on to, a
+    /// message that is not due are refused once that shows. The link is read only where more has to come.
     ///
     /// # Errors
     ///
     /// `InputTooLong` where 4294967296 bytes were received in all, none of them waits, and neither a message nor the
     /// peer had ended; `LinkFault` where the link failed; `MemoryOut` where memory is wanted and not given.
-    pub fn next<L: Link>(&mut self, link: &mut L) -> Result<Arrival, LinkHalt>
-        ensures arrives { IfOk result (λ a. Arrives a self.old.state (coming self.old.pending (L.wire link.old)) (coming self.new.pending (L.wire link.new))) }
+    pub fn next<L: Link>(&mut self, link: &mut L, due: Due) -> Result<Arrival, LinkHalt>
+        ensures arrives { IfOk result (λ a. Arrives due a self.old.state (coming self.old.pending (L.wire link.old)) (coming self.new.pending (L.wire link.new))) }
         ensures fresh { (message : Heard) → result ≡ Ok (Arrival.Came message) → self.new.state ≡ fresh }
         ensures gave { HasGiven (L.wire link.old) (L.wire link.new) }
         ensures received { in_all self.old.received (L.wire link.old) ≡ in_all self.new.received (L.wire link.new) }
         ensures room { self.new.received ≤ 4294967296 }
+        // No call is made where the bytes that wait are enough, and none behind one whose bytes are.
+        ensures reads { (link.new ≡ link.old) ⊎ Needs due self.old.state self.old.pending (L.wire link.old) (L.wire link.new) }
+        // An answer is made of what was received, or of the peer's end before 4294967296 bytes were.
+        ensures in_time { OnOk result (HasEnded due self.old.state self.old.pending (L.wire link.old) (L.wire link.new) ⊎ EndsEarly self.new.received (coming self.new.pending (L.wire link.new))) }
+        ensures short { IfErr result (λ halt. StopsShort halt due self.old.state self.old.pending (L.wire link.old) (L.wire link.new)) }
         ensures too_long { result ≡ Err LinkHalt.InputTooLong → self.new.received ≡ 4294967296 }
         ensures faults { Counts (L.faults link.old) (L.faults link.new) (result ≡ Err LinkHalt.LinkFault) }
     {
         loop {
-            match self.take_held() {
+            match self.take_held(due) {
                 Ok(Some(arrival)) => return Ok(arrival),
                 Ok(None) => {}
                 Err(halt) => return Err(halt),

@@ -43,13 +43,13 @@ pub(crate) struct Piece {
 }
 
 impl Model for Piece {
-    ghost use Rattle.std.specs.Prelude.{◌≤◌, ◌<◌, List, ℕ, drop, take, length};
+    ghost use Rattle.std.specs.Prelude.{◌≡◌, ◌≤◌, List, ℕ, drop, take, length};
 
     ghost Value = { List ℕ };
 
     ghost view = { λ p. drop p.at (take p.end p.bytes.items) };
 
-    ghost invariant = { λ p. (p.at ≤ p.end) × ((p.end ≤ length p.bytes.items) × (0 < length p.bytes.items)) };
+    ghost invariant = { λ p. (p.at ≤ p.end) × ((p.end ≤ length p.bytes.items) × (length p.bytes.items ≡ 16384)) };
 }
 
 impl Piece {
@@ -85,6 +85,7 @@ impl Piece {
         requires { 0 < limit }
         ensures count { IfOk result (λ n. n ≡ length self.new) }
         ensures bound { length self.new ≤ limit }
+        ensures few { length self.new ≤ 16384 }
         ensures bytes { IfOk result (λ n. L.wire link.old ≡ before_received self.new (L.wire link.new)) }
         ensures end { IfOk result (λ n. n ≡ 0 → IsDrained (L.wire link.new)) }
         ensures err { OnErr result (L.wire link.new ≡ L.wire link.old) }

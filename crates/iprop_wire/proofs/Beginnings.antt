@@ -1,10 +1,10 @@
 -- Bytes that were taken are the beginning of a message.
-use Rattle.std.proofs.Common.{◌≡◌, ℕ, zero, suc, ◌+◌, ◌-◌, ◌^◌, ◌<◌, ◌≤◌, Bool, true, false, List, [], ◌∷◌, ◌++◌, length, map, replicate, Option, Some, None, refl, sym, ap, subst, ◌∙◌, append_assoc, arith, inl, inr}
+use Rattle.std.proofs.Common.{◌≡◌, ℕ, zero, suc, ◌+◌, ◌-◌, ◌^◌, ◌<◌, ◌≤◌, Bool, true, false, List, [], ◌∷◌, ◌++◌, length, map, replicate, Some, refl, sym, ap, subst, ◌∙◌, append_assoc, arith, inl, inr}
 use Rattle.std.specs.Prelude.{nat_eq, slice_index}
-use Rattle.std.specs.List.{All, AllByRecursion, flat_map}
+use Rattle.std.specs.List.{AllByRecursion, flat_map}
 use Rattle.std.proofs.lemmas.Bool.{cases_lt, eqb-true, false≢true}
 use Rattle.std.proofs.lemmas.Grind.{flat_map-append}
-use Rattle.std.proofs.lemmas.List.{append-nil, length-append, length-replicate, map-append}
+use Rattle.std.proofs.lemmas.List.{length-append, length-replicate, map-append}
 use Rattle.std.proofs.lemmas.List.Elements.{All-from_recursion}
 use Rattle.kdb_base.specs.declared.moments.Point.{Point}
 use Rattle.kdb_format.specs.Fields.{IsBytes}
@@ -13,13 +13,11 @@ use Rattle.kdb_format.specs.Spellings.{big}
 use Rattle.policy_rules.specs.Names.{is_policy_name}
 use Rattle.princ_rows.specs.Entries.{IsSent}
 use Rattle.princ_rows.specs.declared.entries.Entry.{Entry}
-use Rattle.princ_rows.specs.declared.entries.Op.{Op}
 use Rattle.princ_rows.specs.declared.entries.Op.TheVariants.{DropPolicy}
 use Rattle.princ_rows.specs.declared.replies.ReplyCode.TheVariants.{UpdateOk, Nil}
-use Rattle.iprop_wire.specs.Answers.{IsPart}
 use Rattle.iprop_wire.specs.Beginnings.{IsBeginning}
 use Rattle.iprop_wire.specs.Decoding.{Begun, Nothing, Updates, Pieces, Going, fed, fresh, is_of_dump, may_begin, may_come}
-use Rattle.iprop_wire.specs.Frames.{Frame, frame, text_of, frame_text, most_behind, hello_kind, poll_kind, ask_kind, reply_kind, update_kind, piece_kind, total_kind}
+use Rattle.iprop_wire.specs.Frames.{Frame, frame, text_of, frame_text, hello_kind, poll_kind, ask_kind, reply_kind, update_kind, piece_kind, total_kind}
 use Rattle.iprop_wire.specs.Messages.{head_text}
 use Rattle.iprop_wire.specs.Spelled.{AreFrames, IsMessage, IsPiece, update_frame}
 use Rattle.iprop_wire.specs.declared.messages.Message.{Message}

@@ -1,7 +1,7 @@
 -- What is handed out as a message spells it, and what came so far is the beginning of one.
-use Rattle.std.proofs.Common.{◌≡◌, ℕ, zero, suc, ◌+◌, ◌-◌, ◌^◌, ◌<◌, ◌≤◌, Bool, true, false, not, cond, eqb, ltb, List, [], ◌∷◌, ◌++◌, length, take, drop, map, Option, Some, None, refl, sym, ap, subst, ◌∙◌, append_assoc, arith, inl, inr}
+use Rattle.std.proofs.Common.{◌≡◌, ℕ, suc, ◌+◌, ◌-◌, ◌^◌, ◌<◌, ◌≤◌, Bool, true, false, not, cond, List, [], ◌∷◌, ◌++◌, length, take, drop, map, Option, Some, None, refl, sym, ap, subst, ◌∙◌, append_assoc, arith, inl, inr}
 use Rattle.std.specs.Prelude.{nat_eq, nat_lt, slice_index}
-use Rattle.std.specs.List.{All, AllByRecursion, flat_map}
+use Rattle.std.specs.List.{AllByRecursion, flat_map}
 use Rattle.std.proofs.lemmas.Bool.{cases_lt, eqb-true, false≢true, ltb-false, ltb-true}
 use Rattle.std.proofs.lemmas.Grind.{flat_map-append, take_at_read}
 use Rattle.std.proofs.lemmas.List.{append-nil, length-append, length-drop, map-append, nil_from_length, take-append-drop}
@@ -16,7 +16,7 @@ use Rattle.kdb_format.specs.Readings.{big_at, whole}
 use Rattle.kdb_format.specs.Spellings.{big}
 use Rattle.princ_rows.specs.Entries.{IsSent, sent, sent_at}
 use Rattle.princ_rows.specs.EntryLaws.{sent_field}
-use Rattle.princ_rows.specs.Replies.{IsReply, MayCome}
+use Rattle.princ_rows.specs.Replies.{MayCome}
 use Rattle.princ_rows.specs.declared.entries.Entry.{Entry}
 use Rattle.princ_rows.specs.declared.replies.ReplyCode.{ReplyCode}
 use Rattle.princ_rows.specs.declared.replies.ReplyCode.TheVariants.{UpdateOk, FullResyncNeeded, Busy, Nil, PermDenied}
@@ -24,8 +24,8 @@ use Rattle.iprop_wire.specs.Answers.{IsPart}
 use Rattle.iprop_wire.specs.Decoding.{Begun, Nothing, Updates, Pieces, State, Going, Waits, Broken, Spent, after_ask, after_dump_frame, after_first_frame, after_frame, after_head, after_piece, after_total, after_update, after_update_frame, brings, fed, fresh, head_at, is_length, may_come, or_broken, settled, taken}
 use Rattle.iprop_wire.specs.Frames.{Frame, frame, text_of, frame_text, longest_body, most_behind, hello_kind, poll_kind, ask_kind, reply_kind, update_kind, piece_kind, total_kind}
 use Rattle.iprop_wire.specs.HeadLaws.{IsHead, head_field}
-use Rattle.iprop_wire.specs.Messages.{head_of, head_text}
-use Rattle.iprop_wire.specs.Spelled.{AreFrames, AreOfDump, IsMessage, IsPiece, Spells, update_frame}
+use Rattle.iprop_wire.specs.Messages.{head_text}
+use Rattle.iprop_wire.specs.Spelled.{AreFrames, IsMessage, IsPiece, Spells, update_frame}
 use Rattle.iprop_wire.specs.declared.formats.Head.{Head}
 use Rattle.iprop_wire.specs.declared.messages.Message.{Message}
 use Rattle.iprop_wire.specs.declared.messages.Message.TheVariants.{Hello, Poll, Ask, Reply, DumpText}

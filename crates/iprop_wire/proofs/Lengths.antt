@@ -1,7 +1,6 @@
 -- What stands in a frame is not too long for it.
-use Rattle.std.proofs.Common.{◌≡◌, ◌≤◌, ◌++◌, ◌+◌, length, arith}
+use Rattle.std.proofs.Common.{◌≡◌, ◌≤◌, ◌++◌, length, arith}
 use Rattle.std.proofs.lemmas.List.{length-append}
-use Rattle.kdb_base.specs.Limits.{longest_row}
 use Rattle.kdb_base.specs.Moment.{Moment}
 use Rattle.kdb_base.specs.declared.moments.Point.{Point}
 use Rattle.kdb_format.specs.Lengths.{length-counted}
@@ -12,7 +11,7 @@ use Rattle.princ_rows.specs.Entries.{op_text, sent, kind_of, key_of, row_of, IsS
 use Rattle.princ_rows.specs.EntryLaws.{key_short, row_short}
 use Rattle.princ_rows.specs.Replies.{number_of}
 use Rattle.princ_rows.specs.declared.entries.Entry.{Entry}
-use Rattle.iprop_wire.specs.Frames.{frame_text, most_behind}
+use Rattle.iprop_wire.specs.Frames.{most_behind}
 use Rattle.iprop_wire.specs.Messages.{head_text}
 use Rattle.iprop_wire.specs.declared.formats.Head.{Head}
 

@@ -1,7 +1,8 @@
 mod Lengths
 mod Pieces
 mod Steps
-mod Reading
+pub mod Reading
 mod Written
 mod Came
 mod Beginnings
+pub mod Awaited

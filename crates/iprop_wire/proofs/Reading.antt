@@ -1,9 +1,9 @@
 -- What a message spells is that message.
-use Rattle.std.proofs.Common.{◌≡◌, ℕ, zero, suc, ◌+◌, ◌-◌, ◌*◌, ◌^◌, ◌<◌, ◌≤◌, Bool, true, false, cond, eqb, List, [], ◌∷◌, ◌++◌, length, take, drop, map, Option, Some, None, refl, sym, ap, subst, ◌∙◌, append_assoc, arith, inl, inr}
-use Rattle.std.specs.Prelude.{nat_eq, nat_lt, slice_index}
-use Rattle.std.specs.List.{All, AllByRecursion, flat_map}
-use Rattle.std.proofs.lemmas.Bool.{false≢true, lt-ltb, le-ltb}
-use Rattle.std.proofs.lemmas.List.{append-nil, drop_at, get_or-append_right, length-append, nil_from_length}
+use Rattle.std.proofs.Common.{◌≡◌, ℕ, ◌+◌, ◌-◌, ◌^◌, ◌<◌, ◌≤◌, Bool, true, false, cond, eqb, List, [], ◌∷◌, ◌++◌, length, drop, map, Option, refl, sym, ap, subst, ◌∙◌, append_assoc, arith}
+use Rattle.std.specs.Prelude.{nat_lt, slice_index}
+use Rattle.std.specs.List.{AllByRecursion, flat_map}
+use Rattle.std.proofs.lemmas.Bool.{le-ltb}
+use Rattle.std.proofs.lemmas.List.{append-nil, drop_at, get_or-append_right, length-append}
 use Rattle.std.proofs.lemmas.Option.{same_Some}
 use Rattle.std.proofs.lemmas.List.Elements.{recursion_from_All}
 use Rattle.byteorder.specs.Endian.{big_number}
@@ -25,7 +25,7 @@ use Rattle.iprop_wire.specs.Decoding.{Begun, Nothing, Updates, Pieces, State, Go
 use Rattle.iprop_wire.specs.Frames.{Frame, frame, text_of, frame_text, most_behind, hello_kind, poll_kind, ask_kind, reply_kind, update_kind, piece_kind, total_kind}
 use Rattle.iprop_wire.specs.HeadLaws.{IsHead, head_field}
 use Rattle.iprop_wire.specs.Messages.{head_of, head_text}
-use Rattle.iprop_wire.specs.Spelled.{AreFrames, AreOfDump, IsMessage, IsPiece, Spells, update_frame}
+use Rattle.iprop_wire.specs.Spelled.{AreFrames, IsMessage, IsPiece, Spells, update_frame}
 use Rattle.iprop_wire.specs.declared.formats.Head.{Head}
 use Rattle.iprop_wire.specs.declared.messages.Message.{Message}
 use Rattle.iprop_wire.specs.declared.messages.Message.TheVariants.{Hello, Poll, Ask, Reply, DumpText}

@@ -1,11 +1,11 @@
 -- Bytes that are judged together lead to what they lead to one by one.
-use Rattle.std.proofs.Common.{◌≡◌, ℕ, zero, suc, ◌+◌, ◌-◌, ◌<◌, ◌≤◌, Bool, true, false, List, [], ◌∷◌, ◌++◌, length, take, drop, refl, sym, ap, subst, ◌∙◌, append_assoc, arith, inl, inr}
-use Rattle.std.specs.Prelude.{min, nat_eq, nat_lt, slice_index, Option, Some, None, is_some, Result, Ok, Err}
+use Rattle.std.proofs.Common.{◌≡◌, ℕ, ◌+◌, ◌-◌, ◌<◌, ◌≤◌, true, false, List, [], ◌∷◌, ◌++◌, length, take, drop, refl, sym, ap, subst, ◌∙◌, append_assoc, arith, inl, inr}
+use Rattle.std.specs.Prelude.{min, nat_eq, slice_index, Option, Some, None, is_some, Result, Ok, Err}
 use Rattle.std.proofs.lemmas.Bool.{cases_lt, false≢true, lt-ltb, le-ltb}
-use Rattle.std.proofs.lemmas.List.{get_or_append_left, length-append, length-drop, length-take, take-append-le, take-append-drop}
+use Rattle.std.proofs.lemmas.List.{get_or_append_left, length-append, length-take, take-append-le, take-append-drop}
 use Rattle.byteorder.specs.Endian.{big_number}
 use Rattle.byteorder.specs.Numbers.{big_from-take}
-use Rattle.iprop_wire.specs.Answers.{Advances, IsHeld, IsPart, Settles, begun, need, refused, state_of}
+use Rattle.iprop_wire.specs.Answers.{Advances, IsHeld, IsPart, Settles, begun, need, state_of}
 use Rattle.iprop_wire.specs.Decoding.{Begun, State, Going, Waits, Broken, Spent, Takes, fed, is_going, is_length, is_sound, may_come, settled, taken}
 use Rattle.iprop_wire.specs.declared.faults.FrameFault.{FrameFault}
 use Rattle.iprop_wire.specs.declared.faults.FrameFault.TheVariants as fault

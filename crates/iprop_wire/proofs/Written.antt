@@ -1,15 +1,15 @@
 -- What is written of a message spells it.
-use Rattle.std.proofs.Common.{◌≡◌, ℕ, zero, suc, ◌+◌, ◌<◌, ◌≤◌, List, [], ◌∷◌, ◌++◌, length, take, drop, map, refl, sym, ap, ◌∙◌, arith}
-use Rattle.std.specs.List.{All, AllByRecursion, flat_map}
+use Rattle.std.proofs.Common.{◌≡◌, ℕ, zero, suc, ◌<◌, ◌≤◌, List, [], ◌∷◌, ◌++◌, length, take, drop, map, refl, sym, ap, ◌∙◌, arith}
+use Rattle.std.specs.List.{AllByRecursion, flat_map}
 use Rattle.std.proofs.lemmas.Grind.{flat_map-append}
 use Rattle.std.proofs.lemmas.List.{append-nil, length-drop, length-take, take-append-drop}
 use Rattle.std.proofs.lemmas.List.Elements.{All-from_recursion}
 use Rattle.kdb_format.specs.Moments.{point}
 use Rattle.kdb_format.specs.Spellings.{big}
 use Rattle.princ_rows.specs.declared.entries.Entry.{Entry}
-use Rattle.iprop_wire.specs.Frames.{Frame, frame, text_of, frame_text, most_behind, hello_kind, poll_kind, ask_kind, reply_kind, piece_kind, total_kind}
+use Rattle.iprop_wire.specs.Frames.{frame, text_of, frame_text, most_behind, hello_kind, poll_kind, ask_kind, reply_kind, piece_kind, total_kind}
 use Rattle.iprop_wire.specs.Messages.{dump_frames, head_of, head_text, message_text, pieces_text, update_text}
-use Rattle.iprop_wire.specs.Spelled.{AreFrames, AreOfDump, IsMessage, IsPiece, Spells, update_frame}
+use Rattle.iprop_wire.specs.Spelled.{IsMessage, IsPiece, Spells, update_frame}
 use Rattle.iprop_wire.specs.declared.messages.Message.{Message}
 use Rattle.iprop_wire.specs.declared.messages.Message.TheVariants.{Hello, Poll, Ask, Reply, DumpText}
 use Rattle.iprop_wire.proofs.Pieces.{no_pieces, some_pieces}

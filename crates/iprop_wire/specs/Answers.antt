@@ -6,7 +6,7 @@ use Rattle.kdb_format.specs.declared.faults.FormatFault.{FormatFault}
 use Rattle.kdb_format.specs.declared.faults.FormatFault.TheVariants as format
 use Rattle.princ_rows.specs.Entries.{IsSent}
 use Rattle.princ_rows.specs.declared.entries.Entry.{Entry}
-use Rattle.iprop_wire.specs.Decoding.{Begun, Nothing, Updates, Pieces, State, Going, Waits, Broken, Spent, fed, is_length, is_sound, may_come, settled, taken}
+use Rattle.iprop_wire.specs.Decoding.{Begun, Nothing, Updates, Pieces, State, Going, Waits, Broken, Spent, fed, is_length, is_sound, may_come, taken}
 use Rattle.iprop_wire.specs.declared.faults.FrameFault.{FrameFault}
 use Rattle.iprop_wire.specs.declared.faults.FrameFault.TheVariants as fault
 use Rattle.iprop_wire.specs.declared.messages.Message.{Message}

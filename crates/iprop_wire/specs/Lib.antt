@@ -5,3 +5,4 @@ pub mod HeadLaws
 pub mod Answers
 pub mod Spelled
 pub mod Beginnings
+pub mod Due

@@ -5,7 +5,6 @@ use Rattle.kdb_format.specs.Moments.{point, IsPoint}
 use Rattle.kdb_format.specs.Spellings.{big}
 use Rattle.princ_rows.specs.Entries.{sent}
 use Rattle.princ_rows.specs.Replies.{IsReply}
-use Rattle.princ_rows.specs.Replies.{Reply as ReplyParts}
 use Rattle.princ_rows.specs.declared.entries.Entry.{Entry}
 use Rattle.iprop_wire.specs.Frames.{Frame, frame, text_of, most_behind, hello_kind, poll_kind, ask_kind, reply_kind, update_kind, piece_kind, total_kind}
 use Rattle.iprop_wire.specs.HeadLaws.{IsHead}

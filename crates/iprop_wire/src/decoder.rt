@@ -4,10 +4,12 @@ ghost use Rattle.std.specs.Prelude.{◌≡◌, ◌≤◌, ◌<◌, ◌++◌, ℕ
 ghost use Rattle.byteorder.specs.Endian.{big_number};
 ghost use Rattle.iprop_wire.specs.Answers.{Advances, IsBegun, Settles, begun, need, refused};
 ghost use Rattle.iprop_wire.specs.Decoding.{Broken, Going, Spent, State, Takes, Waits, fed, fresh, handed_out, is_going, is_idle, is_length, settled, waiting_in};
+ghost use Rattle.iprop_wire.specs.Due.{is_due};
 ghost use Rattle.iprop_wire.specs.declared.faults.FrameFault.{FrameFault};
 ghost use Rattle.iprop_wire.specs.declared.faults.FrameFault.TheVariants.{BadFrame as IsBadFrame, MemoryOut as IsMemoryOut};
 ghost use Rattle.iprop_wire.specs.declared.messages.Message.{Message};
 
+use crate::due::{Due, is_due_message};
 use crate::faults::FrameFault;
 use crate::messages::Message;
 use crate::progress::Progress;
@@ -211,5 +213,16 @@ impl Decoder {
             return true;
         }
         self.fault.is_none() && self.progress.is_nothing() && self.held.is_empty()
+    }
+
+    /// Whether the bytes that were taken are what is due, or go on to it: they are judged once the kind of the first
+    /// frame came, and those of a reply once the first frame came whole too.
+    pub fn is_due(&self, due: Due) -> bool
+        ensures { result ≡ is_due due self.now }
+    {
+        match &self.waiting {
+            Some(message) => is_due_message(due, message),
+            None => self.fault.is_none() && self.progress.is_due(due, &self.held),
+        }
     }
 }

@@ -1,12 +1,14 @@
 //! Laws of frames. They do no work.
 
-ghost use Rattle.std.specs.Prelude.{◌≡◌, ◌<◌, ◌^◌, ◌+◌, ◌++◌, List, ℕ, length, take};
+ghost use Rattle.std.specs.Prelude.{◌≡◌, ◌<◌, ◌^◌, ◌+◌, ◌++◌, List, ℕ, false, length, take};
 ghost use Rattle.kdb_format.specs.Fields.{IsBytes};
 ghost use Rattle.iprop_wire.specs.Beginnings.{IsBeginning};
 ghost use Rattle.iprop_wire.specs.Decoding.{Begun, Broken, Going, State, Waits, fed, fresh, taken};
+ghost use Rattle.iprop_wire.specs.Due.{is_due, is_due_message};
 ghost use Rattle.iprop_wire.specs.Frames.{longest_body};
 ghost use Rattle.iprop_wire.specs.Messages.{message_text};
 ghost use Rattle.iprop_wire.specs.Spelled.{IsMessage, Spells};
+ghost use Rattle.iprop_wire.specs.declared.due.Due.{Due};
 ghost use Rattle.iprop_wire.specs.declared.messages.Message.{Message};
 
 /// What bytes lead to does not depend on how they are cut into pieces.
@@ -49,4 +51,10 @@ pub fn no_more_than_a_frame_is_held()
 /// What is written of a message spells it.
 pub fn what_is_written_spells_the_message()
     ensures { (message : Message) → IsMessage message → Spells (message_text message) message }
+{}
+
+/// What is not due stays so, whatever follows, and no message that is due begins so.
+pub fn what_is_not_due_stays_so()
+    ensures stays { (due : Due) (s : State) (bytes : List ℕ) → is_due due s ≡ false → is_due due (fed s bytes) ≡ false }
+    ensures none { (due : Due) (text rest : List ℕ) (message : Message) → is_due due (fed fresh text) ≡ false → Spells (text ++ rest) message → is_due_message due message ≡ false }
 {}

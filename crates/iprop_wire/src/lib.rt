@@ -2,6 +2,7 @@
 #![tactic(auto)]
 
 pub mod decoder;
+pub mod due;
 pub mod faults;
 pub mod formats;
 pub mod laws;
@@ -9,6 +10,7 @@ pub mod messages;
 mod progress;
 
 pub use decoder::Decoder;
+pub use due::Due;
 pub use faults::FrameFault;
 pub use messages::{Message, write_message};
 

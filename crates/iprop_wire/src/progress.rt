@@ -8,8 +8,10 @@ ghost use Rattle.princ_rows.specs.Entries.{IsSent};
 ghost use Rattle.princ_rows.specs.declared.replies.ReplyCode.TheVariants.{UpdateOk};
 ghost use Rattle.iprop_wire.specs.Answers.{Closes, ClosesFirst, IsBegun, begun};
 ghost use Rattle.iprop_wire.specs.Decoding.{Nothing, Waits, after_ask, after_dump_frame, after_first_frame, after_frame, after_head, after_piece, after_total, after_update, after_update_frame, head_at, is_nothing, is_of_dump, may_begin, may_come, or_broken};
+ghost use Rattle.iprop_wire.specs.Due.{is_due_begun};
 ghost use Rattle.iprop_wire.specs.declared.messages.Message.TheVariants.{Hello, Poll, Reply};
 
+use crate::due::{Due, is_due_kind, wants_dump};
 use crate::faults::FrameFault;
 use crate::formats::{HeadFormat, PointFormat, TotalFormat};
 use crate::messages::{ASK, HELLO, Message, PIECE, POLL, REPLY, TOTAL, UPDATE};
@@ -124,6 +126,17 @@ impl Progress {
             Part::Nothing => may_begin(kind),
             Part::Updates { .. } => kind == UPDATE,
             Part::Pieces => is_of_dump(kind),
+        }
+    }
+
+    /// Whether what began, with these bytes of the next frame, goes on to what is due.
+    pub(crate) fn is_due(&self, due: Due, held: &[u8]) -> bool
+        ensures { result ≡ is_due_begun due (begun self.now) held.now }
+    {
+        match self.part {
+            Part::Nothing => held.len() < 5 || is_due_kind(due, held[4]),
+            Part::Updates { .. } => !wants_dump(due),
+            Part::Pieces => wants_dump(due),
         }
     }
 

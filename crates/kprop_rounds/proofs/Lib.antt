@@ -3,3 +3,5 @@ mod Judgements
 mod Ends
 mod Sayings
 mod Replied
+mod Overlong
+mod InTime

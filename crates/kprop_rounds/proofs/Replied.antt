@@ -6,9 +6,10 @@ use Rattle.dump_text.specs.declared.dumps.Dump.{Dump}
 use Rattle.iprop_links.specs.Asking.{MaySay, greeting, later_in, sent_in}
 use Rattle.iprop_links.specs.declared.inbox.Arrival.{Arrival}
 use Rattle.iprop_links.specs.declared.inbox.Arrival.TheVariants as arrival
-use Rattle.iprop_links.specs.Arriving.{ArrivesOf}
-use Rattle.iprop_wire.specs.Decoding.{State, fed, fresh, taken}
+use Rattle.iprop_links.specs.Arriving.{ArrivesOf, led}
+use Rattle.iprop_wire.specs.Decoding.{State, fresh, taken}
 use Rattle.iprop_wire.specs.Messages.{message_text}
+use Rattle.iprop_wire.specs.declared.due.Due.TheVariants as due
 use Rattle.iprop_wire.specs.declared.messages.Message.{Message}
 use Rattle.iprop_wire.specs.declared.messages.Message.TheVariants.{Ask, Poll}
 use Rattle.kdb_disk.proofs.Runs.{weaken}
@@ -46,7 +47,7 @@ asks_by size place (Ok text) = asks_dump size place (dump_judged text)
 asks_by size place (Err w) = refl
 
 pub asks : (size : ℕ) (place : Option Place) (rest : List ℕ) → (end_of_asking size place rest).asks ≡ true
-asks size place rest = asks_by size place (then_dump (arrived (fed fresh rest)))
+asks size place rest = asks_by size place (then_dump (arrived (led due.Dump fresh rest)))
 
 -- ---- nothing was done
 
@@ -138,7 +139,7 @@ fresh_by (arrival.Came m) s r by is = by m refl
 fresh_by arrival.Cut s r by is = absurd cc
 fresh_by arrival.Bad s r by is = absurd cc
 
-pub rest_is : (a : Arrival) (given : List ℕ) (after : Option (List ℕ)) (r : Reply) → then_reply (heard a) ≡ Ok r → ArrivesOf a fresh given after
+pub rest_is : (a : Arrival) (given : List ℕ) (after : Option (List ℕ)) (r : Reply) → then_reply (heard a) ≡ Ok r → ArrivesOf due.Reply a fresh given after
     → after ≡ Some (drop (taken fresh given) given)
 rest_is (arrival.Came m) given after r is came = came.1
 rest_is arrival.Cut given after r is came = absurd cc
@@ -146,9 +147,9 @@ rest_is arrival.Bad given after r is came = absurd cc
 
 -- the end of the round is the one of the reply that came, or its bytes are none
 pub end_is : (size : ℕ) (place : Option Place) (a : Arrival) (given : List ℕ) (after : Option (List ℕ)) (x : Result Reply RoundWord)
-    → then_reply (heard a) ≡ x → ArrivesOf a fresh given after → end_by_reply size place (drop (taken fresh given) given) x ≡ round_end size place given
+    → then_reply (heard a) ≡ x → ArrivesOf due.Reply a fresh given after → end_by_reply size place (drop (taken fresh given) given) x ≡ round_end size place given
 end_is size place a given after x is came =
-    ap (end_by_reply size place (drop (taken fresh given) given)) (sym is ∙ ap then_reply (heard_is a given after came))
+    ap (end_by_reply size place (drop (taken fresh given) given)) (sym is ∙ ap then_reply (heard_is due.Reply a given after came))
 
 -- ---- a whole round
 
@@ -161,7 +162,7 @@ rest_of w = drop (taken fresh (first_of w.to_come)) (first_of w.to_come)
 
 module _ (name : List ℕ) (size : ℕ) (place : Option Place) (w : Wire) (mid : Option Wire) where
   -- the reply that came was taken
-  module _ (a : Arrival) (left : Option (List ℕ)) (came : ArrivesOf a fresh (first_of w.to_come) left)
+  module _ (a : Arrival) (left : Option (List ℕ)) (came : ArrivesOf due.Reply a fresh (first_of w.to_come) left)
       (sent : sent_in mid ≡ Some (greeting name (Poll (point_in place)) ∷ w.sent)) (later : later_in mid ≡ Some (behind_first w.to_come)) where
     pub replied : (result : Result RoundWord RoundHalt) (new : Option Place) (after : Option Wire) (r : Reply) → then_reply (heard a) ≡ Ok r
         → ((rest : List ℕ) → left ≡ Some rest → EndsAs result (end_of_reply size place rest r) place new)

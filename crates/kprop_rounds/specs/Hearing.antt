@@ -13,7 +13,7 @@ use Rattle.princ_rows.specs.Replies.{Reply as ReplyParts}
 use Rattle.princ_rows.specs.declared.replies.ReplyCode.{ReplyCode}
 use Rattle.princ_rows.specs.declared.replies.ReplyCode.TheVariants as code
 
--- what the bytes of a connection lead to, as it arrives
+-- what the bytes of a connection lead to, where all but what is due is refused, as it arrives
 abbrev pub arrived : State → Result Message RoundWord
 arrived (Going begun held) = Err word.Cut
 arrived (Waits message) = Ok message

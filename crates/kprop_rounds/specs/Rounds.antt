@@ -1,12 +1,14 @@
 -- What a round comes to, by what its connection gives.
-use Rattle.std.specs.Prelude.{ℕ, ◌≡◌, ◌⊎◌, Bool, true, false, List, [], ◌∷◌, ◌++◌, drop, Option, Some, None, Result, Ok, Err, IfOk, OnErr, OnOk}
+use Rattle.std.specs.Prelude.{ℕ, ◌≡◌, ◌≤◌, ◌⊎◌, Bool, true, false, List, [], ◌∷◌, ◌++◌, drop, length, take, Option, Some, None, Result, Ok, Err, IfOk, OnErr, OnOk}
 use Rattle.dump_text.specs.Judged.{judged as dump_judged}
 use Rattle.dump_text.specs.declared.dumps.Dump.{Dump}
 use Rattle.dump_text.specs.declared.stops.DumpStop.{DumpStop}
 use Rattle.dump_text.specs.declared.stops.DumpStop.TheVariants as stop
+use Rattle.iprop_links.specs.Arriving.{IsUnended, led}
 use Rattle.iprop_links.specs.Asking.{MaySay, greeting, later_in, sent_in}
-use Rattle.iprop_wire.specs.Decoding.{fed, fresh, taken}
+use Rattle.iprop_wire.specs.Decoding.{fresh, taken}
 use Rattle.iprop_wire.specs.Messages.{message_text}
+use Rattle.iprop_wire.specs.declared.due.Due.TheVariants as due
 use Rattle.iprop_wire.specs.declared.messages.Message.TheVariants.{Poll, Ask}
 use Rattle.kdb_disk.specs.Files.{Files}
 use Rattle.kdb_places.specs.Places.{Place}
@@ -45,7 +47,7 @@ end_by_dump size place (Err w) = ended true w
 
 -- behind an asking, where these bytes are still to come
 abbrev pub end_of_asking : ℕ → Option Place → List ℕ → RoundEnd
-end_of_asking size place rest = end_by_dump size place (then_dump (arrived (fed fresh rest)))
+end_of_asking size place rest = end_by_dump size place (then_dump (arrived (led due.Dump fresh rest)))
 
 abbrev pub end_by_word : ℕ → Option Place → Reply → List ℕ → Option RoundWord → RoundEnd
 end_by_word size place r rest (Some w) = record { word = w; asks = false; made = task_makes size place (Take (told_reply r)) }
@@ -61,7 +63,19 @@ end_by_reply size place rest (Err w) = ended false w
 
 -- the end of a round of a replica whose connection gives these bytes
 abbrev pub round_end : ℕ → Option Place → List ℕ → RoundEnd
-round_end size place given = end_by_reply size place (drop (taken fresh given) given) (then_reply (arrived (fed fresh given)))
+round_end size place given = end_by_reply size place (drop (taken fresh given) given) (then_reply (arrived (led due.Reply fresh given)))
+
+-- ---- where too much comes
+
+-- These bytes are more than a round receives, and those that it receives of them make no end.
+pub record GivesNoEnd (size : ℕ) (place : Option Place) (given : List ℕ) : Type 0 where
+  pub long : 4294967296 ≤ length given
+  pub cut : (round_end size place (take 4294967296 given)).word ≡ word.Cut
+
+-- it is a dump that does not end, which a reply asked for
+pub record NoEndBehind (size : ℕ) (place : Option Place) (r : Reply) (rest : List ℕ) (all : ℕ) : Type 0 where
+  pub asks : word_of (judged size place (told_reply r)) ≡ None
+  pub unended : IsUnended due.Dump rest all
 
 -- ---- what is sent
 

@@ -1,14 +1,15 @@
 //! A round of a replica.
 ghost use Rattle.std.specs.Prelude.{◌≡◌, ◌≤◌, ◌⊎◌, ◌∷◌, [], false, length, List, ℕ, None, Ok, Some, Err, IfOk, OnErr, OnOk};
-ghost use Rattle.iprop_links.specs.Arriving.{Counts, coming, in_all};
+ghost use Rattle.iprop_links.specs.Arriving.{Counts, IsUnended, coming, in_all};
 ghost use Rattle.iprop_links.specs.Asking.{later_in, sent_in};
 ghost use Rattle.iprop_wire.specs.Decoding.{fresh};
 ghost use Rattle.iprop_wire.specs.Frames.{most_behind};
 ghost use Rattle.iprop_wire.specs.Messages.{message_text};
+ghost use Rattle.iprop_wire.specs.declared.due.Due.TheVariants.{Dump as DumpIsDue};
 ghost use Rattle.iprop_wire.specs.declared.messages.Message.TheVariants.{Ask};
 ghost use Rattle.kdb_disk.specs.Frames.{IsCall, IsCrashSafe};
 ghost use Rattle.kdb_ports.specs.Links.{Wire, after_sent, first_of};
-ghost use Rattle.kprop_rounds.specs.Rounds.{EndsAs, IsRound, LeavesSome, MayAsk, after_asking, end_of_asking, end_of_reply, round_end};
+ghost use Rattle.kprop_rounds.specs.Rounds.{EndsAs, GivesNoEnd, IsRound, LeavesSome, MayAsk, NoEndBehind, after_asking, end_of_asking, end_of_reply, round_end};
 ghost use Rattle.kprop_rounds.specs.Words.{word_of};
 ghost use Rattle.replica_core.specs.Opened.{IsHeldOn, LeavesMade, is_broken, place_of};
 ghost use Rattle.replica_core.specs.Taking.{judgement_of, told_reply};
@@ -89,6 +90,10 @@ pub fn pull<L: Link, D: Disk>(
     ensures part { OnErr result ((sent_in (L.wire link.new) ≡ sent_in (L.wire link.old)) ⊎ (sent_in (L.wire link.new) ≡ sent_in (after_sent (L.wire link.old) (message_text Ask)))) }
     ensures later { later_in (L.wire link.new) ≡ later_in (L.wire link.old) }
     ensures too_long { (n : ℕ) → in_all inbox.old.received (L.wire link.old) ≡ Some n → result ≡ Err RoundHalt.InputTooLong → 4294967296 ≤ n }
+    ensures unended { (rest : List ℕ) (n : ℕ) → coming inbox.old.pending (L.wire link.old) ≡ Some rest → in_all inbox.old.received (L.wire link.old) ≡ Some n
+        → result ≡ Err RoundHalt.InputTooLong → IsUnended DumpIsDue rest n }
+    ensures in_time { (rest : List ℕ) (n : ℕ) → coming inbox.old.pending (L.wire link.old) ≡ Some rest → in_all inbox.old.received (L.wire link.old) ≡ Some n
+        → OnOk result (IsUnended DumpIsDue rest n → ⊥) }
     ensures on { D.tells → OnOk result (IsHeldOn replica.new.database (D.view disk.new)) }
     ensures whole { OnOk result (is_broken replica.new.database replica.new.failed ≡ false) }
     ensures size { replica.new.size ≡ replica.old.size }
@@ -127,6 +132,10 @@ fn answer<L: Link, D: Disk>(
         → OnErr result (MayAsk (end_of_reply replica.old.size (place_of replica.old) rest reply).asks (L.wire link.old) (L.wire link.new)) }
     ensures later { later_in (L.wire link.new) ≡ later_in (L.wire link.old) }
     ensures too_long { (n : ℕ) → in_all inbox.old.received (L.wire link.old) ≡ Some n → result ≡ Err RoundHalt.InputTooLong → 4294967296 ≤ n }
+    ensures unended { (rest : List ℕ) (n : ℕ) → coming inbox.old.pending (L.wire link.old) ≡ Some rest → in_all inbox.old.received (L.wire link.old) ≡ Some n
+        → result ≡ Err RoundHalt.InputTooLong → NoEndBehind replica.old.size (place_of replica.old) reply rest n }
+    ensures in_time { (rest : List ℕ) (n : ℕ) → coming inbox.old.pending (L.wire link.old) ≡ Some rest → in_all inbox.old.received (L.wire link.old) ≡ Some n
+        → OnOk result (NoEndBehind replica.old.size (place_of replica.old) reply rest n → ⊥) }
     ensures on { D.tells → OnOk result (IsHeldOn replica.new.database (D.view disk.new)) }
     ensures whole { OnOk result (is_broken replica.new.database replica.new.failed ≡ false) }
     ensures size { replica.new.size ≡ replica.old.size }
@@ -162,6 +171,8 @@ fn round_in<L: Link, D: Disk>(
     ensures whole { OnOk result (is_broken replica.new.database replica.new.failed ≡ false) }
     ensures size { replica.new.size ≡ replica.old.size }
     ensures too_long { (w : Wire) → L.wire link.old ≡ Some w → result ≡ Err RoundHalt.InputTooLong → 4294967296 ≤ length (first_of w.to_come) }
+    ensures unended { (w : Wire) → L.wire link.old ≡ Some w → result ≡ Err RoundHalt.InputTooLong → GivesNoEnd replica.old.size (place_of replica.old) (first_of w.to_come) }
+    ensures in_time { (w : Wire) → L.wire link.old ≡ Some w → OnOk result (GivesNoEnd replica.old.size (place_of replica.old) (first_of w.to_come) → ⊥) }
     ensures call { IsCall D.Disk disk.old disk.new (result ≡ Err RoundHalt.DiskFault) }
     ensures faults { Counts (L.faults link.old) (L.faults link.new) (result ≡ Err RoundHalt.LinkFault) }
 {
@@ -202,6 +213,8 @@ pub fn round<L: Link, D: Disk>(
     ensures whole { OnOk result (is_broken replica.new.database replica.new.failed ≡ false) }
     ensures size { replica.new.size ≡ replica.old.size }
     ensures too_long { (w : Wire) → L.wire link.old ≡ Some w → result ≡ Err RoundHalt.InputTooLong → 4294967296 ≤ length (first_of w.to_come) }
+    ensures unended { (w : Wire) → L.wire link.old ≡ Some w → result ≡ Err RoundHalt.InputTooLong → GivesNoEnd replica.old.size (place_of replica.old) (first_of w.to_come) }
+    ensures in_time { (w : Wire) → L.wire link.old ≡ Some w → OnOk result (GivesNoEnd replica.old.size (place_of replica.old) (first_of w.to_come) → ⊥) }
     ensures call { IsCall D.Disk disk.old disk.new (result ≡ Err RoundHalt.DiskFault) }
     ensures faults { Counts (L.faults link.old) (L.faults link.new) (result ≡ Err RoundHalt.LinkFault) }
 {

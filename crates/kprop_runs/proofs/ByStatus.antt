@@ -1,6 +1,6 @@
 -- From what a run comes to, to what its status says.
 use Rattle.std.proofs.Common.{◌≡◌, ◌≢◌, ℕ, Bool, true, false, List, Option, Ok, Err, refl, sym, subst, ◌∙◌}
-use Rattle.std.specs.Prelude.{Result, IfOk, OnErr}
+use Rattle.std.specs.Prelude.{Result, IfOk, OnErr, OnOk}
 use Rattle.iprop_links.specs.Arriving.{Counts}
 use Rattle.iprop_links.specs.Asking.{sent_in}
 use Rattle.kdb_base.specs.declared.outcomes.Refusal.{Refusal}
@@ -28,6 +28,15 @@ on_end (Err run.WriteFault) P p = tt
 on_end (Err run.DiskFault) P p = tt
 on_end (Err run.LinkFault) P p = tt
 on_end (Err run.InputTooLong) P p = tt
+
+on_done : (r : Result Bool RunHalt) (P : Type 0) → OnOk r P → OnEnd (status_after r) (λ refused. P)
+on_done (Ok true) P p = p
+on_done (Ok false) P p = p
+on_done (Err run.MemoryOut) P p = tt
+on_done (Err run.WriteFault) P p = tt
+on_done (Err run.DiskFault) P p = tt
+on_done (Err run.LinkFault) P p = tt
+on_done (Err run.InputTooLong) P p = tt
 
 -- a run that was stopped
 on_stop : (r : Result Bool RunHalt) (P : Type 0) → OnErr r P → OnStop (status_after r) P
@@ -88,6 +97,9 @@ module _ (s : Status) (r : Result Bool RunHalt) (is : s ≡ status_after r) wher
         stopped = on_stop r (RunStops o w taken (sent_in told) out) has.stopped;
         moments = has.moments;
       })
+
+  pub ends_by : (P : Type 0) → OnOk r P → OnEnd s (λ refused. P)
+  ends_by P p = subst (λ (x : Status). OnEnd x (λ refused. P)) (sym is) (on_done r P p)
 
   pub refusal_by : (text : List ℕ) (taken out : Option (List ℕ)) → HasRefusal text taken out r → IsRefusal text taken out s
   refusal_by text taken out has =

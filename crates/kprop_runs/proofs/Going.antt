@@ -1,13 +1,15 @@
 -- Rounds of a replica, one after another.
-use Rattle.std.proofs.Common.{◌≡◌, ◌<◌, ◌+◌, ℕ, suc, Bool, false, ◌||◌, List, [], Option, Some, None, inl, inr, refl, sym, ap, subst, ◌∙◌, add-one}
+use Rattle.std.proofs.Common.{◌≡◌, ◌<◌, ◌+◌, ℕ, suc, Bool, false, ◌||◌, List, [], Option, Some, None, inl, inr, refl, sym, ap, subst, ◌∙◌, add-one, arith}
 use Rattle.iprop_links.specs.Asking.{later_in, sent_in}
+use Rattle.std.proofs.Math.Decide.{dec_lt}
 use Rattle.kdb_disk.proofs.Runs.{then_on, weaken}
 use Rattle.kdb_disk.specs.Files.{Files}
 use Rattle.kdb_disk.specs.Moments.{LeavesOnly}
 use Rattle.kdb_disk.specs.View.{View}
 use Rattle.kdb_places.specs.Places.{Place}
 use Rattle.kdb_ports.specs.Links.{Wire, first_of}
-use Rattle.kprop_rounds.specs.Rounds.{LeavesSome, round_end}
+use Rattle.kprop_rounds.specs.Rounds.{GivesNoEnd, LeavesSome, round_end}
+use Rattle.kprop_runs.specs.Longs.{AllEnd, StopsLong, StopsLongIn}
 use Rattle.kprop_runs.specs.Stages.{LeavesRounds, LeavesUntold, MayCome, MayLead, Stage, StandsAt, StopsIn, StopsRound, after_round, after_rounds, end_at, stage_of}
 use Rattle.replica_core.proofs.Moments.{nothing_made}
 use Rattle.replica_core.specs.Opened.{IsHeldOn, LeavesMade, place_in}
@@ -41,6 +43,9 @@ pub starts : (name : List ℕ) (size : ℕ) (told : Option Wire) (w : Wire) (tak
     → StandsAt (after_rounds name size 0 (stage_of w taken place false)) told taken place false
 unfolding after_rounds
 starts name size told w taken place is = record { place_is = refl; sent_is = ap sent_in is; later_is = ap later_in is; out_is = refl; refused_is = refl }
+
+pub none_ended : (name : List ℕ) (size : ℕ) (s : Stage) → AllEnd name size 0 s
+none_ended name size s i few gives = absurd (omega (arith, few))
 
 pub none_led : (size : ℕ) (place : Option Place) → MayLead size 0 place place
 unfolding MayLead
@@ -78,6 +83,19 @@ module _ (name : List ℕ) (size done : ℕ) (s : Stage) (k : ℕ) (same : k ≡
       subst (λ (t : Stage). StandsAt t wire said new then_refused) next
       (subst (λ (b : Bool). StandsAt (after_round name k (done + 1) Here) wire said new b) (sym refused_is) stands)
 
+  ends_here : (GivesNoEnd k place (first_of w.to_come) → ⊥) → GivesNoEnd size (after_rounds name size done s).place (first_of (after_rounds name size done s).to_come) → ⊥
+  ends_here ended gives =
+      ended (subst (λ (m : ℕ). GivesNoEnd m place (first_of w.to_come)) (sym same) (subst (λ (t : Stage). GivesNoEnd size t.place (first_of t.to_come)) (sym here) gives))
+
+  pub all_end : AllEnd name size done s → (GivesNoEnd k place (first_of w.to_come) → ⊥) → AllEnd name size (done + 1) s
+  all_end so_far ended i few gives =
+      elim (dec_lt i done) [
+        | yes before ↦ so_far i before gives
+        | no last ↦
+            let same_round : i ≡ done = omega arith in
+            ends_here ended (subst (λ (n : ℕ). GivesNoEnd size (after_rounds name size n s).place (first_of (after_rounds name size n s).to_come)) same_round gives)
+      ]
+
   module _ (count : ℕ) (few : done < count) where
     pub stops_here : (sent : Option (List (List ℕ))) (said : Option (List ℕ)) → StopsRound name (done + 1) (round_end k place (first_of w.to_come)) Here sent said
         → StopsIn name size count s sent said
@@ -88,6 +106,13 @@ module _ (name : List ℕ) (size done : ℕ) (s : Stage) (k : ℕ) (same : k ≡
           subst (λ (t : Stage). StopsRound name (suc done) (end_at size t) t sent said) here
           (subst (λ (m : ℕ). StopsRound name (suc done) (end_at m Here) Here sent said) same
           (subst (λ (i : ℕ). StopsRound name i (end_at k Here) Here sent said) (add-one done) stops));
+    }
+
+    pub long_here : (sent : Option (List (List ℕ))) → StopsLong name k Here sent → StopsLongIn name size count s sent
+    long_here sent long = record {
+      done = done;
+      few = few;
+      stops = subst (λ (t : Stage). StopsLong name size t sent) here (subst (λ (m : ℕ). StopsLong name m Here sent) same long);
     }
 
     leaves_now : (c : Files) → LeavesMade place (round_end k place (first_of w.to_come)).made c → LeavesRounds name size count s c

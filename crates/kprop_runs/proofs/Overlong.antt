@@ -40,6 +40,9 @@ long_behind name size n s told w is later_is long =
 
 -- ---- which result it comes from
 
+pub err_is : {A : Type 0} (a b : RunHalt) → ◌≡◌ {A = Result A RunHalt} (Err a) (Err b) → a ≡ b
+err_is a b e = cc
+
 pub for_long : (halt : RoundHalt) → round_as_run halt ≡ run.InputTooLong → halt ≡ round.InputTooLong
 for_long round.MemoryOut e = absurd cc
 for_long round.DiskFault e = absurd cc

@@ -17,6 +17,7 @@ use Rattle.kdb_ports.specs.Links.{Wire}
 use Rattle.kdb_ports.specs.Parts.{SaidPart}
 use Rattle.kdb_ports.specs.Told.{after_told}
 use Rattle.kprop_runs.proofs.Saying.{said_nothing}
+use Rattle.kprop_runs.specs.Longs.{AllEnd, RunRoundsEnd, RunStopsLong, StopsLongIn}
 use Rattle.kprop_runs.specs.Openings.{Opening, Opens, Refuses, opens_with}
 use Rattle.kprop_runs.specs.Runs.{EndsAs, HasRefusal, HasRounds, HasRun, RunLeaves, RunLeavesSome, StandsFor, end_behind, first_stage, last_stage, refusal_end}
 use Rattle.kprop_runs.specs.Stages.{LeavesRounds, LeavesUntold, Stage, StandsAt, StopsIn, after_rounds}
@@ -85,6 +86,12 @@ module _ (a : Asked) (s : Stage) (name : List ℕ) (size : ℕ) (name_is : name 
     stopped = inl (subst (λ (m : ℕ). StopsIn a.name m a.rounds s (sent_in wire) out) size_is (subst (λ (n : List ℕ). StopsIn n size a.rounds s (sent_in wire) out) name_is stops));
   }
 
+  pub rounds_long : (sent : Option (List (List ℕ))) → StopsLongIn name size a.rounds s sent → StopsLongIn a.name a.size a.rounds s sent
+  rounds_long sent is = subst (λ (m : ℕ). StopsLongIn a.name m a.rounds s sent) size_is (subst (λ (n : List ℕ). StopsLongIn n size a.rounds s sent) name_is is)
+
+  pub rounds_end : AllEnd name size a.rounds s → AllEnd a.name a.size a.rounds s
+  rounds_end all = subst (λ (m : ℕ). AllEnd a.name m a.rounds s) size_is (subst (λ (n : List ℕ). AllEnd n size a.rounds s) name_is all)
+
   pub rounds_leave : (c : Files) → LeavesRounds name size a.rounds s c → LeavesRounds a.name a.size a.rounds s c
   rounds_leave c is = subst (λ (m : ℕ). LeavesRounds a.name m a.rounds s c) size_is (subst (λ (n : List ℕ). LeavesRounds n size a.rounds s c) name_is is)
 
@@ -101,6 +108,19 @@ opens_as a o (Err why) is = ap (λ (x : Refusal). opens_with a (Err x)) is.0 ∙
 
 pub refuses_as : (a : Asked) (why : Refusal) (found : Result Place Refusal) → AnswersOpened a.size (Err (stop.Refused why)) found → opens_with a found ≡ Refuses why
 refuses_as a why found is = ap (opens_with a) is.0 ∙ refuses_with a why is.1
+
+pub opened_long : (a : Asked) (o : Opened) (found : Result Place Refusal) → AnswersOpened a.size (Ok o) found → (w : Wire) (taken : Option (List ℕ)) (sent : Option (List (List ℕ)))
+    → StopsLongIn a.name a.size a.rounds (first_stage w taken (place_of o)) sent → RunStopsLong (opens_with a found) w taken sent
+opened_long a o found is w taken sent long = subst (λ (x : Opening). RunStopsLong x w taken sent) (sym (opens_as a o found is)) long
+
+pub opened_end : (a : Asked) (o : Opened) (found : Result Place Refusal) → AnswersOpened a.size (Ok o) found → (w : Wire) (taken : Option (List ℕ)) (r : Result Bool RunHalt)
+    → OnOk r (AllEnd a.name a.size a.rounds (first_stage w taken (place_of o))) → OnOk r (RunRoundsEnd (opens_with a found) w taken)
+opened_end a o found is w taken r all = subst (λ (x : Opening). OnOk r (RunRoundsEnd x w taken)) (sym (opens_as a o found is)) all
+
+-- there are no rounds
+pub refused_end : (a : Asked) (why : Refusal) (found : Result Place Refusal) → AnswersOpened a.size (Err (stop.Refused why)) found → (w : Wire) (taken : Option (List ℕ)) (r : Result Bool RunHalt)
+    → OnOk r (RunRoundsEnd (opens_with a found) w taken)
+refused_end a why found is w taken r = subst (λ (x : Opening). OnOk r (RunRoundsEnd x w taken)) (sym (refuses_as a why found is)) (ok_of r tt)
 
 -- what a crash leaves of an opening
 opening_leaves : (a : Asked) (found : Result Place Refusal) (w : Wire) (taken : Option (List ℕ)) (old : View) (c : Files) → MayOpen old a.size found c

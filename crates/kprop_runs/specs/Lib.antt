@@ -1,8 +1,8 @@
 pub mod Words
 pub mod Lines
 pub mod Stages
-pub mod Longs
 pub mod Openings
 pub mod Runs
+pub mod Longs
 pub mod Halts
 pub mod Fronts

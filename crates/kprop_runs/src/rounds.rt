@@ -5,8 +5,8 @@ ghost use Rattle.iprop_links.specs.Asking.{sent_in};
 ghost use Rattle.iprop_wire.specs.Frames.{most_behind};
 ghost use Rattle.kdb_disk.specs.Frames.{IsCall, IsCrashSafe};
 ghost use Rattle.kdb_ports.specs.Links.{Wire, first_of};
-ghost use Rattle.kprop_rounds.specs.Rounds.{LeavesSome, round_end};
-ghost use Rattle.kprop_runs.specs.Longs.{GivesTooMuch};
+ghost use Rattle.kprop_rounds.specs.Rounds.{GivesNoEnd, LeavesSome, round_end};
+ghost use Rattle.kprop_runs.specs.Longs.{AllEnd, GivesTooMuch, StopsLong, StopsLongIn};
 ghost use Rattle.kprop_runs.specs.Stages.{LeavesRounds, LeavesUntold, MayCome, MayLead, StandsAt, StopsIn, StopsRound, after_round, after_rounds, end_at, stage_of};
 ghost use Rattle.replica_core.specs.Opened.{IsHeldOn, LeavesMade, is_broken, place_of};
 
@@ -43,6 +43,9 @@ fn turn<L: Link, K: Sink, D: Disk>(
     ensures whole { OnOk result (is_broken replica.new.database replica.new.failed ≡ false) }
     ensures size { replica.new.size ≡ replica.old.size }
     ensures too_long { (w : Wire) → L.wire link.old ≡ Some w → result ≡ Err RunHalt.InputTooLong → 4294967296 ≤ length (first_of w.to_come) }
+    ensures long { (w : Wire) (refused : Bool) → L.wire link.old ≡ Some w → result ≡ Err RunHalt.InputTooLong
+        → StopsLong name.now replica.old.size (stage_of w (K.taken sink.old) (place_of replica.old) refused) (sent_in (L.wire link.new)) }
+    ensures in_time { (w : Wire) → L.wire link.old ≡ Some w → OnOk result (GivesNoEnd replica.old.size (place_of replica.old) (first_of w.to_come) → ⊥) }
     ensures call { IsCall D.Disk disk.old disk.new (result ≡ Err RunHalt.DiskFault) }
     ensures links { Counts (L.faults link.old) (L.faults link.new) (result ≡ Err RunHalt.LinkFault) }
     ensures writes { Counts (K.faults sink.old) (K.faults sink.new) (result ≡ Err RunHalt.WriteFault) }
@@ -86,6 +89,10 @@ pub(crate) fn all_rounds<L: Link, K: Sink, D: Disk>(
     ensures some { IsCrashSafe D.Disk disk.old disk.new (LeavesUntold replica.old.size count (place_of replica.old)) }
     ensures on { D.tells → OnOk result (IsHeldOn replica.new.database (D.view disk.new)) }
     ensures too_long { (w : Wire) → L.wire link.old ≡ Some w → result ≡ Err RunHalt.InputTooLong → GivesTooMuch w.to_come }
+    ensures long { (w : Wire) → L.wire link.old ≡ Some w → result ≡ Err RunHalt.InputTooLong
+        → StopsLongIn name.now replica.old.size count (stage_of w (K.taken sink.old) (place_of replica.old) false) (sent_in (L.wire link.new)) }
+    ensures in_time { (w : Wire) → L.wire link.old ≡ Some w
+        → OnOk result (AllEnd name.now replica.old.size count (stage_of w (K.taken sink.old) (place_of replica.old) false)) }
     ensures call { IsCall D.Disk disk.old disk.new (result ≡ Err RunHalt.DiskFault) }
     ensures links { Counts (L.faults link.old) (L.faults link.new) (result ≡ Err RunHalt.LinkFault) }
     ensures writes { Counts (K.faults sink.old) (K.faults sink.new) (result ≡ Err RunHalt.WriteFault) }

@@ -1,11 +1,13 @@
 //! A replica's run.
 ghost use Rattle.std.specs.Prelude.{◌≡◌, ◌≢◌, Err, IfSome, None, OnOk, Some, false, map};
 ghost use Rattle.iprop_links.specs.Arriving.{Counts};
+ghost use Rattle.iprop_links.specs.Asking.{sent_in};
 ghost use Rattle.kadm_replies.specs.Refusals.{refusal_text};
 ghost use Rattle.kdb_disk.specs.Frames.{IsCall, IsCrashSafe};
 ghost use Rattle.kdb_disk.specs.Moments.{LeavesOnly};
 ghost use Rattle.kdb_ports.specs.Links.{Wire};
-ghost use Rattle.kprop_runs.specs.Longs.{GivesTooMuch};
+ghost use Rattle.kprop_runs.specs.Halts.{OnEnd};
+ghost use Rattle.kprop_runs.specs.Longs.{AllEnd, GivesTooMuch, RunRoundsEnd, RunStopsLong, StopsLongIn};
 ghost use Rattle.kprop_runs.specs.Openings.{opening, opening_by, opens_with};
 ghost use Rattle.kprop_runs.specs.Runs.{HasRefusal, HasRounds, HasRun, IsRefusal, IsRun, RunLeavesSome, StandsFor, first_stage, last_stage};
 ghost use Rattle.kprop_runs.specs.Stages.{LeavesRounds, LeavesUntold};
@@ -44,6 +46,10 @@ fn run_rounds<L: Link, K: Sink, D: Disk>(
         → IsCrashSafe D.Disk disk.old disk.new (LeavesRounds asked.now.name asked.now.size asked.now.rounds (first_stage w (K.taken sink.old) (place_of replica.old))) }
     ensures some { IsCrashSafe D.Disk disk.old disk.new (LeavesUntold asked.now.size asked.now.rounds (place_of replica.old)) }
     ensures too_long { (w : Wire) → L.wire link.old ≡ Some w → result ≡ Err RunHalt.InputTooLong → GivesTooMuch w.to_come }
+    ensures long { (w : Wire) → L.wire link.old ≡ Some w → result ≡ Err RunHalt.InputTooLong
+        → StopsLongIn asked.now.name asked.now.size asked.now.rounds (first_stage w (K.taken sink.old) (place_of replica.old)) (sent_in (L.wire link.new)) }
+    ensures in_time { (w : Wire) → L.wire link.old ≡ Some w
+        → OnOk result (AllEnd asked.now.name asked.now.size asked.now.rounds (first_stage w (K.taken sink.old) (place_of replica.old))) }
     ensures call { IsCall D.Disk disk.old disk.new (result ≡ Err RunHalt.DiskFault) }
     ensures links { Counts (L.faults link.old) (L.faults link.new) (result ≡ Err RunHalt.LinkFault) }
     ensures writes { Counts (K.faults sink.old) (K.faults sink.new) (result ≡ Err RunHalt.WriteFault) }
@@ -68,6 +74,9 @@ fn open_and_run<L: Link, K: Sink, D: Disk>(
         → HasRun (opens_with asked.now (recovers (D.view disk.old).seen)) (recovers (D.view disk.old).seen) w (K.taken sink.old) (D.view disk.old) (D.view disk.new) (L.wire link.new) (K.taken sink.new) result }
     ensures some { D.tells → LeavesOnly (D.view disk.old) (D.view disk.new) (RunLeavesSome (opens_with asked.now (recovers (D.view disk.old).seen)) (recovers (D.view disk.old).seen) (D.view disk.old)) }
     ensures too_long { (w : Wire) → L.wire link.old ≡ Some w → result ≡ Err RunHalt.InputTooLong → GivesTooMuch w.to_come }
+    ensures long { D.tells → (w : Wire) → L.wire link.old ≡ Some w → result ≡ Err RunHalt.InputTooLong
+        → RunStopsLong (opens_with asked.now (recovers (D.view disk.old).seen)) w (K.taken sink.old) (sent_in (L.wire link.new)) }
+    ensures in_time { D.tells → (w : Wire) → L.wire link.old ≡ Some w → OnOk result (RunRoundsEnd (opens_with asked.now (recovers (D.view disk.old).seen)) w (K.taken sink.old)) }
     ensures call { IsCall D.Disk disk.old disk.new (result ≡ Err RunHalt.DiskFault) }
     ensures links { Counts (L.faults link.old) (L.faults link.new) (result ≡ Err RunHalt.LinkFault) }
     ensures writes { Counts (K.faults sink.old) (K.faults sink.new) (result ≡ Err RunHalt.WriteFault) }
@@ -98,6 +107,9 @@ fn run_asked<L: Link, K: Sink, D: Disk>(
     ensures no_disk { asked.now ≡ None → disk.new ≡ disk.old }
     ensures no_link { asked.now ≡ None → link.new ≡ link.old }
     ensures too_long { (w : Wire) → L.wire link.old ≡ Some w → result ≡ Err RunHalt.InputTooLong → GivesTooMuch w.to_come }
+    ensures long { D.tells → (w : Wire) → L.wire link.old ≡ Some w → result ≡ Err RunHalt.InputTooLong
+        → RunStopsLong (opening_by asked.now (recovers (D.view disk.old).seen)) w (K.taken sink.old) (sent_in (L.wire link.new)) }
+    ensures in_time { D.tells → (w : Wire) → L.wire link.old ≡ Some w → OnOk result (RunRoundsEnd (opening_by asked.now (recovers (D.view disk.old).seen)) w (K.taken sink.old)) }
     ensures call { IsCall D.Disk disk.old disk.new (result ≡ Err RunHalt.DiskFault) }
     ensures links { Counts (L.faults link.old) (L.faults link.new) (result ≡ Err RunHalt.LinkFault) }
     ensures writes { Counts (K.faults sink.old) (K.faults sink.new) (result ≡ Err RunHalt.WriteFault) }
@@ -141,6 +153,10 @@ pub fn run_replica<L: Link, K: Sink, D: Disk>(
 
     // The causes.
     ensures too_long { (w : Wire) → L.wire link.old ≡ Some w → result ≡ Status.InputTooLong → GivesTooMuch w.to_come }
+    ensures long { D.tells → (w : Wire) → L.wire link.old ≡ Some w → result ≡ Status.InputTooLong
+        → RunStopsLong (opening (map (λ word. word.items) words.now) (D.view disk.old).seen) w (K.taken sink.old) (sent_in (L.wire link.new)) }
+    ensures in_time { D.tells → (w : Wire) → L.wire link.old ≡ Some w
+        → OnEnd result (λ refused. RunRoundsEnd (opening (map (λ word. word.items) words.now) (D.view disk.old).seen) w (K.taken sink.old)) }
     ensures call { IsCall D.Disk disk.old disk.new (result ≡ Status.DiskFault) }
     ensures links { Counts (L.faults link.old) (L.faults link.new) (result ≡ Status.LinkFault) }
     ensures writes { Counts (K.faults sink.old) (K.faults sink.new) (result ≡ Status.WriteFault) }

@@ -23,6 +23,11 @@ const DUMP: &[u8] = b"kdb dump 2\nrealm EXAMPLE.ORG\npoint 4 1700000000.000000\n
 princ 000f626f62404558414d504c452e4f5247000000000000000000000000000000000000000000020002\
 001400f15365626f62404558414d504c452e4f524700000800020100000000000000\nend 1\n";
 
+/// The same, as a dump of the first version.
+const OLD_DUMP: &[u8] = b"kdb dump 1\nrealm EXAMPLE.ORG\npoint 4 1700000000.000000\n\
+princ 000f626f62404558414d504c452e4f5247000000000000000000000000000000000000000000020002\
+001400f15365626f62404558414d504c452e4f524700000800020100000000000000\nend 1\n";
+
 /// A dump whose third line is no point.
 const BAD: &[u8] = b"kdb dump 2\nrealm EXAMPLE.ORG\npoint\n";
 
@@ -96,12 +101,14 @@ fn check(
 #[test]
 fn a_dump_is_loaded_and_nothing_comes_behind(rt: HostRuntime) -> Result<(), Fail> {
     let alloc = rt.alloc();
-    let mut link = link_of(alloc, resync(alloc, DUMP)?, &[NIL])?;
     let text = b"- round 1 loaded 4 1700000000.000000\n\
 - round 2 nil 4 1700000000.000000\nok 4 1700000000.000000\n";
-    check(&rt, alloc, WORDS, &mut link, Status::Done, text)?;
-    assert!(rt; link.sent(1).is_some());
-    assert!(rt; link.sent(2).is_none());
+    for dump in [DUMP, OLD_DUMP] {
+        let mut link = link_of(alloc, resync(alloc, dump)?, &[NIL])?;
+        check(&rt, alloc, WORDS, &mut link, Status::Done, text)?;
+        assert!(rt; link.sent(1).is_some());
+        assert!(rt; link.sent(2).is_none());
+    }
     Ok(())
 }
 
@@ -116,6 +123,55 @@ fn what_is_refused_is_told(rt: HostRuntime) -> Result<(), Fail> {
     let text = b"- round 1 loaded 4 1700000000.000000\n\
 - round 2 cut 4 1700000000.000000\nok 4 1700000000.000000\n";
     check(&rt, alloc, WORDS, &mut link, Status::Done, text)
+}
+
+/// The reply that the whole database has to be loaded, and these bytes behind it.
+fn behind_resync(alloc: Global, bytes: &[u8]) -> Result<Blob, Fail> {
+    let mut text = RESYNC.to_vec(alloc)?;
+    text.extend_from_slice(bytes)?;
+    Ok(Blob::from_vec(text))
+}
+
+/// The word of a round whose connection gives this.
+fn check_word(rt: &impl Abort, alloc: Global, given: Blob, refused: bool) -> Result<(), Fail> {
+    let mut link = link_of(alloc, given, &[])?;
+    let words = "replica/one@EXAMPLE.ORG 1 1000";
+    let (status, text): (Status, &[u8]) = if refused {
+        (
+            Status::Refused,
+            b"- round 1 refused BadFrame 0 0.000000\nok 0 0.000000\n",
+        )
+    } else {
+        (Status::Done, b"- round 1 cut 0 0.000000\nok 0 0.000000\n")
+    };
+    check(rt, alloc, words, &mut link, status, text)
+}
+
+/// Fronts of messages, the reply to a poll that has an update among them, and whether each is refused where a reply is
+/// due, and where a dump is.
+const FRONTS: [(&[u8], bool, bool); 8] = [
+    (b"\x00\x00\x00\x09\x10", true, true),
+    (b"\x00\x00\x00\x0d\x01", true, true),
+    (b"\x00\x00\x00\x01\x02", true, true),
+    (b"\x00\x00\x00\x09\x12", true, false),
+    (b"\x00\x00\x00\x09\x13", true, false),
+    (b"\x00\x00\x00\x12\x11", false, false),
+    (b"\x00\x00\x00\x09", false, false),
+    (
+        b"\x00\x00\x00\x12\x11\x00\x00\x00\x00\x02\x65\x53\xf1\x00\x00\x00\x00\x00\x00\x00\x00\x01",
+        false,
+        true,
+    ),
+];
+
+#[test]
+fn another_message_is_refused_at_its_kind(rt: HostRuntime) -> Result<(), Fail> {
+    let alloc = rt.alloc();
+    for (front, by_poll, by_asking) in FRONTS {
+        check_word(&rt, alloc, Blob::from_bytes(alloc, front)?, by_poll)?;
+        check_word(&rt, alloc, behind_resync(alloc, front)?, by_asking)?;
+    }
+    Ok(())
 }
 
 #[test]
@@ -148,8 +204,8 @@ fn a_call_of_the_link_that_fails_ends_the_run(rt: HostRuntime) -> Result<(), Fai
     let whole = b"- round 1 loaded 4 1700000000.000000\n\
 - round 2 nil 4 1700000000.000000\nok 4 1700000000.000000\n";
     let words = words_of(alloc, WORDS)?;
-    let mut went_through = false;
-    for call in 0..16 {
+    // Two rounds make nine calls, of which one each receives: the dump came with the reply that asks for it.
+    for call in 0..12 {
         let gives = gives_of(alloc, resync(alloc, DUMP)?, &[NIL])?;
         let mut fails = Vec::new(alloc);
         fails.push(call)?;
@@ -158,15 +214,13 @@ fn a_call_of_the_link_that_fails_ends_the_run(rt: HostRuntime) -> Result<(), Fai
         let mut disk = MemoryDisk::new(alloc, Fails::none(alloc))?;
         let ended = run_replica(alloc, &words, &mut link, &mut sink, &mut disk);
         assert!(rt; whole.starts_with(sink.written()));
-        went_through = went_through || ended == Status::Done;
-        let awaited = if went_through {
-            Status::Done
-        } else {
+        let awaited = if call < 9 {
             Status::LinkFault
+        } else {
+            Status::Done
         };
         assert_eq!(rt; ended, awaited);
     }
-    assert!(rt; went_through);
     Ok(())
 }
 

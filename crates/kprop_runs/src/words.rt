@@ -5,7 +5,7 @@ ghost use Rattle.keytab_words.specs.Words.{whole_name_in};
 ghost use Rattle.kprop_runs.specs.Words.{IsAsked, asked_by, asked_in, asks, client_in, least_size, most_rounds, most_size, named_by};
 ghost use Rattle.princ_name.specs.Names.{IsName, printed};
 
-use kadm_values::read_number;
+use kadm_options::read_within;
 use kdb_base::{Blob, MemoryOut};
 use princ_name::{Name, NameFault, parse_name, print_name};
 use std::alloc::Global;
@@ -19,24 +19,6 @@ pub struct Asked {
     pub rounds: u32,
     /// The size of the log, 2 to 10000.
     pub size: u32,
-}
-
-/// The number of a word, where it is one from the least to the greatest.
-#[tactic(auto, unfolding(kadm_options::specs::OptionValues::number_within))]
-fn number_within(least: u32, most: u32, word: &[u8]) -> Option<u32>
-    ensures value { result ≡ number_within least most word.now }
-    ensures within { IfSome result (λ number. (least ≤ number) × (number ≤ most)) }
-{
-    match read_number(word) {
-        Some(number) => {
-            if u64::from(least) <= number && number <= u64::from(most) {
-                Some(number as u32)
-            } else {
-                None
-            }
-        }
-        None => None,
-    }
 }
 
 /// The name that a word spells with its realm. Only want of memory can refuse the reading itself.
@@ -100,8 +82,8 @@ fn asked_by(
     ensures value { IfOk result (λ found. found ≡ asked_by (number_within 0 most_rounds rounds.now) (number_within least_size most_size size.now) (client_in name.now)) }
     ensures sized { IfOk result (λ found. IfSome found IsAsked) }
 {
-    match number_within(0, 4_294_967_295, rounds) {
-        Some(rounds) => match number_within(2, 10_000, size) {
+    match read_within(0, u32::MAX, rounds) {
+        Some(rounds) => match read_within(2, 10_000, size) {
             Some(size) => match read_client(alloc, name) {
                 Ok(name) => Ok(with_name(rounds, size, name)),
                 Err(_) => Err(MemoryOut),

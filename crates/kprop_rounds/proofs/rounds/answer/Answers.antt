@@ -1,5 +1,6 @@
 use Rattle.std.proofs.Common.{Ok, inl, refl, sym, ap, ◌∙◌}
 use Rattle.kprop_rounds.proofs.Ends.{crash_some}
+use Rattle.kprop_rounds.proofs.InTime.{not_asked, on_ok}
 use Rattle.kprop_rounds.proofs.Replied.{crash_none, crash_word, ends_err, ends_none, ends_some, part_none, said_none, said_some, some_none}
 use Rattle.kprop_rounds.specs.Words.{word_of}
 use Rattle.replica_core.specs.Opened.{place_of}
@@ -89,3 +90,22 @@ returns-in-Err-clause-some g c =
 
 pub returns-in-Err-clause-part : goal.returns-in-Err-clause-part
 returns-in-Err-clause-part g c rest told = inl refl
+
+-- ---- too much came
+
+pub returns-in-Ok-None-clause-unended : goal.returns-in-Ok-None-clause-unended
+returns-in-Ok-None-clause-unended g c rest n told all long = record {
+  asks = sym c.in-Ok-None.ensures.word ∙ c.in-Ok-None.field-0-is;
+  unended = c.pull.ensures.unended rest n told all long;
+}
+
+-- ---- what was received makes an end
+
+pub returns-in-Ok-Some-clause-in_time : goal.returns-in-Ok-Some-clause-in_time
+returns-in-Ok-Some-clause-in_time g c rest n told all behind =
+    not_asked c.args.replica.now.size (place_of c.args.replica.now) c.args.reply rest n c.in-Ok-Some.word
+    (word_of (judged c.args.replica.now.size (place_of c.args.replica.now) (told_reply c.args.reply)))
+    (sym c.in-Ok-Some.field-0-is ∙ c.in-Ok-Some.ensures.word) refl behind
+
+pub returns-in-Ok-None-clause-in_time : goal.returns-in-Ok-None-clause-in_time
+returns-in-Ok-None-clause-in_time g c rest n told all = on_ok c.pull.result (λ ended behind. ended behind.unended) (c.pull.ensures.in_time rest n told all)

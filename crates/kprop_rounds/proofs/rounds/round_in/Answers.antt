@@ -1,8 +1,10 @@
-use Rattle.std.proofs.Common.{◌∷◌, Ok, Some, sym, ap, subst, ◌∙◌}
+use Rattle.std.proofs.Common.{◌∷◌, Ok, Err, Some, sym, ap, subst, ◌∙◌}
 use Rattle.iprop_links.specs.Arriving.{coming}
 use Rattle.iprop_links.specs.Asking.{MaySay, greeting, sent_in}
 use Rattle.iprop_wire.specs.declared.messages.Message.{Message}
 use Rattle.kprop_rounds.proofs.Ends.{nothing_safe, nothing_some}
+use Rattle.kprop_rounds.proofs.InTime.{answered, left_behind, unanswered}
+use Rattle.kprop_rounds.proofs.Overlong.{err_is, for_long, no_dump, no_reply}
 use Rattle.kprop_rounds.proofs.Replied.{crash_replied, fresh_by, replied, unheard, unreplied}
 use Rattle.kprop_rounds.specs.Rounds.{round_end}
 use Rattle.kdb_ports.specs.Links.{first_of}
@@ -54,3 +56,32 @@ returns-clause-crash g c w told =
 
 pub returns-clause-some : goal.returns-clause-some
 returns-clause-some g c = nothing_some g.D.Disk c.args.disk.now c.args.replica.now.size c.args.replica.now.database c.requires.on
+
+-- ---- too much came
+
+pub returns-in-Ok-heard_reply-clause-unended : goal.returns-in-Ok-heard_reply-clause-unended
+returns-in-Ok-heard_reply-clause-unended g c w told long =
+    no_dump c.args.replica.now.size (place_of c.args.replica.now) (first_of w.to_come) (coming c.poll_peer.new.inbox.pending (g.L.Link.wire c.poll_peer.new.link))
+    c.in-Ok.arrival c.in-Ok-heard_reply.reply (c.in-Ok.ensures.arrives w told) (sym c.heard_reply.ensures ∙ c.in-Ok-heard_reply.is)
+    (λ rest n left all. c.answer.ensures.unended rest n left (c.in-Ok.ensures.received w told ∙ all) long)
+
+pub returns-clause-unended : goal.returns-clause-unended
+returns-clause-unended g c w told long =
+    no_reply c.args.replica.now.size (place_of c.args.replica.now) (first_of w.to_come)
+    (c.poll_peer.ensures.unended w told (c.in-Err.is ∙ ap Err (for_long c.in-Err.halt (sym c.from.ensures ∙ err_is c.from.result _ long))))
+
+-- ---- what was received makes an end
+
+pub returns-in-Ok-heard_reply-clause-in_time : goal.returns-in-Ok-heard_reply-clause-in_time
+returns-in-Ok-heard_reply-clause-in_time g c w told =
+    let is = sym c.heard_reply.ensures ∙ c.in-Ok-heard_reply.is in
+    let after = coming c.poll_peer.new.inbox.pending (g.L.Link.wire c.poll_peer.new.link) in
+    answered c.args.replica.now.size (place_of c.args.replica.now) (first_of w.to_come) after c.in-Ok.arrival (c.in-Ok.ensures.arrives w told) (c.in-Ok.ensures.in_time w told)
+    c.answer.result c.in-Ok-heard_reply.reply is (left_behind (first_of w.to_come) after c.in-Ok.arrival c.in-Ok-heard_reply.reply (c.in-Ok.ensures.arrives w told) is)
+    (λ rest n left all. c.answer.ensures.in_time rest n left (c.in-Ok.ensures.received w told ∙ all))
+
+pub returns-in-Ok-clause-in_time : goal.returns-in-Ok-clause-in_time
+returns-in-Ok-clause-in_time g c w told gives =
+    unanswered c.args.replica.now.size (place_of c.args.replica.now) (first_of w.to_come) (coming c.poll_peer.new.inbox.pending (g.L.Link.wire c.poll_peer.new.link))
+    c.in-Ok.arrival (c.in-Ok.ensures.arrives w told) (c.in-Ok.ensures.in_time w told)
+    c.in-Err-heard_reply.word (sym c.heard_reply.ensures ∙ c.in-Err-heard_reply.is) gives

@@ -1,7 +1,7 @@
 use Rattle.std.proofs.Common.{false, refl, ◌∙◌, arith}
 use Rattle.iprop_links.specs.Asking.{sent_in}
 use Rattle.kdb_ports.specs.Links.{Wire}
-use Rattle.kprop_runs.proofs.Going.{crash_on, goes_on, lead_on, none_led, rounds_start, starts, stops_here, told_wire, untold_on, untold_start}
+use Rattle.kprop_runs.proofs.Going.{all_end, crash_on, goes_on, lead_on, long_here, none_ended, none_led, rounds_start, starts, stops_here, told_wire, untold_on, untold_start}
 use Rattle.kprop_runs.proofs.Overlong.{long_behind}
 use Rattle.kprop_runs.specs.Stages.{Stage, stage_of}
 use Rattle.replica_core.specs.Opened.{place_of}
@@ -17,6 +17,7 @@ loop-done-init g c =
       crash = λ w told tells. rounds_start c.args.name.now size c.args.count w taken c.args.replica.now.database view (c.requires.on tells);
       leads = λ tells. none_led size (place_of c.args.replica.now);
       some = λ tells. untold_start size c.args.count c.args.replica.now.database view (c.requires.on tells);
+      in_time = λ w told. none_ended c.args.name.now size (stage_of w taken (place_of c.args.replica.now) false);
       on = c.requires.on;
       whole = c.requires.whole;
       sized = refl;
@@ -53,6 +54,10 @@ loop-done-preserved g c =
       some = λ tells.
           untold_on size c.loop-done.done (place_of c.args.replica.now) c.loop-done.replica.size inv.sized place (inv.leads tells) c.args.count few
           (g.D.Disk.view c.args.disk.now) (g.D.Disk.view c.loop-done.disk) (g.D.Disk.view c.turn.new.disk) (inv.some tells) (c.turn.ensures.some.told tells);
+      in_time = λ w told.
+          let at = inv.stands w told in
+          let here = told_wire wire _ at.sent_is in
+          all_end name size c.loop-done.done (first w) c.loop-done.replica.size inv.sized wire here.0 here.1 out place c.loop-done.refused at (inv.in_time w told) (c.in-Ok.ensures.in_time here.0 here.1);
       on = λ tells. c.in-Ok.ensures.on tells;
       whole = c.in-Ok.ensures.whole;
       sized = c.turn.ensures.size ∙ inv.sized;
@@ -94,3 +99,18 @@ returns-in-Err-clause-too_long g c w told long =
     let here = told_wire wire _ at.sent_is in
     long_behind c.args.name.now c.args.replica.now.size c.loop-done.done (stage_of w (g.K.Sink.taken c.args.sink.now) (place_of c.args.replica.now) false) wire here.0 here.1 at.later_is
     (c.turn.ensures.too_long here.0 here.1 (c.in-Err.is ∙ long))
+
+pub returns-in-Err-clause-long : goal.returns-in-Err-clause-long
+returns-in-Err-clause-long g c w told long =
+    let inv = c.loop-done.invariant in
+    let wire = g.L.Link.wire c.loop-done.link in
+    let at = inv.stands w told in
+    let here = told_wire wire _ at.sent_is in
+    long_here c.args.name.now c.args.replica.now.size c.loop-done.done (stage_of w (g.K.Sink.taken c.args.sink.now) (place_of c.args.replica.now) false)
+    c.loop-done.replica.size inv.sized wire here.0 here.1 (g.K.Sink.taken c.loop-done.sink) (place_of c.loop-done.replica) c.loop-done.refused at
+    c.args.count c.loop-done-test.true (sent_in (g.L.Link.wire c.turn.new.link)) (c.turn.ensures.long here.0 c.loop-done.refused here.1 (c.in-Err.is ∙ long))
+
+pub returns-clause-in_time : goal.returns-clause-in_time
+returns-clause-in_time g c w told i few =
+    let done = c.loop-done-test.false in
+    c.loop-done.invariant.in_time w told i (omega (arith, few, done))

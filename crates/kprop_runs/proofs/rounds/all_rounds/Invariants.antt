@@ -1,6 +1,7 @@
 use Rattle.std.proofs.Common.{◌≡◌, ◌≤◌, Some, false}
 use Rattle.kdb_disk.specs.Moments.{LeavesOnly}
 use Rattle.kdb_ports.specs.Links.{Wire}
+use Rattle.kprop_runs.specs.Longs.{AllEnd}
 use Rattle.kprop_runs.specs.Stages.{LeavesRounds, LeavesUntold, MayLead, StandsAt, after_rounds, stage_of}
 use Rattle.replica_core.specs.Opened.{IsHeldOn, is_broken, place_of}
 use Rattle.kprop_runs.proofs.rounds.all_rounds.Given as goal
@@ -14,6 +15,7 @@ invariant-loop-done g l = record {
       (LeavesRounds l.name l.fn.replica.size l.count (stage_of w (g.K.Sink.taken l.fn.sink) (place_of l.fn.replica) false));
   leads : g.D.Disk.tells → MayLead l.fn.replica.size l.done (place_of l.fn.replica) (place_of l.replica);
   some : g.D.Disk.tells → LeavesOnly (g.D.Disk.view l.fn.disk) (g.D.Disk.view l.disk) (LeavesUntold l.fn.replica.size l.count (place_of l.fn.replica));
+  in_time : (w : Wire) → g.L.Link.wire l.fn.link ≡ Some w → AllEnd l.name l.fn.replica.size l.done (stage_of w (g.K.Sink.taken l.fn.sink) (place_of l.fn.replica) false);
   on : g.D.Disk.tells → IsHeldOn l.replica.database (g.D.Disk.view l.disk);
   whole : is_broken l.replica.database l.replica.failed ≡ false;
   sized : l.replica.size ≡ l.fn.replica.size;

@@ -1,3 +1,5 @@
+use Rattle.std.proofs.Common.{Err, sym, ap, ◌∙◌}
+use Rattle.kprop_runs.proofs.Overlong.{err_is, for_long}
 use Rattle.kprop_runs.proofs.Saying.{call_halted, call_said, links_halted, links_said, on_ok}
 use Rattle.kprop_runs.proofs.Turning.{came, round_stopped, turn_stopped, turned}
 use Rattle.replica_core.specs.Opened.{place_of}
@@ -35,6 +37,9 @@ returns-in-Ok-clause-call g c = call_said g.D.Disk c.args.disk.now c.round.new.d
 pub returns-in-Ok-clause-links : goal.returns-in-Ok-clause-links
 returns-in-Ok-clause-links g c = links_said (g.L.Link.faults c.args.link.now) (g.L.Link.faults c.round.new.link) c.say_round.result c.round.ensures.faults c.say_round.ensures.halt
 
+pub returns-in-Ok-clause-in_time : goal.returns-in-Ok-clause-in_time
+returns-in-Ok-clause-in_time g c w told = on_ok c.say_round.result (c.in-Ok.ensures.in_time w told)
+
 -- ---- it was stopped
 
 pub returns-in-Err-clause-stopped : goal.returns-in-Err-clause-stopped
@@ -48,3 +53,12 @@ returns-in-Err-clause-call g c = call_halted c.round.result c.in-Err.halt c.in-E
 pub returns-in-Err-clause-links : goal.returns-in-Err-clause-links
 returns-in-Err-clause-links g c =
     links_halted c.round.result c.in-Err.halt c.in-Err.is c.from.result c.from.ensures (g.L.Link.faults c.args.link.now) (g.L.Link.faults c.round.new.link) c.round.ensures.faults
+
+pub returns-in-Err-clause-long : goal.returns-in-Err-clause-long
+returns-in-Err-clause-long g c w refused told long = record {
+  said = (c.in-Err.ensures.round w told).front;
+  gives = c.round.ensures.unended w told (c.in-Err.is ∙ ap Err (for_long c.in-Err.halt (sym c.from.ensures ∙ err_is c.from.result _ long)));
+}
+
+pub returns-in-Err-clause-too_long : goal.returns-in-Err-clause-too_long
+returns-in-Err-clause-too_long g c w told long = c.round.ensures.too_long w told (c.in-Err.is ∙ ap Err (for_long c.in-Err.halt (sym c.from.ensures ∙ err_is c.from.result _ long)))

@@ -1,6 +1,7 @@
 use Rattle.std.proofs.Common.{Err, ap, subst, ◌∙◌}
+use Rattle.iprop_links.specs.Asking.{sent_in}
 use Rattle.kdb_base.specs.declared.outcomes.Stop.{Stop}
-use Rattle.kprop_runs.proofs.Running.{halted_run, open_some, opened_run, opened_some, refused_run}
+use Rattle.kprop_runs.proofs.Running.{halted_run, open_some, opened_end, opened_long, opened_run, opened_some, refused_end, refused_run}
 use Rattle.replica_core.specs.Opened.{Opened}
 use Rattle.replica_core.specs.Opening.{AnswersOpened}
 use Rattle.std.specs.Prelude.{Result}
@@ -46,3 +47,20 @@ returns-in-Err-Halt-clause-run g c tells w told =
 pub returns-in-Err-Halt-clause-some : goal.returns-in-Err-Halt-clause-some
 returns-in-Err-Halt-clause-some g c tells =
     open_some c.args.asked.now (recovers (g.D.Disk.view c.args.disk.now).seen) (g.D.Disk.view c.args.disk.now) (g.D.Disk.view c.recover.new.disk) (c.recover.ensures.moments tells)
+
+pub returns-in-Ok-clause-long : goal.returns-in-Ok-clause-long
+returns-in-Ok-clause-long g c tells w told long =
+    opened_long c.args.asked.now c.in-Ok.opened (recovers (g.D.Disk.view c.args.disk.now).seen) (c.in-Ok.ensures.answer tells) w (g.K.Sink.taken c.args.sink.now)
+    (sent_in (g.L.Link.wire c.run_rounds.new.link)) (c.run_rounds.ensures.long w told long)
+
+pub returns-in-Ok-clause-in_time : goal.returns-in-Ok-clause-in_time
+returns-in-Ok-clause-in_time g c tells w told =
+    opened_end c.args.asked.now c.in-Ok.opened (recovers (g.D.Disk.view c.args.disk.now).seen) (c.in-Ok.ensures.answer tells) w (g.K.Sink.taken c.args.sink.now)
+    c.run_rounds.result (c.run_rounds.ensures.in_time w told)
+
+pub returns-in-Err-Refused-clause-in_time : goal.returns-in-Err-Refused-clause-in_time
+returns-in-Err-Refused-clause-in_time g c tells w told =
+    let is = c.in-Err-Refused.is ∙ ap Err c.in-Err-Refused.field-0-is in
+    let found = recovers (g.D.Disk.view c.args.disk.now).seen in
+    refused_end c.args.asked.now c.in-Err-Refused.refusal found (subst (λ (r : Result Opened Stop). AnswersOpened c.args.asked.now.size r found) is (c.recover.ensures.answer tells))
+    w (g.K.Sink.taken c.args.sink.now) c.refuse.result

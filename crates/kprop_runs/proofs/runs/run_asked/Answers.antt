@@ -1,9 +1,13 @@
 use Rattle.std.proofs.Common.{Option, subst, sym}
+use Rattle.std.specs.Prelude.{OnOk}
+use Rattle.iprop_links.specs.Asking.{sent_in}
 use Rattle.kadm_replies.specs.Refusals.{refusal_text}
 use Rattle.kdb_base.specs.declared.outcomes.Refusal.TheVariants.{BadLine}
 use Rattle.kdb_disk.proofs.Runs.{kept}
 use Rattle.kdb_disk.specs.Moments.{LeavesOnly}
 use Rattle.kprop_runs.proofs.Running.{like_here, refusal_is, refusal_run}
+use Rattle.kprop_runs.proofs.Saying.{on_ok}
+use Rattle.kprop_runs.specs.Longs.{RunRoundsEnd, RunStopsLong}
 use Rattle.kprop_runs.specs.Openings.{opening_by}
 use Rattle.kprop_runs.specs.Runs.{HasRun, RunLeavesSome}
 use Rattle.kprop_runs.specs.declared.words.Asked.{Asked}
@@ -33,3 +37,19 @@ returns-in-None-clause-some g c tells =
 pub returns-in-None-clause-other : goal.returns-in-None-clause-other
 returns-in-None-clause-other g c none =
     refusal_is (refusal_text BadLine) (g.K.Sink.taken c.args.sink.now) (g.K.Sink.taken c.refuse.new.sink) c.refuse.result c.refuse.ensures.ok c.refuse.ensures.value c.refuse.ensures.err
+
+pub returns-in-Some-clause-long : goal.returns-in-Some-clause-long
+returns-in-Some-clause-long g c tells w told long =
+    let found = recovers (g.D.Disk.view c.args.disk.now).seen in
+    subst (λ (a : Option Asked). RunStopsLong (opening_by a found) w (g.K.Sink.taken c.args.sink.now) (sent_in (g.L.Link.wire c.open_and_run.new.link))) (sym c.in-Some.is)
+    (c.open_and_run.ensures.long tells w told long)
+
+pub returns-in-Some-clause-in_time : goal.returns-in-Some-clause-in_time
+returns-in-Some-clause-in_time g c tells w told =
+    let found = recovers (g.D.Disk.view c.args.disk.now).seen in
+    subst (λ (a : Option Asked). OnOk c.open_and_run.result (RunRoundsEnd (opening_by a found) w (g.K.Sink.taken c.args.sink.now))) (sym c.in-Some.is) (c.open_and_run.ensures.in_time tells w told)
+
+pub returns-in-None-clause-in_time : goal.returns-in-None-clause-in_time
+returns-in-None-clause-in_time g c tells w told =
+    let found = recovers (g.D.Disk.view c.args.disk.now).seen in
+    subst (λ (a : Option Asked). OnOk c.refuse.result (RunRoundsEnd (opening_by a found) w (g.K.Sink.taken c.args.sink.now))) (sym c.in-None.is) (on_ok c.refuse.result tt)

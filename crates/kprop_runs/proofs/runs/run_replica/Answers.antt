@@ -1,10 +1,14 @@
-use Rattle.std.proofs.Common.{Err, Option, map, refl, subst, ◌∙◌}
+use Rattle.std.proofs.Common.{Err, Option, map, refl, sym, subst, ◌∙◌}
+use Rattle.std.specs.Prelude.{OnOk}
+use Rattle.iprop_links.specs.Asking.{sent_in}
 use Rattle.kdb_base.specs.declared.outcomes.Refusal.TheVariants.{BadLine}
 use Rattle.kdb_base.specs.declared.outcomes.Status.TheVariants as status
 use Rattle.kadm_replies.specs.Refusals.{refusal_text}
 use Rattle.kdb_disk.specs.Moments.{LeavesOnly}
-use Rattle.kprop_runs.proofs.ByStatus.{call_by, links_by, never_read, refusal_by, run_by, writes_by}
+use Rattle.kprop_runs.proofs.ByStatus.{call_by, ends_by, links_by, never_read, refusal_by, run_by, writes_by}
 use Rattle.kprop_runs.proofs.Running.{idle_refusal, idle_run, idle_some}
+use Rattle.kprop_runs.proofs.Overlong.{by_status}
+use Rattle.kprop_runs.specs.Longs.{RunRoundsEnd, RunStopsLong}
 use Rattle.kprop_runs.specs.Openings.{opening, opening_by}
 use Rattle.kprop_runs.specs.Runs.{HasRun, RunLeavesSome}
 use Rattle.kprop_runs.specs.declared.halts.RunHalt.TheVariants as run
@@ -66,3 +70,16 @@ returns-in-Err-clause-some g c tells =
 pub returns-in-Err-clause-other : goal.returns-in-Err-clause-other
 returns-in-Err-clause-other g c none = refusal_by status.MemoryOut (Err run.MemoryOut) refl (refusal_text BadLine) (g.K.Sink.taken c.args.sink.now) (g.K.Sink.taken c.args.sink.now)
     (idle_refusal (refusal_text BadLine) (g.K.Sink.taken c.args.sink.now) run.MemoryOut)
+
+pub returns-in-Ok-clause-long : goal.returns-in-Ok-clause-long
+returns-in-Ok-clause-long g c tells w told long =
+    let found = recovers (g.D.Disk.view c.args.disk.now).seen in
+    subst (λ (a : Option Asked). RunStopsLong (opening_by a found) w (g.K.Sink.taken c.args.sink.now) (sent_in (g.L.Link.wire c.run_asked.new.link))) c.in-Ok.ensures.value
+    (c.run_asked.ensures.long tells w told (by_status c.run_asked.result (sym c.status_after.ensures ∙ long)))
+
+pub returns-in-Ok-clause-in_time : goal.returns-in-Ok-clause-in_time
+returns-in-Ok-clause-in_time g c tells w told =
+    let found = recovers (g.D.Disk.view c.args.disk.now).seen in
+    let taken = g.K.Sink.taken c.args.sink.now in
+    ends_by c.status_after.result c.run_asked.result c.status_after.ensures (RunRoundsEnd (opening (map (λ word. word.items) c.args.words.now) (g.D.Disk.view c.args.disk.now).seen) w taken)
+    (subst (λ (a : Option Asked). OnOk c.run_asked.result (RunRoundsEnd (opening_by a found) w taken)) c.in-Ok.ensures.value (c.run_asked.ensures.in_time tells w told))

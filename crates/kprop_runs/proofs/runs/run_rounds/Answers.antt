@@ -1,7 +1,8 @@
-use Rattle.std.proofs.Common.{ℕ, refl, subst}
+use Rattle.std.proofs.Common.{ℕ, refl, subst, ◌∙◌}
+use Rattle.iprop_links.specs.Asking.{sent_in}
 use Rattle.kdb_disk.proofs.Runs.{weaken}
 use Rattle.kdb_disk.specs.Frames.{IsCrashSafe}
-use Rattle.kprop_runs.proofs.Running.{ran, rounds_leave, rounds_stopped, stands}
+use Rattle.kprop_runs.proofs.Running.{ran, rounds_end, rounds_leave, rounds_long, rounds_stopped, stands}
 use Rattle.kprop_runs.proofs.Saying.{call_said, links_said, on_ok}
 use Rattle.kprop_runs.specs.Runs.{first_stage}
 use Rattle.kprop_runs.specs.Stages.{LeavesUntold}
@@ -55,3 +56,14 @@ returns-in-Err-clause-crash g c w told = record {
 pub returns-in-Err-clause-some : goal.returns-in-Err-clause-some
 returns-in-Err-clause-some g c =
     subst (λ (m : ℕ). IsCrashSafe g.D.Disk c.args.disk.now c.all_rounds.new.disk (LeavesUntold m c.args.asked.now.rounds (place_of c.args.replica.now))) c.requires.size c.all_rounds.ensures.some
+
+pub returns-in-Err-clause-long : goal.returns-in-Err-clause-long
+returns-in-Err-clause-long g c w told long =
+    rounds_long c.args.asked.now (first_stage w (g.K.Sink.taken c.args.sink.now) (place_of c.args.replica.now)) c.as_slice-name.result.now c.args.replica.now.size c.as_slice-name.ensures c.requires.size
+    (sent_in (g.L.Link.wire c.all_rounds.new.link)) (c.all_rounds.ensures.long w told (c.in-Err.is ∙ long))
+
+pub returns-in-Ok-clause-in_time : goal.returns-in-Ok-clause-in_time
+returns-in-Ok-clause-in_time g c w told =
+    on_ok c.say_done.result
+    (rounds_end c.args.asked.now (first_stage w (g.K.Sink.taken c.args.sink.now) (place_of c.args.replica.now)) c.as_slice-name.result.now c.args.replica.now.size c.as_slice-name.ensures c.requires.size
+    (c.in-Ok.ensures.in_time w told))

@@ -1,6 +1,4 @@
-use Rattle.std.proofs.Common.{◌∙◌, ap, arith}
-use Rattle.std.specs.Prelude.{length, min}
-use Rattle.iprop_wire.specs.Answers.{need}
+use Rattle.std.proofs.Common.{arith}
 use Rattle.iprop_wire.proofs.Steps.{advanced, broke_by}
 use Rattle.iprop_wire.proofs.decoder.Decoder.advance.Goals as goal
 

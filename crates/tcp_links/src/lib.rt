@@ -1,0 +1,9 @@
+//! A link over TCP: each dial makes a connection to one address.
+#![tactic(auto)]
+
+pub mod links;
+pub mod streams;
+#[cfg(test)]
+mod tests;
+
+pub use links::TcpLink;
