@@ -12,6 +12,3 @@ mod updating;
 
 pub use replica::Replica;
 pub use stops::{ReplicaStop, Taken4};
-
-#[cfg(test)]
-mod tests;

@@ -42,6 +42,7 @@ fn store_in<D: Disk>(
     ensures part { (size : ℕ) → HasSize size database.old → OnHalt result (MayBePart (place_in database.old) (stored_in size updates.now (place_in database.old)) (place_in database.new)) }
     ensures crash { (size : ℕ) → HasSize size database.old → IsCrashSafe D.Disk disk.old disk.new (LeavesMade (place_in database.old) (stored_in size updates.now (place_in database.old))) }
     ensures sized { (size : ℕ) → HasSize size database.old → HasSize size database.new }
+    ensures none { place_in database.old ≡ None → disk.new ≡ disk.old }
     ensures based { is_based (place_in database.new) ≡ is_based (place_in database.old) }
     ensures on { D.tells → UnlessFaulted result (IsHeldOn database.new (D.view disk.new)) }
     ensures whole { UnlessFaulted result (IsWhole database.new) }
@@ -113,6 +114,8 @@ fn take_updates<D: Disk>(
     ensures crash { (size : ℕ) → HasSize size database.old → IsCrashSafe D.Disk disk.old disk.new (LeavesMade (place_in database.old) (made_by_reply size (place_in database.old) (reply_of updates_here asked.now updates.now))) }
     ensures sized { (size : ℕ) → HasSize size database.old → HasSize size database.new }
     ensures untouched { is_taken (point_in (place_in database.old)) (reply_of updates_here asked.now updates.now) ≡ false → disk.new ≡ disk.old }
+    // Without a database no device call is made.
+    ensures none { place_in database.old ≡ None → disk.new ≡ disk.old }
     ensures based { is_based (place_in database.new) ≡ is_based (place_in database.old) }
     ensures on { D.tells → UnlessFaulted result (IsHeldOn database.new (D.view disk.new)) }
     ensures whole { UnlessFaulted result (IsWhole database.new) }
@@ -162,6 +165,8 @@ fn take<D: Disk>(
     ensures crash { (size : ℕ) → HasSize size database.old → IsCrashSafe D.Disk disk.old disk.new (LeavesMade (place_in database.old) (made_by_reply size (place_in database.old) (told_reply reply.now))) }
     ensures sized { (size : ℕ) → HasSize size database.old → HasSize size database.new }
     ensures untouched { is_taken (point_in (place_in database.old)) (told_reply reply.now) ≡ false → disk.new ≡ disk.old }
+    // Without a database no device call is made.
+    ensures none { place_in database.old ≡ None → disk.new ≡ disk.old }
     ensures based { is_based (place_in database.new) ≡ is_based (place_in database.old) }
     ensures on { D.tells → UnlessFaulted result (IsHeldOn database.new (D.view disk.new)) }
     ensures whole { UnlessFaulted result (IsWhole database.new) }
@@ -205,6 +210,8 @@ impl Replica {
         ensures on { D.tells → UnlessFaulted result (IsHeldOn self.new.database (D.view disk.new)) }
         // A reply that is not taken, or is refused as a whole, comes to no device call.
         ensures untouched { is_taken (point_in (place_of self.old)) (told_reply reply) ≡ false → disk.new ≡ disk.old }
+        // Nor does any without a database.
+        ensures none { place_of self.old ≡ None → disk.new ≡ disk.old }
         ensures size { self.new.size ≡ self.old.size }
         ensures whole { UnlessFaulted result (is_broken self.new.database self.new.failed ≡ false) }
         ensures broken { result ≡ Err (Halts IsDiskFault) → is_broken self.new.database self.new.failed ≡ true }

@@ -2,10 +2,10 @@
 ghost use Rattle.std.specs.Prelude.{◌≡◌, false, IfOk};
 ghost use Rattle.replica_core.specs.Opened.{IsHeldOn, is_broken};
 
-use crate::{Replica, Taken4};
 use kdb_base::Fails;
 use kdb_disk::{Disk, MemoryDisk};
 use princ_rows::{Entries, PollReply, ReplyCode};
+use replica_core::{Replica, Taken4};
 use std::alloc::Global;
 use std::test::*;
 

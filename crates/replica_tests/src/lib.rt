@@ -1,0 +1,14 @@
+//! A replica over a disk in memory: what its calls answer, and where it stands behind them. The crate has no code of its
+//! own.
+#![tactic(auto)]
+
+#[cfg(test)]
+mod faults;
+#[cfg(test)]
+mod frames;
+#[cfg(test)]
+mod given;
+#[cfg(test)]
+mod replies;
+#[cfg(test)]
+mod steps;
