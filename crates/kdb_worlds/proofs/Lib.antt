@@ -1,4 +1,5 @@
 pub mod Runs
 pub mod Ends
 pub mod Acknowledged
+pub mod Primaries
 pub mod Example

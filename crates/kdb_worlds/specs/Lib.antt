@@ -1,3 +1,4 @@
 pub mod Worlds
 pub mod Lawful
+pub mod Primaries
 pub mod Examples

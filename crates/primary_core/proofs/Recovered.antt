@@ -8,21 +8,21 @@ use Rattle.kdb_base.specs.declared.outcomes.Stop.TheVariants as stop
 use Rattle.kdb_base.specs.declared.versions.Master.{Master}
 use Rattle.kdb_disk.proofs.Runs.{then_on, weaken}
 use Rattle.kdb_disk.specs.Files.{Files}
-use Rattle.kdb_disk.specs.Moments.{LeavesOnly}
+use Rattle.kdb_disk.specs.Moments.{IsSettled, Keeps, LeavesOnly}
 use Rattle.kdb_disk.specs.View.{View}
 use Rattle.kdb_histories.specs.Calls.{HasTimeLeft, resized}
 use Rattle.kdb_histories.specs.Stages.{places}
 use Rattle.kdb_places.specs.Places.{Place, point_of}
 use Rattle.kdb_store.specs.Reading.{IsFoundAs}
 use Rattle.primary_core.specs.Opened.{Opened}
-use Rattle.primary_core.specs.Opening.{EndsTime, HasNoTime, IsHalt, IsRefusedAs, MayOpen, OpeningRefused, OpensAt, OpensFrom, OpensHaving, OpensTo, OpensWith, RefusesAt, RowsRefused, StashRefuses, place_found}
+use Rattle.primary_core.specs.Opening.{EndsTime, HasNoTime, IsHalt, IsRefusedAs, LeavesOpening, MayOpen, OpeningRefused, OpensAt, OpensFrom, OpensHaving, OpensTo, OpensWith, RecoversAs, RefusesAt, RowsRefused, StashRefuses, place_found}
 use Rattle.princ_rows.specs.Rows.{RowLists}
 use Rattle.row_keys.specs.Sound.{AreSound, judged}
 use Rattle.stash_opening.specs.Answers.{Gives, Refuses}
 use Rattle.stash_opening.specs.Finding.{IsOpeningCause, StashOpens, own_record}
-use Rattle.store_files.specs.Found.{Found, place_of}
+use Rattle.store_files.specs.Found.{Found, found_in, place_in, place_of, recovers}
 use Rattle.store_files.specs.Kept.{Kept, found_with, place_kept}
-use Rattle.store_files.specs.Recovery.{IsLike, LeavesPart}
+use Rattle.store_files.specs.Recovery.{IsLike, LeavesPart, RecoversTo}
 
 -- ---- what is read of a database
 
@@ -105,6 +105,16 @@ refused_kept k found h why cause =
     subst (λ (x : Place). RefusesAt x k.control.stash why) (place_is k found h)
     (subst (λ (x : Result Found Refusal). RowsRefused x why) h.is cause)
 
+-- ---- whatever a crash leaves recovers to what was read
+
+-- where no file was changed, and every one was settled
+pub settled_stays : (old now : View) → Keeps old now → IsSettled now → RecoversAs old.seen now
+settled_stays old now keeps settled = λ c image. ap (λ (files : Files). recovers files) (settled.only c image ∙ keeps.seen)
+
+-- where what was found stands
+pub kept_stays : (k : Kept) (files : Files) (now : View) → IsFoundAs k (found_in files) → RecoversTo (place_kept k) now → RecoversAs files now
+kept_stays k files now h stands = λ c image. stands c image ∙ sym (ap place_in h.is ∙ ap Ok (place_is k (found_in files) h))
+
 -- ---- the rows are opened
 
 pub not_found_refused : (found : Result Found Refusal) (why : Refusal) → found ≡ Err why → RowsRefused found why
@@ -168,6 +178,16 @@ stopped_only A B (Ok f) size clock (stop.Refused other) only halts why (inr late
 pub halts_having : (s : Stop) (masters : List Master) → IsHalt s → OpensHaving (Err s) masters
 halts_having (stop.Refused why) masters none = none
 halts_having (stop.Halt halt) masters halts = tt
+
+pub may_be_like : (old : View) (found : Result Found Refusal) (size : Option ℕ) (clock : Moment) (c : Files) → IsLike old c → MayOpen old found size clock c
+may_be_like old (Err refusal) size clock c is = is
+may_be_like old (Ok f) size clock c is = inl is
+
+-- where no later time is left, nothing was written
+pub late_kept : {A : Type 0} (old new : A) (p : Place) (size : Option ℕ) (clock : Moment) (why : Refusal) → EndsTime size clock p why
+    → (resized size clock p ≢ [] → HasTimeLeft p) ⊎ (new ≡ old) → new ≡ old
+late_kept old new p size clock why late (inl left) = absurd (late.ended (left late.anew))
+late_kept old new p size clock why late (inr same) = same
 
 module _ (k : Kept) (found : Result Found Refusal) (h : IsFoundAs k found) (size : Option ℕ) (clock : Moment) where
   same_place : (f : Found) → found ≡ Ok f → place_found f ≡ place_kept k
@@ -237,16 +257,15 @@ module _ (k : Kept) (found : Result Found Refusal) (h : IsFoundAs k found) (size
 
   -- ---- moments
 
-  pub opens_on : (old mid new : View) → LeavesOnly old mid (IsLike old) → LeavesOnly mid new (LeavesPart (place_kept k) (places (resized size clock (place_kept k))))
-      → LeavesOnly old new (MayOpen old found size clock)
-  opens_on old mid new first second =
-      subst (λ (x : Result Found Refusal). LeavesOnly old new (MayOpen old x size clock)) (sym h.is)
+  pub opens_on : {D : Type 0} (view : D → View) (old : View) (mid new : D)
+      → (resized size clock (place_kept k) ≢ [] → HasTimeLeft (place_kept k)) ⊎ (new ≡ mid) → LeavesOnly old (view mid) (IsLike old)
+      → LeavesOnly (view mid) (view new) (LeavesPart (place_kept k) (places (resized size clock (place_kept k)))) → LeavesOnly old (view new) (MayOpen old found size clock)
+  opens_on view old mid new (inl left) first second =
+      subst (λ (x : Result Found Refusal). LeavesOnly old (view new) (MayOpen old x size clock)) (sym h.is)
       (then_on (weaken first (λ c is. inl is)) second
-      (λ c is. inr (subst (λ (x : Place). LeavesPart x (places (resized size clock x)) c) (sym (place_is k found h)) is)))
-
-pub may_be_like : (old : View) (found : Result Found Refusal) (size : Option ℕ) (clock : Moment) (c : Files) → IsLike old c → MayOpen old found size clock c
-may_be_like old (Err refusal) size clock c is = is
-may_be_like old (Ok f) size clock c is = inl is
+      (λ c is. inr (subst (λ (x : Place). LeavesOpening x size clock c) (sym (place_is k found h)) (record { left = left; part = is }))))
+  opens_on {D} view old mid new (inr same) first second =
+      subst (λ (x : D). LeavesOnly old (view x) (MayOpen old found size clock)) (sym same) (weaken first (λ c is. may_be_like old found size clock c is))
 
 -- one stop, whatever the value would have been
 pub stop_same : (s t : Stop) (A : Type 0) → ◌≡◌ {A = Result A Stop} (Err s) (Err t) → s ≡ t

@@ -7,7 +7,7 @@ use Rattle.kdb_base.specs.Moment.{Moment}
 use Rattle.kdb_base.specs.declared.moments.Point.{Point}
 use Rattle.kdb_base.specs.declared.outcomes.Halt.{Halt}
 use Rattle.kdb_base.specs.declared.versions.Master.{Master}
-use Rattle.kdb_histories.proofs.Growing.{StaysValid, shows_at}
+use Rattle.kdb_histories.proofs.Growing.{StaysValid}
 use Rattle.kdb_histories.proofs.Times.{reset_since}
 use Rattle.kdb_histories.specs.Calls.{resized, size_or}
 use Rattle.kdb_histories.specs.Moves.{IsLeft}
@@ -25,6 +25,7 @@ use Rattle.primary_core.specs.declared.decided.DecidedChange.{DecidedChange}
 use Rattle.primary_core.specs.Opening.{OpensAt}
 use Rattle.princ_rows.specs.declared.entries.Op.{Op}
 use Rattle.princ_rows.specs.Rows.{RowLists}
+use Rattle.row_keys.proofs.Effects.{shows_at}
 use Rattle.row_keys.specs.Shows.{Shows}
 use Rattle.row_keys.specs.Sound.{HasState as HasStateOf, judged}
 

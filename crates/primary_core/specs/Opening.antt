@@ -1,5 +1,6 @@
 -- A primary that is made, and one that is opened.
 use Rattle.std.specs.Prelude.{ℕ, ◌≡◌, ◌≢◌, ◌⊎◌, [], List, Option, Some, Result, Ok, Err}
+use Rattle.cell_files.specs.NewFiles.{file_text}
 use Rattle.first_rows.specs.Creation.{first_point, first_rows, first_state}
 use Rattle.first_rows.specs.Parts.{SpecParts}
 use Rattle.iprop_truths.specs.Parts.{end_of}
@@ -9,6 +10,7 @@ use Rattle.kdb_base.specs.declared.outcomes.Refusal.TheVariants.{TimeEnd}
 use Rattle.kdb_base.specs.declared.outcomes.Stop.{Stop}
 use Rattle.kdb_base.specs.declared.outcomes.Stop.TheVariants as stop
 use Rattle.kdb_base.specs.declared.versions.Master.{Master}
+use Rattle.kdb_control.specs.Choice.{Choice}
 use Rattle.kdb_disk.specs.Files.{Files}
 use Rattle.kdb_disk.specs.View.{View}
 use Rattle.kdb_histories.specs.Calls.{HasTimeLeft, resized}
@@ -18,8 +20,9 @@ use Rattle.primary_core.specs.Opened.{Opened, place_of as place_opened}
 use Rattle.row_keys.specs.Sound.{AreSound, judged}
 use Rattle.stash_file.specs.Written.{stash_text}
 use Rattle.stash_opening.specs.Finding.{IsOpeningCause, StashOpens, own_record}
-use Rattle.store_files.specs.Found.{Found, place_of}
+use Rattle.store_files.specs.Found.{Found, place_of, recovers}
 use Rattle.store_files.specs.Recovery.{IsLike, LeavesPart}
+use Rattle.store_files.specs.Switches.{first_choice}
 
 -- ---- a creation
 
@@ -28,6 +31,14 @@ abbrev pub first_place : SpecParts → Moment → List ℕ → Place
 first_place spec now random =
     created spec.realm (first_rows spec now random) (first_point now) spec.size 2048
     (Some (stash_text spec.realm now.secs (first_state spec now random).masters)) 2
+
+-- the choice of its files: the first of each kind, and the first turn
+abbrev pub first_control : SpecParts → Moment → Choice
+first_control spec now = first_choice 2 5 (first_point now) spec.size 2048
+
+-- the bytes of its file of rows: behind the unit of the realm the rows one behind the other, in their order
+abbrev pub first_file : SpecParts → Moment → List ℕ → List ℕ
+first_file spec now random = file_text 2 spec.realm (first_point now) (first_rows spec now random)
 
 -- ---- an opening
 
@@ -86,10 +97,19 @@ pub record OpensTo (found : Result Found Refusal) (size : Option ℕ) (clock : M
   pub left : resized size clock (place_found found_is) ≢ [] → HasTimeLeft (place_found found_is)
   pub place_is : place_opened o ≡ end_of (place_found found_is) (places (resized size clock (place_found found_is)))
 
+-- a place of the opening; where that is to begin the log anew, a later time is left for it
+pub record LeavesOpening (p : Place) (size : Option ℕ) (clock : Moment) (c : Files) : Type 0 where
+  pub left : resized size clock p ≢ [] → HasTimeLeft p
+  pub part : LeavesPart p (places (resized size clock p)) c
+
 -- the files stand for what an image of before stood for, or for a place of the opening
 abbrev pub MayOpen : View → Result Found Refusal → Option ℕ → Moment → Files → Type 0
 MayOpen old (Err refusal) size clock c = IsLike old c
-MayOpen old (Ok f) size clock c = IsLike old c ⊎ LeavesPart (place_found f) (places (resized size clock (place_found f))) c
+MayOpen old (Ok f) size clock c = IsLike old c ⊎ LeavesOpening (place_found f) size clock c
+
+-- whatever a crash leaves recovers to what these files recover to
+abbrev pub RecoversAs : Files → View → Type 0
+RecoversAs files now = (c : Files) → now.images c → recovers c ≡ recovers files
 
 -- ---- answers, unless memory runs out or the disk fails
 

@@ -1,7 +1,8 @@
 //! A primary made anew.
 
-ghost use Rattle.std.specs.Prelude.{◌≡◌, ◌≢◌, false, Err, IfOk, Some, length};
+ghost use Rattle.std.specs.Prelude.{◌≡◌, ◌≢◌, false, Err, IfOk, OnOk, Some, length};
 ghost use Rattle.std.specs.List.{All};
+ghost use Rattle.cell_files.specs.NewFiles.{file_text};
 ghost use Rattle.first_rows.specs.Creation.{first_point, first_rows, first_state};
 ghost use Rattle.kdb_base.specs.declared.outcomes.Halt.TheVariants.{MemoryOut as IsMemoryOut, DiskFault as IsDiskFault};
 ghost use Rattle.kdb_base.specs.declared.outcomes.Refusal.{Refusal as Refuses};
@@ -13,11 +14,12 @@ ghost use Rattle.kdb_disk.specs.Frames.{IsCall};
 ghost use Rattle.kdb_disk.specs.Moments.{Keeps, LeavesOnly};
 ghost use Rattle.kdb_places.specs.Places.{created};
 ghost use Rattle.primary_core.specs.Opened.{HasState, place_of};
-ghost use Rattle.primary_core.specs.Opening.{first_place};
+ghost use Rattle.primary_core.specs.Opening.{first_control, first_file, first_place};
 ghost use Rattle.stash_file.specs.Written.{stash_text};
 ghost use Rattle.store_files.specs.Kept.{IsOnDisk, place_kept};
 ghost use Rattle.store_files.specs.Recovery.{Creates};
 ghost use Rattle.store_opening.specs.Made.{AnswersMade};
+ghost use Rattle.store_opening.specs.Moments.{HasFile};
 
 use crate::primary::Primary;
 use first_rows::laws::{first_rows_show_the_first_state, first_state_is_valid};
@@ -75,6 +77,8 @@ fn make_database<D: Disk>(
 ) -> Result<Database, Stop>
     ensures answer { D.tells → AnswersMade result (in_force ((D.view disk.old).seen 0)) }
     ensures place { IfOk result (λ d. place_kept d ≡ created spec.now.realm rows (first_point now) spec.now.size 2048 (Some stash.now) 2) }
+    ensures control { IfOk result (λ d. d.control ≡ first_control spec.now now) }
+    ensures written { D.tells → OnOk result (HasFile 1 (file_text 2 spec.now.realm (first_point now) rows) (D.view disk.new)) }
     ensures whole { IfOk result (λ d. d.broken ≡ false) }
     ensures on { D.tells → IfOk result (λ d. IsOnDisk d (D.view disk.new)) }
     ensures moments { D.tells → LeavesOnly (D.view disk.old) (D.view disk.new) (Creates (D.view disk.old) (created spec.now.realm rows (first_point now) spec.now.size 2048 (Some stash.now) 2)) }
@@ -137,6 +141,10 @@ impl Primary {
         requires random { length random.now ≡ 2048 }
         ensures answer { D.tells → AnswersMade result (in_force ((D.view disk.old).seen 0)) }
         ensures place { IfOk result (λ o. place_of o ≡ first_place spec.now now random.now) }
+        // The files are the first of each kind, and so is the turn of the slot.
+        ensures control { IfOk result (λ o. o.kept.control ≡ first_control spec.now now) }
+        // The rows stand one behind the other from unit 1 on, in their order, whatever a crash leaves.
+        ensures written { D.tells → OnOk result (HasFile 1 (first_file spec.now now random.now) (D.view disk.new)) }
         ensures state { IfOk result (λ o. HasState o (first_state spec.now now random.now)) }
         ensures room { IfOk result (λ o. (o.dumps ≡ 0) × (o.room ≡ 1)) }
         ensures whole { IfOk result (λ o. o.kept.broken ≡ false) }

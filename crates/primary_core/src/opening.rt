@@ -1,6 +1,6 @@
 //! A primary opened.
 
-ghost use Rattle.std.specs.Prelude.{◌≡◌, ◌≢◌, ◌≤◌, ◌&&◌, ◌∷◌, [], false, Err, IfOk, IfSome, List, MatchResult, Ok, OnOk, nat_eq};
+ghost use Rattle.std.specs.Prelude.{◌≡◌, ◌≢◌, ◌≤◌, ◌⊎◌, ◌&&◌, ◌∷◌, [], false, Err, IfOk, IfSome, List, MatchResult, Ok, OnOk, nat_eq};
 ghost use Rattle.iprop_truths.specs.Parts.{end_of};
 ghost use Rattle.kdb_base.specs.declared.outcomes.Halt.{Halt as Halting};
 ghost use Rattle.kdb_base.specs.declared.outcomes.Halt.TheVariants.{MemoryOut as IsMemoryOut, DiskFault as IsDiskFault};
@@ -14,7 +14,7 @@ ghost use Rattle.kdb_histories.specs.Stages.{places};
 ghost use Rattle.kdb_places.specs.Places.{log_anew};
 ghost use Rattle.kdb_store.specs.Reading.{IsFoundAs};
 ghost use Rattle.primary_core.specs.Opened.{IsShown};
-ghost use Rattle.primary_core.specs.Opening.{EndsTime, IsHalt, IsRefusedAs, MayOpen, OpeningRefused, OpensAt, OpensFrom, OpensHaving, OpensTo, OpensWith, RefusesAt, RowsRefused, place_found};
+ghost use Rattle.primary_core.specs.Opening.{EndsTime, IsHalt, IsRefusedAs, MayOpen, OpeningRefused, OpensAt, OpensFrom, OpensHaving, OpensTo, OpensWith, RecoversAs, RefusesAt, RowsRefused, place_found};
 ghost use Rattle.stash_opening.specs.Answers.{Gives, Refuses as RefusesFor};
 ghost use Rattle.store_files.specs.Found.{Found, found_in};
 ghost use Rattle.store_files.specs.Kept.{IsOnDisk, place_kept};
@@ -58,6 +58,7 @@ fn open_rows<D: Disk>(alloc: Global, disk: &mut D) -> Result<(Database, Masters)
     ensures only_refused { D.tells → (why : Refuses) → RowsRefused (found_in (D.view disk.old).seen) why → IsRefusedAs result why }
     ensures whole { IfOk result (λ both. both.0.broken ≡ false) }
     ensures on { D.tells → IfOk result (λ both. IsOnDisk both.0 (D.view disk.new)) }
+    ensures refused_stays { D.tells → (why : Refuses) → result ≡ Err (Refused why) → RecoversAs (D.view disk.old).seen (D.view disk.new) }
     ensures moments { D.tells → LeavesOnly (D.view disk.old) (D.view disk.new) (IsLike (D.view disk.old)) }
     ensures call { IsCall D.Disk disk.old disk.new (result ≡ Err (Halts IsDiskFault)) }
 {
@@ -65,6 +66,7 @@ fn open_rows<D: Disk>(alloc: Global, disk: &mut D) -> Result<(Database, Masters)
         Ok(database) => database,
         Err(stop) => return Err(stop),
     };
+    what_is_kept_is_recovered(disk);
     match masters_of(alloc, &database) {
         Ok(masters) => Ok((database, masters)),
         Err(stop) => Err(stop),
@@ -131,7 +133,8 @@ fn renew<D: Disk>(
     ensures place { OnOk result (place_kept database.new ≡ end_of (place_kept database.old) (places (resized size now (place_kept database.old)))) }
     ensures left { OnOk result (resized size now (place_kept database.old) ≢ [] → HasTimeLeft (place_kept database.old)) }
     ensures refused { (why : Refuses) → result ≡ Err (Refused why) → EndsTime size now (place_kept database.old) why }
-    ensures late_keeps { (why : Refuses) → EndsTime size now (place_kept database.old) why → disk.new ≡ disk.old }
+    // Where no later time is left, nothing is written.
+    ensures late { (resized size now (place_kept database.old) ≢ [] → HasTimeLeft (place_kept database.old)) ⊎ (disk.new ≡ disk.old) }
     ensures on { D.tells → OnOk result (IsOnDisk database.new (D.view disk.new)) }
     ensures crash { IsCrashSafe D.Disk disk.old disk.new (LeavesPart (place_kept database.old) (places (resized size now (place_kept database.old)))) }
     ensures memory { result ≡ Err (Halts IsMemoryOut) → disk.new ≡ disk.old }
@@ -183,7 +186,7 @@ fn open_as<D: Disk>(
     requires room { (1 ≤ room) × (room ≤ 16) }
     ensures opens { IfOk result (OpensFrom (place_kept database) masters size now) }
     ensures refused { (why : Refuses) → result ≡ Err (Refused why) → EndsTime size now (place_kept database) why }
-    ensures late_keeps { (why : Refuses) → EndsTime size now (place_kept database) why → disk.new ≡ disk.old }
+    ensures late { (resized size now (place_kept database) ≢ [] → HasTimeLeft (place_kept database)) ⊎ (disk.new ≡ disk.old) }
     ensures room { IfOk result (λ o. (o.dumps ≡ 0) × (o.room ≡ room)) }
     ensures whole { IfOk result (λ o. o.kept.broken ≡ false) }
     ensures on { D.tells → IfOk result (λ o. IsOnDisk o.kept (D.view disk.new)) }
@@ -231,10 +234,15 @@ impl Primary {
         // Want of memory begins no log anew.
         ensures memory { D.tells → result ≡ Err (Halts IsMemoryOut) → LeavesOnly (D.view disk.old) (D.view disk.new) (IsLike (D.view disk.old)) }
         ensures refusals { D.tells → (why : Refuses) → OpeningRefused (found_in (D.view disk.old).seen) size now why → LeavesOnly (D.view disk.old) (D.view disk.new) (IsLike (D.view disk.old)) }
+        // After a refusal whatever a crash leaves recovers to what was read.
+        ensures refused_stays { D.tells → (why : Refuses) → result ≡ Err (Refused why) → RecoversAs (D.view disk.old).seen (D.view disk.new) }
         ensures call { IsCall D.Disk disk.old disk.new (result ≡ Err (Halts IsDiskFault)) }
     {
         match open_rows(alloc, disk) {
-            Ok((database, masters)) => open_as(alloc, disk, database, masters, size, room, now),
+            Ok((database, masters)) => {
+                what_is_kept_is_recovered(disk);
+                open_as(alloc, disk, database, masters, size, room, now)
+            }
             Err(stop) => Err(stop),
         }
     }

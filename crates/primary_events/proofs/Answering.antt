@@ -1,5 +1,5 @@
 -- What a primary answers with no change, as events.
-use Rattle.std.proofs.Common.{◌≡◌, ◌+◌, ◌-◌, ◌&&◌, ℕ, Bool, true, false, not, List, [], ◌∷◌, Option, Some, None, refl, sym, ◌∙◌, ap}
+use Rattle.std.proofs.Common.{◌≡◌, ◌+◌, ◌-◌, ◌&&◌, ℕ, Bool, true, false, not, List, [], ◌∷◌, Option, Some, None, refl, sym, ◌∙◌, ap, subst}
 use Rattle.std.specs.Prelude.{is_some, nat_eq, if◌then◌else◌}
 use Rattle.acl_text.specs.Decisions.{decision}
 use Rattle.acl_text.specs.declared.rules.AclLine.{AclLine}
@@ -10,7 +10,8 @@ use Rattle.iprop_truths.specs.Truths.{Dumped, Reply}
 use Rattle.kdb_base.specs.declared.moments.Point.{Point}
 use Rattle.kdb_base.specs.declared.outcomes.Refusal.{Refusal}
 use Rattle.kdb_base.specs.declared.outcomes.Refusal.TheVariants.{Busy, Closed, Denied}
-use Rattle.kdb_histories.specs.Sites.{Dumps, EndsDump, Looks, Polls, Site, is_busy, with_dumps as dumping}
+use Rattle.kdb_histories.specs.Sites.{Dumps, EndsDump, Looks, Polls, Site, is_busy, state_of, with_dumps as dumping}
+use Rattle.kdb_histories.specs.Stages.{ShowsAt}
 use Rattle.kdb_model.specs.Access.{asking_alone, denied_in, propagating}
 use Rattle.kdb_model.specs.Refusals.{when}
 use Rattle.kdb_places.specs.Places.{Contents, Place, contents_of}
@@ -115,3 +116,23 @@ dump_ended o s h = record {
 
 pub looked : (o : Opened) (s : Site) → IsAt o s → LeadsTo s Looks None o
 looked o s h = record { new = s; happens = record { is = refl; silent = refl }; at = h }
+
+-- it wanted memory: what it keeps may be held in another way, but stands for the same
+pub wanted : (o new : Opened) (s : Site) → IsAt o s → place_of new ≡ place_of o → new.masters ≡ o.masters
+    → (new.dumps ≡ o.dumps) × (new.room ≡ o.room) → new.kept.broken ≡ false → LeadsTo s Looks None new
+wanted o new s h place masters same whole = record {
+  new = s;
+  happens = record { is = refl; silent = refl };
+  at = record {
+    at = record { last = h.at.last; others = h.at.others; is = h.at.is };
+    place = h.place ∙ sym place;
+    has = record {
+      shows = subst (λ (p : Place). ShowsAt p (state_of s)) (sym place) h.has.shows;
+      masters_are = h.has.masters_are ∙ sym masters;
+    };
+    up = h.up;
+    whole = whole;
+    dumps = h.dumps ∙ sym same.0;
+    room = h.room ∙ sym same.1;
+  };
+}

@@ -5,23 +5,25 @@ use Rattle.iprop_truths.specs.Truths.{Message}
 use Rattle.kdb_disk.specs.Files.{Files}
 use Rattle.kdb_disk.specs.View.{View}
 use Rattle.kdb_histories.proofs.Bridging.{stopped}
+use Rattle.kdb_histories.specs.Asks.{Answer}
 use Rattle.kdb_histories.specs.Bridges.{IsStopOf}
-use Rattle.kdb_histories.specs.Calls.{Call}
+use Rattle.kdb_histories.specs.Calls.{Call, CallMakes}
 use Rattle.kdb_histories.specs.Leaving.{MayReach}
 use Rattle.kdb_histories.specs.Sites.{Site, SiteEvent, Creates, Calls, Stops, Crashes, Ends, Looks, Polls, Dumps, EndsDump, HappensAt, SiteRun, Stands, also, clock_at, fallen, state_of, wants_open, with_ended}
-use Rattle.kdb_histories.specs.Stages.{Stage}
+use Rattle.kdb_histories.specs.Stages.{Stage, places}
 use Rattle.kdb_model.specs.Laws.{IsMoment}
 use Rattle.kdb_places.specs.Places.{Place}
+use Rattle.primary_core.proofs.Called.{call_leaves}
 use Rattle.primary_core.specs.Ending.{MayEnd}
 use Rattle.primary_core.specs.Opened.{MayLeave, Opened, place_of}
 use Rattle.primary_events.specs.At.{IsAt, LastIn, StandsFor}
 use Rattle.primary_events.specs.Coming.{ComesBy, ComesTo, IsQuiet, IsStop, StopsTo}
 use Rattle.store_files.specs.Found.{found_in, place_in, recovers}
-use Rattle.store_files.specs.Recovery.{Destroys, HasNone, IsLike, RecoversTo}
+use Rattle.store_files.specs.Recovery.{Destroys, HasNone, IsLike, LeavesPart, RecoversTo}
 
 -- ---- kinds
 
-stop_of : (call : Call) (event : SiteEvent) → IsStopOf call event → IsStop event
+pub stop_of : (call : Call) (event : SiteEvent) → IsStopOf call event → IsStop event
 stop_of call (Creates t up) h = absurd h
 stop_of call (Calls own answer made) h = absurd h
 stop_of call (Stops own answer made part) h = tt
@@ -43,15 +45,23 @@ stop_quiet (Polls client access asked) h = absurd h
 stop_quiet (Dumps client access) h = absurd h
 stop_quiet EndsDump h = absurd h
 
-pub comes_quiet : (s : Site) (c : Files) → StopsTo s c → ComesTo s c
-comes_quiet s c h = record {
+-- what comes by one kind of events comes by a wider one
+pub comes_wider : (Own Kind : SiteEvent → Type 0) (wider : (event : SiteEvent) → Own event → Kind event) (s : Site) (c : Files) → ComesBy Own s c
+    → ComesBy Kind s c
+comes_wider Own Kind wider s c h = record {
   events = h.events;
-  each = All-weaker IsStop IsQuiet stop_quiet h.events h.each;
+  each = All-weaker Own Kind wider h.events h.each;
   new = h.new;
   run = h.run;
   stands = h.stands;
   closed = h.closed;
 }
+
+pub comes_quiet : (s : Site) (c : Files) → StopsTo s c → ComesTo s c
+comes_quiet = comes_wider IsStop IsQuiet stop_quiet
+
+pub own_comes : (call : Call) (s : Site) (c : Files) → ComesBy (IsStopOf call) s c → StopsTo s c
+own_comes call = comes_wider (IsStopOf call) IsStop (stop_of call)
 
 -- ---- one event
 
@@ -73,10 +83,10 @@ stands_at s at q c here is = subst (λ (h : List Stage). LastIn h c) (sym at.is)
 -- ---- a stop inside a call, a crash between two, and an end
 
 pub stop_comes : (s : Site) (at : Stands s) (call : Call) (q : Place) (c : Files) → s.up ≡ wants_open call → IsMoment (clock_at call)
-    → MayReach at.last.place (state_of s) call q → recovers c ≡ Ok q → StopsTo s c
+    → MayReach at.last.place (state_of s) call q → recovers c ≡ Ok q → ComesBy (IsStopOf call) s c
 stop_comes s at call q c ready clock may is =
     let e = stopped s at call q ready clock may in
-    one_event IsStop s e.new e.event c (stop_of call e.event e.stops) e.happens e.closed (stands_at e.new e.at q c e.is is)
+    one_event (IsStopOf call) s e.new e.event c e.stops e.happens e.closed (stands_at e.new e.at q c e.is is)
 
 pub crash_comes : (s : Site) (c : Files) → StandsFor s c → StopsTo s c
 crash_comes s c stands = one_event IsStop s (fallen s) Crashes c tt (record { is = refl; silent = refl }) refl stands
@@ -86,11 +96,21 @@ end_comes s c at none = one_event IsQuiet s (with_ended s) Ends c tt (record { a
 
 -- ---- of an open primary
 
-pub call_stops : (o : Opened) (s : Site) (call : Call) (c : Files) → IsAt o s → wants_open call ≡ true → IsMoment (clock_at call)
-    → MayLeave (place_of o) (state_of s) call c → StopsTo s c
-call_stops o s call c h open_ clock left =
+pub own_stops : (o : Opened) (s : Site) (call : Call) (c : Files) → IsAt o s → wants_open call ≡ true → IsMoment (clock_at call)
+    → MayLeave (place_of o) (state_of s) call c → ComesBy (IsStopOf call) s c
+own_stops o s call c h open_ clock left =
     let may = subst (λ (p : Place). MayReach p (state_of s) call left.place) (sym h.place) left.may in
     stop_comes s h.at call left.place c (h.up ∙ sym open_) clock may left.is
+
+pub call_stops : (o : Opened) (s : Site) (call : Call) (c : Files) → IsAt o s → wants_open call ≡ true → IsMoment (clock_at call)
+    → MayLeave (place_of o) (state_of s) call c → StopsTo s c
+call_stops o s call c h open_ clock left = own_comes call s c (own_stops o s call c h open_ clock left)
+
+-- what is left of the places that it makes
+pub made_stops : (o : Opened) (s : Site) (call : Call) (answer : Answer) (made : List Stage) (c : Files) → IsAt o s → wants_open call ≡ true
+    → IsMoment (clock_at call) → CallMakes (place_of o) (state_of s) call answer made → LeavesPart (place_of o) (places made) c → ComesBy (IsStopOf call) s c
+made_stops o s call answer made c h open_ clock makes leaves =
+    own_stops o s call c h open_ clock (call_leaves (place_of o) (state_of s) call answer made makes c leaves)
 
 pub may_end : (o : Opened) (s : Site) (c : Files) → IsAt o s → MayEnd (place_of o) c → ComesTo s c
 may_end o s c h (inl is) = comes_quiet s c (crash_comes s c (stands_at s h.at (place_of o) c h.place is))

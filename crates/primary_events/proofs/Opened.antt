@@ -1,7 +1,7 @@
 -- An opening that returned, and one that stopped.
 use Rattle.std.proofs.Common.{◌≡◌, ◌≢◌, ℕ, inl, inr, Bool, true, false, List, [], ◌∷◌, ◌++◌, Option, None, Result, Ok, Err, refl, sym, ◌∙◌, ap, subst}
 use Rattle.std.specs.Prelude.{nat_eq, ◌&&◌, if◌then◌else◌}
-use Rattle.std.proofs.lemmas.List.Elements.{All-nil, All-weaker}
+use Rattle.std.proofs.lemmas.List.Elements.{All-nil}
 use Rattle.iprop_truths.specs.Parts.{IsPart, end_of}
 use Rattle.iprop_truths.specs.Truths.{IsTrueOf}
 use Rattle.kdb_base.specs.Moment.{Moment}
@@ -12,6 +12,7 @@ use Rattle.kdb_disk.specs.View.{View}
 use Rattle.kdb_histories.proofs.Growing.{StaysValid}
 use Rattle.kdb_histories.proofs.SiteRuns.{event_holds, onto_rest}
 use Rattle.kdb_histories.specs.Asks.{Answer, Moved}
+use Rattle.kdb_histories.specs.Bridges.{IsStopOf}
 use Rattle.kdb_histories.specs.Calls.{CallMakes, HasTimeLeft, Open, resized, size_or}
 use Rattle.kdb_histories.specs.Histories.{IsFolded, IsStory}
 use Rattle.kdb_histories.specs.Seen.{reset_point}
@@ -20,15 +21,14 @@ use Rattle.kdb_histories.specs.Stages.{Anew, ShowsAt, Stage, fold, onto, places,
 use Rattle.kdb_places.specs.Places.{Place, log_anew}
 use Rattle.primary_core.proofs.Called.{left_at}
 use Rattle.primary_core.specs.Opened.{Opened, place_of}
-use Rattle.primary_core.specs.Opening.{MayOpen, OpensTo, place_found}
-use Rattle.primary_events.proofs.Coming.{images_like, stop_comes, stops_join}
+use Rattle.primary_core.specs.Opening.{LeavesOpening, MayOpen, OpensTo, place_found}
+use Rattle.primary_events.proofs.Coming.{comes_wider, images_like, own_comes, stop_comes, stops_join}
 use Rattle.primary_events.proofs.Returning.{tip_at}
 use Rattle.primary_events.specs.At.{LastIn, LeadsTo, StandsAt, StandsFor}
 use Rattle.primary_events.specs.Coming.{ComesBy, IsStop, StopsTo}
 use Rattle.primary_events.specs.Premises.{MayOpenAt}
 use Rattle.rekey_work.specs.declared.works.Settled.TheVariants as settled
 use Rattle.store_files.specs.Found.{Found, found_in, place_in, recovers}
-use Rattle.store_files.specs.Recovery.{LeavesPart}
 
 -- ---- what is found is the last place
 
@@ -87,15 +87,17 @@ module _ (s : Site) (files : Files) (f : Found) (size : Option ℕ) (room : ℕ)
       subst (λ (p : Place). CallMakes p (state_of s) (Open size room clock) answer (resized size clock (place_found f))) (sym found_there.is)
       (record { from = h.from; upto = h.upto; some = h.some; left = left; is = refl })
 
-  pub opening_stops : (c : Files) → (resized size clock (place_found f) ≢ [] → HasTimeLeft (place_found f))
-      → LeavesPart (place_found f) (places (resized size clock (place_found f))) c → StopsTo s c
-  opening_stops c left leaves =
+  pub own_opening : (c : Files) → LeavesOpening (place_found f) size clock c → ComesBy (IsStopOf (Open size room clock)) s c
+  own_opening c leaves =
       let made = resized size clock (place_found f) in
-      let l = left_at (place_found f) (places made) c leaves in
+      let l = left_at (place_found f) (places made) c leaves.part in
       let answer : Answer = Moved settled.Gone in
       let part : IsPart found_there.at.last.place (places made) l.place = subst (λ (p : Place). IsPart p (places made) l.place) (sym found_there.is) l.part in
       stop_comes s found_there.at (Open size room clock) l.place c h.closed h.moment
-      (inr (record { answer = answer; made = made; makes = opening_makes answer left; part = part })) l.is
+      (inr (record { answer = answer; made = made; makes = opening_makes answer leaves.left; part = part })) l.is
+
+  pub opening_stops : (c : Files) → LeavesOpening (place_found f) size clock c → StopsTo s c
+  opening_stops c leaves = own_comes (Open size room clock) s c (own_opening c leaves)
 
   pub opening_returns : (valid : StaysValid) (o : Opened) (answer : Answer) → IsStory (story_of s) → OpensTo (found_in files) size clock o
       → o.masters ≡ (state_of s).masters → (o.dumps ≡ 0) × (o.room ≡ room) → o.kept.broken ≡ false
@@ -136,19 +138,11 @@ module _ (s : Site) (files : Files) (f : Found) (size : Option ℕ) (room : ℕ)
 pub images_opened : (Kind : SiteEvent → Type 0) (weak : (event : SiteEvent) → IsStop event → Kind event) (v : View) (s : Site) (files c : Files)
     (h : ComesBy Kind s files) (f : Found) (size : Option ℕ) (room : ℕ) (clock : Moment) (r : Result Found Refusal) → r ≡ Ok f
     → ((b : Files) → v.images b → ComesBy Kind s b) → MayOpenAt h.new files f size room clock
-    → (resized size clock (place_found f) ≢ [] → HasTimeLeft (place_found f)) → MayOpen v r size clock c → ComesBy Kind s c
-images_opened Kind weak v s files c h f size room clock r is each may left leaves =
+    → MayOpen v r size clock c → ComesBy Kind s c
+images_opened Kind weak v s files c h f size room clock r is each may leaves =
     by_case (subst (λ (x : Result Found Refusal). MayOpen v x size clock c) is leaves)
   where
     by_case : MayOpen v (Ok f) size clock c → ComesBy Kind s c
     by_case (inl like) = images_like Kind v s c each like
     by_case (inr part) =
-        let k = opening_stops h.new files f size room clock may c left part in
-        stops_join Kind s files c h (record {
-          events = k.events;
-          each = All-weaker IsStop Kind weak k.events k.each;
-          new = k.new;
-          run = k.run;
-          stands = k.stands;
-          closed = k.closed;
-        })
+        stops_join Kind s files c h (comes_wider IsStop Kind weak h.new c (opening_stops h.new files f size room clock may c part))

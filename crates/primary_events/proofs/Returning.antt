@@ -1,22 +1,27 @@
 -- A call that returned leads to an open primary.
-use Rattle.std.proofs.Common.{◌≡◌, ℕ, true, false, List, [], ◌∷◌, ◌++◌, None, refl, sym, ◌∙◌, ap, subst}
+use Rattle.std.proofs.Common.{◌≡◌, ℕ, true, false, List, [], ◌∷◌, ◌++◌, Option, None, refl, sym, ◌∙◌, ap, subst}
+use Rattle.acl_text.specs.declared.rules.AclLine.{AclLine}
+use Rattle.command_plans.specs.KeptEntries.{kept_entry_of}
 use Rattle.iprop_truths.specs.Parts.{end_of}
+use Rattle.kadm_commands.specs.declared.commands.Command.TheVariants.{Stash as StashLine}
 use Rattle.kdb_base.specs.Moment.{Moment}
 use Rattle.kdb_base.specs.declared.moments.Point.{Point}
 use Rattle.kdb_histories.proofs.Paths.{ask_state}
 use Rattle.kdb_histories.proofs.SiteRuns.{onto_rest}
-use Rattle.kdb_histories.specs.Asks.{Answer, Ask, clock_of}
-use Rattle.kdb_histories.specs.Calls.{Call, CallMakes, Load, Loads, Open, Perform, Performs, ResetLog, Stash}
+use Rattle.kdb_histories.specs.Asks.{Answer, Ask, Enters, Keeps, Kind, Stashes, clock_of, kept_op}
+use Rattle.kdb_histories.specs.Calls.{Call, CallMakes, Leads, Load, Loads, Open, Perform, Performs, ResetLog, Stash}
 use Rattle.kdb_histories.specs.Leaving.{Does}
-use Rattle.kdb_histories.specs.Seen.{after_ask, outcome_at, reset_point, seen}
+use Rattle.kdb_histories.specs.Seen.{after_ask, moment_at, outcome_at, planned, reset_point, seen, stash_of}
 use Rattle.kdb_histories.specs.Sites.{Calls, Site, Stands, after_call, clock_at, dumps_after, room_after, state_of, story_of, wants_open}
 use Rattle.kdb_histories.specs.Stages.{Filled, ShowsAt, Stage, fold, onto, places, stage}
 use Rattle.kdb_model.specs.Laws.{IsMoment, at_point}
 use Rattle.kdb_places.proofs.Points.{first_point}
 use Rattle.kdb_places.specs.Places.{Place, base_marker, no_point}
 use Rattle.kdb_plain.specs.declared.states.State.{State}
-use Rattle.primary_core.specs.Opened.{HasState, Opened, place_of}
+use Rattle.mkey_admin.specs.KeptMasters.{kept_masters_of}
+use Rattle.primary_core.specs.Opened.{HasState, Opened, command_ask, place_of}
 use Rattle.primary_events.specs.At.{IsAt, LeadsTo, Returns}
+use Rattle.princ_name.specs.Names.{NameParts}
 use Rattle.princ_rows.specs.Rows.{RowLists}
 
 -- ---- the last of a history
@@ -96,6 +101,32 @@ ask_returns o new s ask answer h clock does has same whole =
       made = does.made;
       leads = call_returns o new s (Perform ask) answer does.made h refl clock does.makes does.is (subst (HasState new) (sym state) has) same whole;
     }
+
+-- ---- the command that writes the stash
+
+-- whatever it writes, the state stays
+stays_by : (kind : Kind) (clock : Moment) (p : Place) (before after : State) (bytes : List ℕ) → Leads clock p before after (planned kind None bytes)
+    → after ≡ before
+stays_by Keeps clock p before after bytes e = e
+stays_by Enters clock p before after bytes e = e
+stays_by Stashes clock p before after bytes e = e
+
+line_stays : (p : Place) (s : State) (client : NameParts) (access : Option (List AclLine)) (clock : Moment) (random : List ℕ) (answer : Answer)
+    (made : List Stage) → Performs p s (command_ask client access StashLine clock random) answer made
+    → (outcome_at (command_ask client access StashLine clock random) (seen p s)).state ≡ s
+unfolding kept_op kept_entry_of kept_masters_of
+line_stays p s client access clock random answer made h =
+    let ask = command_ask client access StashLine clock random in
+    stays_by (outcome_at ask (seen p s)).kind clock p s (outcome_at ask (seen p s)).state (stash_of s (moment_at clock p)) h.leads
+
+pub line_returns : (o new : Opened) (s : Site) (client : NameParts) (access : Option (List AclLine)) (clock : Moment) (random : List ℕ)
+    (answer : Answer) → IsAt o s → IsMoment clock
+    → Does (place_of o) (state_of s) (Perform (command_ask client access StashLine clock random)) answer (place_of new)
+    → HasState new (state_of s) → (new.dumps ≡ o.dumps) × (new.room ≡ o.room) → new.kept.broken ≡ false
+    → Returns s (Perform (command_ask client access StashLine clock random)) answer new
+line_returns o new s client access clock random answer h moment does has same whole =
+    let state = line_stays (place_of o) (state_of s) client access clock random answer does.made does.makes in
+    ask_returns o new s (command_ask client access StashLine clock random) answer h moment does (subst (HasState new) (sym state) has) same whole
 
 -- ---- the other calls
 

@@ -1,7 +1,7 @@
 -- What holds of files that a crash may leave.
 use Rattle.std.proofs.Common.{◌≡◌, List, [], ◌∷◌, ◌++◌, Ok, refl, sym, ◌∙◌, ap, subst}
 use Rattle.std.specs.List.{All}
-use Rattle.std.proofs.lemmas.List.Elements.{All-head, All-tail}
+use Rattle.std.proofs.lemmas.List.Elements.{All-head, All-tail, All-weaker}
 use Rattle.iprop_truths.specs.Truths.{Message}
 use Rattle.kdb_disk.specs.Files.{Files}
 use Rattle.kdb_histories.proofs.Growing.{StaysValid}
@@ -12,11 +12,12 @@ use Rattle.kdb_histories.specs.Stages.{ShowsAt, Stage, epoch}
 use Rattle.kdb_places.specs.Places.{Place, last_entries}
 use Rattle.kdb_worlds.proofs.Acknowledged.{run_among}
 use Rattle.kdb_worlds.specs.Lawful.{IsAmong, acknowledged_at, all_acknowledged}
-use Rattle.kdb_worlds.specs.Worlds.{AtPrimary, Event, Run, World, no_world}
+use Rattle.kdb_worlds.specs.Primaries.{sent_by_primary, site_events}
+use Rattle.kdb_worlds.specs.Worlds.{AtPrimary, AtReplica, Event, Run, World, no_world}
 use Rattle.primary_events.proofs.Coming.{run_append}
 use Rattle.primary_events.proofs.Opened.{found_at, site_shows}
 use Rattle.primary_events.specs.Coming.{ComesBy, IsStop, StopsTo, acknowledged_in}
-use Rattle.replica_steps.specs.Replicas.{no_replica}
+use Rattle.primary_events.specs.Worlds.{ComesIn}
 use Rattle.store_files.specs.Found.{recovers}
 
 -- ---- the rows and the log
@@ -45,36 +46,46 @@ module _ (Kind : SiteEvent → Type 0) (valid : StaysValid) (events : List SiteE
 
 -- ---- a run of a primary is one of a world
 
-abbrev world_at : Site → List Message → World
-world_at s sent = record { site = s; replicas = λ i. no_replica; sent = sent }
-
-record AsWorld (events : List SiteEvent) (old : World) (site : Site) (before : List Stage) : Type 0 where
-  all : List Event
-  new : World
-  run : Run old all new
-  is : new.site ≡ site
-  same : all_acknowledged all before ≡ acknowledged_in events before
-
-as_world : (events : List SiteEvent) (s : Site) (sent : List Message) (new : Site) (all : List Message) (before : List Stage)
-    → SiteRun s sent events new all → AsWorld events (world_at s sent) new before
-as_world [] s sent new all before run = record { all = []; new = world_at s sent; run = refl; is = sym run.0; same = refl }
-as_world (event ∷ events) s sent new all before run =
-    let next : World = world_at run.0 (also run.1 sent) in
-    let rest = as_world events run.0 (also run.1 sent) new all (acknowledged_at event before) run.3 in
+pub as_world : (events : List SiteEvent) (w : World) (s : Site) (sent : List Message) → SiteRun w.site w.sent events s sent → ComesIn w events s sent
+as_world [] w s sent run = record {
+  events = [];
+  new = w;
+  run = refl;
+  own_are = refl;
+  is = sym run.0;
+  replicas = refl;
+  sent_are = sym run.1;
+}
+as_world (event ∷ events) w s sent run =
+    let next : World = record { site = run.0; replicas = w.replicas; sent = also run.1 w.sent } in
+    let rest = as_world events next s sent run.3 in
     record {
-      all = AtPrimary event run.1 ∷ rest.all;
+      events = AtPrimary event run.1 ∷ rest.events;
       new = rest.new;
       run = (next, record { site = run.0; happens = run.2; is = refl }, rest.run);
+      own_are = ap (λ (own : List SiteEvent). event ∷ own) rest.own_are;
       is = rest.is;
-      same = rest.same;
+      replicas = rest.replicas;
+      sent_are = rest.sent_are;
     }
+
+-- what comes of a primary sends nothing
+pub comes_in : (Kind : SiteEvent → Type 0) (w : World) (c : Files) (h : ComesBy Kind w.site c) → ComesIn w h.events h.new w.sent
+comes_in Kind w c h = as_world h.events w h.new w.sent (h.run w.sent)
+
+acknowledged_own : (events : List Event) (before : List Stage) → all_acknowledged events before ≡ acknowledged_in (site_events events) before
+acknowledged_own [] before = refl
+acknowledged_own (AtPrimary event said ∷ events) before = acknowledged_own events (acknowledged_at event before)
+acknowledged_own (AtReplica which event said ∷ events) before = acknowledged_own events before
 
 acknowledged_among : (events : List SiteEvent) (s : Site) (sent : List Message) → SiteRun no_site [] events s sent
     → IsAmong (acknowledged_in events []) s.history
 acknowledged_among events s sent run =
-    let w = as_world events no_site [] s sent [] run in
-    let among : IsAmong (all_acknowledged w.all []) w.new.site.history = run_among w.all no_world w.new [] tt w.run in
-    subst (λ (x : List Stage). IsAmong x s.history) w.same (subst (λ (x : Site). IsAmong (all_acknowledged w.all []) x.history) w.is among)
+    let w = as_world events no_world s sent run in
+    let among : IsAmong (all_acknowledged w.events []) w.new.site.history = run_among w.events no_world w.new [] tt w.run in
+    let own : all_acknowledged w.events [] ≡ acknowledged_in events [] =
+    acknowledged_own w.events [] ∙ ap (λ (x : List SiteEvent). acknowledged_in x []) w.own_are in
+    subst (λ (x : List Stage). IsAmong x s.history) own (subst (λ (x : Site). IsAmong (all_acknowledged w.events []) x.history) w.is among)
 
 -- ---- what was acknowledged
 
@@ -109,3 +120,31 @@ pub image_kept : (events : List SiteEvent) (s : Site) (sent : List Message) (c :
 image_kept events s sent c run h =
     subst (λ (x : List Stage). IsAmong x h.new.history) (acknowledged_append events h.events [] ∙ stops_keep h.events (acknowledged_in events []) h.each)
     (image_acknowledged IsStop events s sent c run h)
+
+-- ---- the primary of a world
+
+module _ (histories : (events : List Event) (w : World) → Run no_world events w → SiteRun no_site [] (site_events events) w.site (sent_by_primary events []))
+    (Kind : SiteEvent → Type 0) where
+  pub world_shows : (valid : StaysValid) (events : List Event) (w : World) (c : Files) (p : Place) → Run no_world events w → (h : ComesBy Kind w.site c)
+      → recovers c ≡ Ok p → ShowsAt p (state_of h.new)
+  world_shows valid events w c p run =
+      image_shows Kind valid (site_events events) w.site (sent_by_primary events []) c p (histories events w run)
+
+  pub world_full : (valid : StaysValid) (events : List Event) (w : World) (c : Files) (p : Place) → Run no_world events w → (h : ComesBy Kind w.site c)
+      → recovers c ≡ Ok p → p.held ≡ last_entries p.size (epoch (story_of h.new))
+  world_full valid events w c p run = image_full Kind valid (site_events events) w.site (sent_by_primary events []) c p (histories events w run)
+
+  pub world_acknowledged : (events : List Event) (w : World) (c : Files) → Run no_world events w → (h : ComesBy Kind w.site c)
+      → IsAmong (acknowledged_in h.events (all_acknowledged events [])) h.new.history
+  world_acknowledged events w c run h =
+      subst (λ (x : List Stage). IsAmong x h.new.history)
+      (acknowledged_append (site_events events) h.events [] ∙ ap (acknowledged_in h.events) (sym (acknowledged_own events [])))
+      (image_acknowledged Kind (site_events events) w.site (sent_by_primary events []) c (histories events w run) h)
+
+  -- by stops alone
+  pub world_kept : (stops : (event : SiteEvent) → Kind event → IsStop event) (events : List Event) (w : World) (c : Files) → Run no_world events w
+      → (h : ComesBy Kind w.site c) → IsAmong (all_acknowledged events []) h.new.history
+  world_kept stops events w c run h =
+      subst (λ (x : List Stage). IsAmong x h.new.history)
+      (stops_keep h.events (all_acknowledged events []) (All-weaker Kind IsStop stops h.events h.each))
+      (world_acknowledged events w c run h)

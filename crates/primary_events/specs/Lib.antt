@@ -1,3 +1,4 @@
 pub mod At
 pub mod Coming
 pub mod Premises
+pub mod Worlds

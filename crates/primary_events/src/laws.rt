@@ -1,6 +1,6 @@
 //! Laws that make events of what the calls of a primary say. They do no work.
 
-ghost use Rattle.std.specs.Prelude.{◌≡◌, ◌≢◌, ◌+◌, ◌-◌, ◌++◌, ◌∷◌, [], ℕ, false, true, List, Option, Some, None, Ok};
+ghost use Rattle.std.specs.Prelude.{◌≡◌, ◌+◌, ◌-◌, ◌++◌, ◌∷◌, [], ℕ, false, true, List, Option, Some, None, Ok};
 ghost use Rattle.acl_text.specs.declared.rules.AclLine.{AclLine};
 ghost use Rattle.first_rows.specs.Creation.{first_state};
 ghost use Rattle.first_rows.specs.Parts.{SpecParts};
@@ -13,8 +13,10 @@ ghost use Rattle.kdb_base.specs.declared.moments.Point.{Point};
 ghost use Rattle.kdb_base.specs.declared.outcomes.Refusal.{Refusal as Refuses};
 ghost use Rattle.kdb_base.specs.declared.versions.Master.{Master as Masterly};
 ghost use Rattle.kdb_disk.specs.Files.{Files};
+ghost use Rattle.kadm_commands.specs.declared.commands.Command.TheVariants.{Stash as StashLine};
 ghost use Rattle.kdb_histories.specs.Asks.{Answer, Ask, clock_of};
-ghost use Rattle.kdb_histories.specs.Calls.{Call, CallMakes, HasTimeLeft, Load, Loads, Open, Perform, ResetLog, Stash, resized};
+ghost use Rattle.kdb_histories.specs.Bridges.{IsStopOf};
+ghost use Rattle.kdb_histories.specs.Calls.{Call, CallMakes, Load, Loads, Open, Perform, ResetLog, Stash, resized};
 ghost use Rattle.kdb_histories.specs.Histories.{IsStory};
 ghost use Rattle.kdb_histories.specs.Leaving.{Does};
 ghost use Rattle.kdb_histories.specs.Seen.{after_ask, reset_point, seen};
@@ -23,16 +25,18 @@ ghost use Rattle.kdb_histories.specs.Stages.{Filled, ShowsAt, Stage, epoch, fold
 ghost use Rattle.kdb_model.specs.Laws.{IsMoment, at_point};
 ghost use Rattle.kdb_places.specs.Places.{Contents, Place, contents_of, last_entries};
 ghost use Rattle.kdb_plain.specs.declared.states.State.{State};
-ghost use Rattle.kdb_worlds.specs.Lawful.{IsAmong};
+ghost use Rattle.kdb_worlds.specs.Lawful.{IsAmong, all_acknowledged};
+ghost use Rattle.kdb_worlds.specs.Worlds.{Event, Run, World, no_world};
 ghost use Rattle.master_keys.specs.Chain.{Lists};
 ghost use Rattle.primary_core.specs.Dumping.{with_dumps};
 ghost use Rattle.primary_core.specs.Ending.{MayEnd};
-ghost use Rattle.primary_core.specs.Opened.{HasState, MayLeave, Opened, place_of};
-ghost use Rattle.primary_core.specs.Opening.{MayOpen, OpensAt, OpensTo, first_place, place_found};
+ghost use Rattle.primary_core.specs.Opened.{HasState, MayLeave, Opened, command_ask, place_of};
+ghost use Rattle.primary_core.specs.Opening.{LeavesOpening, MayOpen, OpensAt, OpensTo, first_place, place_found};
 ghost use Rattle.primary_core.specs.Refusing.{dump_refused, is_full};
 ghost use Rattle.primary_events.specs.At.{IsAt, LeadsTo, Returns, StandsAt, StandsFor};
-ghost use Rattle.primary_events.specs.Coming.{ComesTo, StopsTo, acknowledged_in};
+ghost use Rattle.primary_events.specs.Coming.{ComesBy, ComesTo, StopsTo, acknowledged_in};
 ghost use Rattle.primary_events.specs.Premises.{MayCreate, MayOpenAt};
+ghost use Rattle.primary_events.specs.Worlds.{ComesIn};
 ghost use Rattle.primary_worlds.specs.Creations.{first_stage};
 ghost use Rattle.princ_name.specs.Names.{NameParts};
 ghost use Rattle.princ_rows.specs.Rows.{RowLists};
@@ -45,6 +49,7 @@ ghost use Rattle.store_files.specs.Recovery.{Creates as MayMake, Destroys, HasNo
 
 use kdb_disk::Disk;
 use kdb_plain::laws::valid_later;
+use kdb_worlds::laws::runs_have_histories;
 use primary_worlds::laws::stashed_places_open;
 use store_files::laws::what_is_kept_is_recovered;
 
@@ -52,6 +57,11 @@ use store_files::laws::what_is_kept_is_recovered;
 /// of the call leaves. Nothing that was acknowledged before is ended by it.
 pub fn calls_stop()
     ensures stopped { (o : Opened) (s : Site) (call : Call) (c : Files) → IsAt o s → wants_open call ≡ true → IsMoment (clock_at call) → MayLeave (place_of o) (state_of s) call c → StopsTo s c }
+    // Stops of this call alone: no other one has done a part of its work.
+    ensures own { (o : Opened) (s : Site) (call : Call) (c : Files) → IsAt o s → wants_open call ≡ true → IsMoment (clock_at call) → MayLeave (place_of o) (state_of s) call c → ComesBy (IsStopOf call) s c }
+    // What is left of the places that a change makes, as of one that was decided before.
+    ensures made { (o : Opened) (s : Site) (call : Call) (answer : Answer) (made : List Stage) (c : Files) → IsAt o s → wants_open call ≡ true → IsMoment (clock_at call)
+        → CallMakes (place_of o) (state_of s) call answer made → LeavesPart (place_of o) (places made) c → ComesBy (IsStopOf call) s c }
     // Between two calls it leaves what the primary stands at.
     ensures between { (s : Site) (c : Files) → StandsFor s c → StopsTo s c }
     ensures quiet { (s : Site) (c : Files) → StopsTo s c → ComesTo s c }
@@ -87,11 +97,9 @@ pub fn images_come_of_what_happened<D: Disk>(_disk: &D)
         → MayMake (D.view _disk.now) (first_place spec clock random) c → ComesTo s c }
     // An opening of files that are read, which came of what happened.
     ensures opened { (s : Site) (c : Files) (h : ComesTo s (D.view _disk.now).seen) (f : Found) (size : Option ℕ) (room : ℕ) (clock : Moment) → ((b : Files) → (D.view _disk.now).images b → ComesTo s b)
-        → MayOpenAt h.new (D.view _disk.now).seen f size room clock → (resized size clock (place_found f) ≢ [] → HasTimeLeft (place_found f))
-        → MayOpen (D.view _disk.now) (found_in (D.view _disk.now).seen) size clock c → ComesTo s c }
+        → MayOpenAt h.new (D.view _disk.now).seen f size room clock → MayOpen (D.view _disk.now) (found_in (D.view _disk.now).seen) size clock c → ComesTo s c }
     ensures opened_stopped { (s : Site) (c : Files) (h : StopsTo s (D.view _disk.now).seen) (f : Found) (size : Option ℕ) (room : ℕ) (clock : Moment) → ((b : Files) → (D.view _disk.now).images b → StopsTo s b)
-        → MayOpenAt h.new (D.view _disk.now).seen f size room clock → (resized size clock (place_found f) ≢ [] → HasTimeLeft (place_found f))
-        → MayOpen (D.view _disk.now) (found_in (D.view _disk.now).seen) size clock c → StopsTo s c }
+        → MayOpenAt h.new (D.view _disk.now).seen f size room clock → MayOpen (D.view _disk.now) (found_in (D.view _disk.now).seen) size clock c → StopsTo s c }
 {
     what_is_kept_is_recovered(_disk);
 }
@@ -104,6 +112,10 @@ pub fn calls_return()
     // A command, a principal that is rekeyed at once, and work that is settled.
     ensures asked { (o new : Opened) (s : Site) (ask : Ask) (answer : Answer) → IsAt o s → IsMoment (clock_of ask) → Does (place_of o) (state_of s) (Perform ask) answer (place_of new)
         → HasState new (after_ask ask (seen (place_of o) (state_of s))).state → (new.dumps ≡ o.dumps) × (new.room ≡ o.room) → new.kept.broken ≡ false → Returns s (Perform ask) answer new }
+    // The command `stash`, behind which the primary has the state of before.
+    ensures stash_line { (o new : Opened) (s : Site) (client : NameParts) (access : Option (List AclLine)) (clock : Moment) (random : List ℕ) (answer : Answer) → IsAt o s → IsMoment clock
+        → Does (place_of o) (state_of s) (Perform (command_ask client access StashLine clock random)) answer (place_of new) → HasState new (state_of s)
+        → (new.dumps ≡ o.dumps) × (new.room ≡ o.room) → new.kept.broken ≡ false → Returns s (Perform (command_ask client access StashLine clock random)) answer new }
     ensures stashed { (o new : Opened) (s : Site) (clock : Moment) (answer : Answer) → IsAt o s → IsMoment clock → Does (place_of o) (state_of s) (Stash clock) answer (place_of new)
         → HasState new (state_of s) → (new.dumps ≡ o.dumps) × (new.room ≡ o.room) → new.kept.broken ≡ false → Returns s (Stash clock) answer new }
     ensures reset { (o new : Opened) (s : Site) (clock : Moment) (answer : Answer) → IsAt o s → IsMoment clock → Does (place_of o) (state_of s) (ResetLog clock) answer (place_of new)
@@ -129,7 +141,10 @@ pub fn openings_are_events()
         → MayOpenAt s files f size room clock → OpensTo (found_in files) size clock o → o.masters ≡ (state_of s).masters → (o.dumps ≡ 0) × (o.room ≡ room) → o.kept.broken ≡ false
         → LeadsTo s (Calls (Open size room clock) answer (resized size clock (place_found f))) None o }
     ensures stopped { (s : Site) (files c : Files) (f : Found) (size : Option ℕ) (room : ℕ) (clock : Moment) → MayOpenAt s files f size room clock
-        → (resized size clock (place_found f) ≢ [] → HasTimeLeft (place_found f)) → LeavesPart (place_found f) (places (resized size clock (place_found f))) c → StopsTo s c }
+        → LeavesOpening (place_found f) size clock c → StopsTo s c }
+    // By stops of this opening alone.
+    ensures own { (s : Site) (files c : Files) (f : Found) (size : Option ℕ) (room : ℕ) (clock : Moment) → MayOpenAt s files f size room clock
+        → LeavesOpening (place_found f) size clock c → ComesBy (IsStopOf (Open size room clock)) s c }
     // What files that come of what happened are found to be is the place that then stands.
     ensures stands { (s : Site) (files : Files) (p : Place) → StandsFor s files → recovers files ≡ Ok p → StandsAt s p }
     // Where the first key of the stash that K/M lists is one of the master keys that the history comes to, these are the ones that it opens with.
@@ -148,8 +163,11 @@ pub fn answers_are_events()
         → ((why : Refuses) → dump_refused o client access ≡ Some why → ⊥) → contents ≡ contents_of (place_of o)
         → LeadsTo s (Dumps client access) (Some (Dumped contents)) (with_dumps (o.dumps + 1) o) }
     ensures dump_ended { (o : Opened) (s : Site) → IsAt o s → LeadsTo s EndsDump None (with_dumps (o.dumps - 1) o) }
-    // What only reads, what is refused, and what wants memory.
+    // What only reads, and what is refused.
     ensures looked { (o : Opened) (s : Site) → IsAt o s → LeadsTo s Looks None o }
+    // What wants memory: its place, its master keys and its dumps are those of before, and nothing has closed it.
+    ensures wanted { (o new : Opened) (s : Site) → IsAt o s → place_of new ≡ place_of o → new.masters ≡ o.masters → (new.dumps ≡ o.dumps) × (new.room ≡ o.room)
+        → new.kept.broken ≡ false → LeadsTo s Looks None new }
     ensures looked_closed { (s : Site) → HappensAt Looks s s None }
 {}
 
@@ -165,4 +183,32 @@ pub fn recovered_primaries_show()
     ensures stopped_acknowledged { (events : List SiteEvent) (s : Site) (sent : List Message) (c : Files) → SiteRun no_site [] events s sent → (h : StopsTo s c) → IsAmong (acknowledged_in events []) h.new.history }
 {
     valid_later();
+}
+
+/// A history of a world's primary is a run of the world, by which nothing else changes. So the world goes on behind a crash
+/// of its primary, and from where a call or an opening of it leads.
+pub fn histories_are_runs()
+    ensures runs { (w : World) (own : List SiteEvent) (s : Site) (sent : List Message) → SiteRun w.site w.sent own s sent → ComesIn w own s sent }
+    // Where files come of it, with nothing sent.
+    ensures comes { (w : World) (c : Files) (h : ComesTo w.site c) → ComesIn w h.events h.new w.sent }
+{}
+
+/// The same in a world: whatever happened in it, and wherever its primary then stopped, what the primary's files recover
+/// to shows what its history comes to, in full, and what was acknowledged since its last creation stands in it.
+pub fn recovered_in_worlds()
+    // Whatever came of it, an end or a creation that was stopped too.
+    ensures shows { (events : List Event) (w : World) (c : Files) (p : Place) → Run no_world events w → (h : ComesTo w.site c) → recovers c ≡ Ok p → ShowsAt p (state_of h.new) }
+    ensures full { (events : List Event) (w : World) (c : Files) (p : Place) → Run no_world events w → (h : ComesTo w.site c) → recovers c ≡ Ok p → p.held ≡ last_entries p.size (epoch (story_of h.new)) }
+    ensures acknowledged { (events : List Event) (w : World) (c : Files) → Run no_world events w → (h : ComesTo w.site c) → IsAmong (acknowledged_in h.events (all_acknowledged events [])) h.new.history }
+    // Where nothing was ended, that is all that was acknowledged before it stopped.
+    ensures stopped_shows { (events : List Event) (w : World) (c : Files) (p : Place) → Run no_world events w → (h : StopsTo w.site c) → recovers c ≡ Ok p → ShowsAt p (state_of h.new) }
+    ensures stopped_full { (events : List Event) (w : World) (c : Files) (p : Place) → Run no_world events w → (h : StopsTo w.site c) → recovers c ≡ Ok p → p.held ≡ last_entries p.size (epoch (story_of h.new)) }
+    ensures stopped_acknowledged { (events : List Event) (w : World) (c : Files) → Run no_world events w → (h : StopsTo w.site c) → IsAmong (all_acknowledged events []) h.new.history }
+    // And where one call alone was stopped.
+    ensures own_shows { (call : Call) (events : List Event) (w : World) (c : Files) (p : Place) → Run no_world events w → (h : ComesBy (IsStopOf call) w.site c) → recovers c ≡ Ok p → ShowsAt p (state_of h.new) }
+    ensures own_full { (call : Call) (events : List Event) (w : World) (c : Files) (p : Place) → Run no_world events w → (h : ComesBy (IsStopOf call) w.site c) → recovers c ≡ Ok p → p.held ≡ last_entries p.size (epoch (story_of h.new)) }
+    ensures own_acknowledged { (call : Call) (events : List Event) (w : World) (c : Files) → Run no_world events w → (h : ComesBy (IsStopOf call) w.site c) → IsAmong (all_acknowledged events []) h.new.history }
+{
+    valid_later();
+    runs_have_histories();
 }

@@ -7,6 +7,3 @@ mod loading;
 
 pub use judging::judge_dump;
 pub use loading::load;
-
-#[cfg(test)]
-mod tests;

@@ -9,7 +9,7 @@ use Rattle.kdb_base.specs.Moments.{later_moment}
 use Rattle.kdb_base.specs.declared.moments.Point.{Point}
 use Rattle.kdb_base.specs.declared.outcomes.Refusal.{Refusal}
 use Rattle.kdb_base.specs.declared.outcomes.Refusal.TheVariants.{RecordTooLarge, TimeEnd}
-use Rattle.kdb_histories.proofs.Growing.{StaysValid, shows_at}
+use Rattle.kdb_histories.proofs.Growing.{StaysValid}
 use Rattle.kdb_histories.proofs.Times.{reset_since}
 use Rattle.kdb_histories.specs.Asks.{Ask, Moved, NotMoved, Outcome, at_clock, clock_of, entered, kept, kept_op, outcome}
 use Rattle.kdb_histories.specs.Calls.{HasTimeLeft}
@@ -45,7 +45,7 @@ use Rattle.princ_record.specs.declared.princs.Princ.{Princ}
 use Rattle.princ_rows.specs.Effects.{effect}
 use Rattle.princ_rows.specs.Rows.{AreRows}
 use Rattle.rekey_work.specs.declared.works.Settled.TheVariants as settled
-use Rattle.row_keys.proofs.Effects.{change_shows_at}
+use Rattle.row_keys.proofs.Effects.{change_shows_at, shows_at}
 use Rattle.row_keys.proofs.Names.{same_mkvno}
 use Rattle.row_keys.specs.Lookups.{record_named}
 use Rattle.row_keys.specs.ShownChanges.{MayPut}

@@ -1,20 +1,16 @@
 -- Work over what the rows have: the principal that it moves, and what a settling asks of it.
 use Rattle.std.proofs.Common.{◌≡◌, ℕ, Bool, true, false, ◌&&◌, List, Option, Some, None, refl, sym, ap, subst, ◌∙◌, eqb-true}
 use Rattle.std.specs.Prelude.{is_some, nat_eq}
-use Rattle.std.specs.Str.{bytes_eq}
 use Rattle.std.proofs.lemmas.Bool.{and_parts}
-use Rattle.kdb_base.specs.Etypes.{etype_of, number_of}
 use Rattle.kdb_base.specs.Key.{Key}
+use Rattle.kdb_base.specs.KeyLaws.{same_keys}
 use Rattle.kdb_base.specs.Moment.{Moment}
-use Rattle.kdb_base.specs.declared.keys.Etype.{Etype}
-use Rattle.kdb_base.specs.declared.keys.Etype.TheVariants.{Aes128, Aes256, Aes128Sha2, Aes256Sha2}
 use Rattle.kdb_base.specs.declared.versions.Master.{Master}
 use Rattle.kdb_histories.specs.Asks.{at_clock}
 use Rattle.kdb_model.specs.Rekeying.{Taking, Work, active_at, has_keys, is_key, is_record, is_version, may_settle}
 use Rattle.kdb_plain.specs.States.{master_of, princ_named}
 use Rattle.kdb_plain.specs.declared.princs.PlainPrinc.{PlainPrinc}
 use Rattle.kdb_plain.specs.declared.states.State.{State}
-use Rattle.policy_rules.specs.Reuse.{is_same_key}
 use Rattle.primary_rekeying.proofs.Rekeyed.{work_shown}
 use Rattle.primary_rekeying.specs.Moving.{IsInPlace, IsMoving}
 use Rattle.primary_core.specs.Opened.{HasState, Opened}
@@ -94,27 +90,9 @@ work_in_place o w work there = record {
 
 -- ---- what a settling asks
 
-own_etype : (a : Etype) → etype_of (number_of a) ≡ Some a
-own_etype Aes128 = refl
-own_etype Aes256 = refl
-own_etype Aes128Sha2 = refl
-own_etype Aes256Sha2 = refl
-
-one_etype : (a b : Etype) → Some a ≡ Some b → a ≡ b
-one_etype a b e = cc
-
-same_etype : (a b : Etype) → number_of a ≡ number_of b → a ≡ b
-same_etype a b e = one_etype a b (sym (own_etype a) ∙ ap etype_of e ∙ own_etype b)
-
-key_same : (a b : Key) → is_same_key a b ≡ true → a ≡ b
-key_same a b e =
-    let parts = and_parts (nat_eq (number_of a.etype) (number_of b.etype)) (bytes_eq a.bytes b.bytes) e in
-    ap (λ (t : Etype). let k : Key = record { etype = t; bytes = a.bytes } in k) (same_etype a.etype b.etype (eqb-true (number_of a.etype) (number_of b.etype) parts.0))
-    ∙ ap (λ (x : List ℕ). let k : Key = record { etype = b.etype; bytes = x } in k) (same_bytes a.bytes b.bytes parts.1)
-
 key_is : (x : Option Key) (k : Key) → is_key x k ≡ true → x ≡ Some k
 key_is None k e = absurd cc
-key_is (Some found) k e = ap Some (key_same found k e)
+key_is (Some found) k e = ap Some (same_keys found k e)
 
 version_is : (x : Option ℕ) (version : ℕ) → is_version x version ≡ true → x ≡ Some version
 version_is None version e = absurd cc

@@ -26,6 +26,7 @@ use kdb_base::{Halt, Refusal, Stop, Time};
 use kdb_disk::Disk;
 use primary_core::Primary;
 use rekey_work::{Rewrapped, Settled};
+use row_keys::MasterRing;
 use std::alloc::Global;
 use store_files::laws::what_is_kept_is_recovered;
 
@@ -76,8 +77,8 @@ pub fn rekey_settle<D: Disk>(
 }
 
 /// Rekeys the principal of this printed name at once: its keys are wrapped under the version of the master key that is
-/// active at the clock's moment, with a block of random bytes. The name is none of K/M. It answers the record that is
-/// stored.
+/// active at the clock's moment, with a block of random bytes. The name is none of K/M. The ring has the primary's
+/// master keys: who goes through many principals makes it once. It answers the record that is stored.
 ///
 /// # Errors
 ///
@@ -86,11 +87,13 @@ pub fn rekey_now<D: Disk>(
     alloc: Global,
     primary: &mut Primary,
     disk: &mut D,
+    ring: &MasterRing,
     name: &[u8],
     now: Time,
     random: &[u8; 512],
 ) -> Result<Settled, Stop>
     requires on { D.tells → primary.old.kept.broken ≡ false → IsOnDisk primary.old.kept (D.view disk.old) }
+    requires ring { ring.now ≡ primary.old.masters }
     requires name { is_master name.now ≡ false }
     ensures does { (s : State) (who : NameParts) (answer : Answers) → primary.old.kept.broken ≡ false → HasState primary.old s → printed who ≡ name.now → answer_of result ≡ Some answer → Does (place_of primary.old) s (Perform (RekeyedNow who now random.now)) answer (place_of primary.new) }
     ensures state { (s : State) (who : NameParts) (answer : Answers) → primary.old.kept.broken ≡ false → HasState primary.old s → printed who ≡ name.now → answer_of result ≡ Some answer → HasState primary.new (after_ask (RekeyedNow who now random.now) (seen (place_of primary.old) s)).state }
@@ -116,7 +119,7 @@ pub fn rekey_now<D: Disk>(
     if primary.is_closed() {
         return Err(Stop::Refused(Refusal::Closed));
     }
-    match rekeyed(alloc, primary, name, now, random) {
+    match rekeyed(alloc, primary, ring, name, now, random) {
         Ok(found) => finish(alloc, primary, disk, found, now),
         Err(_) => Err(Stop::Halt(Halt::MemoryOut)),
     }

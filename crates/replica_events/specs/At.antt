@@ -5,7 +5,7 @@ use Rattle.iprop_truths.specs.Truths.{Message}
 use Rattle.kdb_disk.specs.Files.{Files}
 use Rattle.kdb_places.specs.Places.{Place}
 use Rattle.replica_core.specs.Opened.{Opened, place_of}
-use Rattle.replica_steps.specs.Replicas.{Does, DoesPart, Falls, HappensTo, NodeDumps, NodeEndsDump, NodePolls, NodeServes, Replica, ReplicaEvent, ReplicaRun}
+use Rattle.replica_steps.specs.Replicas.{Does, DoesPart, Falls, HappensTo, NodeDumps, NodeEndsDump, NodePolls, NodeServes, Replica, ReplicaEvent, ReplicaRun, Task}
 use Rattle.store_files.specs.Found.{recovers}
 use Rattle.store_files.specs.Recovery.{HasNone}
 
@@ -36,11 +36,25 @@ IsFall (NodePolls client access asked) = ⊥
 IsFall (NodeDumps client access) = ⊥
 IsFall NodeEndsDump = ⊥
 
--- Such events lead to a replica that is not open, for whose place the files stand.
-pub record FallsTo (sent : List Message) (r : Replica) (c : Files) : Type 0 where
+-- a fall, or a stop inside this task that closed it
+abbrev pub IsFallOf : Task → ReplicaEvent → Type 0
+IsFallOf task (Does own) = ⊥
+IsFallOf task (DoesPart own part up) = (own ≡ task) × (up ≡ false)
+IsFallOf task Falls = Unit {0}
+IsFallOf task (NodeServes room) = ⊥
+IsFallOf task (NodePolls client access asked) = ⊥
+IsFallOf task (NodeDumps client access) = ⊥
+IsFallOf task NodeEndsDump = ⊥
+
+-- Events of this kind lead to a replica that is not open, for whose place the files stand.
+pub record FallsBy (Kind : ReplicaEvent → Type 0) (sent : List Message) (r : Replica) (c : Files) : Type 0 where
   pub events : List ReplicaEvent
-  pub each : All IsFall events
+  pub each : All Kind events
   pub new : Replica
   pub run : ReplicaRun sent r events new
   pub stands : PlaceIn new.place c
   pub closed : new.up ≡ false
+
+-- by falls, of whatever tasks
+abbrev pub FallsTo : List Message → Replica → Files → Type 0
+FallsTo sent r c = FallsBy IsFall sent r c

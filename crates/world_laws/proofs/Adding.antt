@@ -8,7 +8,7 @@ use Rattle.kadm_commands.specs.declared.replies.Reply.TheVariants as reply
 use Rattle.kdb_base.specs.Limits.{most_rows}
 use Rattle.kdb_base.specs.Moments.{later_moment, micros}
 use Rattle.kdb_base.specs.declared.moments.Point.{Point}
-use Rattle.kdb_histories.proofs.Growing.{StaysValid, shows_at}
+use Rattle.kdb_histories.proofs.Growing.{StaysValid}
 use Rattle.kdb_histories.specs.Asks.{Enters, Kind, Outcome, Replied, commanded, kept_op, kind_of, outcome}
 use Rattle.kdb_histories.specs.Calls.{IsFit, Leads, MayBeFit, Performs}
 use Rattle.kdb_histories.specs.Moves.{IsLeft}
@@ -34,7 +34,7 @@ use Rattle.princ_rows.specs.declared.entries.Op.{Op}
 use Rattle.princ_record.specs.Policies.{IsPolicy}
 use Rattle.policy_rules.specs.Rules.{Rules}
 use Rattle.princ_rows.specs.Effects.{effect, put_by, put_policy as put_policy_row}
-use Rattle.row_keys.proofs.Effects.{change_shows_at}
+use Rattle.row_keys.proofs.Effects.{change_shows_at, shows_at}
 use Rattle.row_keys.specs.Shows.{ShowsPrinc}
 use Rattle.world_laws.specs.Examples.{Adding, added_point, added_stage, adding_ask, adding_op}
 

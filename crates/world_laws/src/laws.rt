@@ -8,7 +8,9 @@ ghost use Rattle.kdb_base.specs.declared.moments.Point.{Point};
 ghost use Rattle.kdb_histories.specs.Histories.{all_seen};
 ghost use Rattle.kdb_histories.specs.Seen.{Seen};
 ghost use Rattle.kdb_histories.specs.Sites.{Polls, SiteEvent, story_of};
+ghost use Rattle.kdb_histories.specs.Stages.{ShowsAt};
 ghost use Rattle.kdb_places.specs.Places.{Place};
+ghost use Rattle.kdb_plain.specs.declared.states.State.{State};
 ghost use Rattle.kdb_worlds.specs.Worlds.{AtPrimary, AtReplica, Event, Happens, Run, World, no_world};
 ghost use Rattle.princ_name.specs.Names.{NameParts};
 ghost use Rattle.replica_steps.specs.Replicas.{NodePolls, ReplicaEvent};
@@ -47,11 +49,14 @@ pub fn points_rise_strictly()
     valid_later();
 }
 
-/// Every listed master key opens every key. At each place that the primary ever stood at, and at the place of each
-/// replica: the rows show the state, and each master key of the state opens all of them, with K/M's record of these rows.
+/// Every listed master key opens every key. At each place that the primary ever stood at, at the place of each replica,
+/// and at any place whose rows show a state: each master key of the state opens all of them, with K/M's record of these
+/// rows.
 pub fn each_listed_master_key_opens_all()
     ensures primary { (events : List Event) (w : World) (a : Seen) → Run no_world events w → Contains (all_seen (story_of w.site)) a → IsOpenedByEach a.place a.state }
     ensures replicas { (events : List Event) (w : World) (i : ℕ) (p : Place) → Run no_world events w → (w.replicas i).place ≡ Some p → IsReplicaOpened w p }
+    // Whatever place it is, as one to which the files recover that a crash leaves.
+    ensures shown { (p : Place) (s : State) → ShowsAt p s → IsOpenedByEach p s }
 {
     world_law();
 }

@@ -1,5 +1,6 @@
 use Rattle.std.proofs.Common.{◌≡◌, ◌≤◌, ℕ, List, Some, sym, subst}
-use Rattle.std.specs.Prelude.{IfOk}
+use Rattle.std.specs.Prelude.{IfOk, OnOk}
+use Rattle.cell_files.specs.NewFiles.{file_text}
 use Rattle.first_rows.specs.Creation.{first_point as point_made}
 use Rattle.kdb_disk.specs.Moments.{LeavesOnly}
 use Rattle.kdb_places.specs.Places.{created}
@@ -8,6 +9,8 @@ use Rattle.primary_core.proofs.creating.make_database.Goals as goal
 use Rattle.princ_name.specs.Realms.{IsRealm}
 use Rattle.store_files.specs.Kept.{place_kept}
 use Rattle.store_files.specs.Recovery.{Creates}
+use Rattle.store_files.specs.Switches.{first_choice}
+use Rattle.store_opening.specs.Moments.{HasFile}
 
 pub create-requires-clause-realm : goal.create-requires-clause-realm
 create-requires-clause-realm g c = subst IsRealm (sym c.realm.ensures.value) c.realm.ensures.spec.realm
@@ -23,3 +26,9 @@ pub returns-clause-moments : goal.returns-clause-moments
 returns-clause-moments g c = λ t.
     subst (λ (n : ℕ). LeavesOnly (g.D.Disk.view c.args.disk.now) (g.D.Disk.view c.create.new.disk) (Creates (g.D.Disk.view c.args.disk.now) (created c.args.spec.now.realm c.args.rows (point_made c.args.now) n 2048 (Some c.args.stash.now) 2))) c.size.ensures.value
     (subst (λ (r : List ℕ). LeavesOnly (g.D.Disk.view c.args.disk.now) (g.D.Disk.view c.create.new.disk) (Creates (g.D.Disk.view c.args.disk.now) (created r c.args.rows (point_made c.args.now) c.size.result 2048 (Some c.args.stash.now) 2))) c.realm.ensures.value (c.create.ensures.moments t))
+
+pub returns-clause-control : goal.returns-clause-control
+returns-clause-control g c = subst (λ (n : ℕ). IfOk c.create.result (λ d. d.control ≡ first_choice 2 5 (point_made c.args.now) n 2048)) c.size.ensures.value c.create.ensures.control
+
+pub returns-clause-written : goal.returns-clause-written
+returns-clause-written g c = λ t. subst (λ (r : List ℕ). OnOk c.create.result (HasFile 1 (file_text 2 r (point_made c.args.now) c.args.rows) (g.D.Disk.view c.create.new.disk))) c.realm.ensures.value (c.create.ensures.written t)

@@ -1,6 +1,6 @@
 use Rattle.std.proofs.Common.{List, Err, ap, ◌∙◌}
 use Rattle.kdb_base.specs.declared.versions.Master.{Master}
-use Rattle.primary_core.proofs.Recovered.{kept_refused, not_found_halts, not_found_only, not_found_refused, opened_only, opened_same, stop_same, unopened_halts, unopened_only}
+use Rattle.primary_core.proofs.Recovered.{kept_refused, kept_stays, not_found_halts, not_found_only, not_found_refused, opened_only, opened_same, settled_stays, stop_same, unopened_halts, unopened_only}
 use Rattle.primary_core.proofs.opening.open_rows.Goals as goal
 use Rattle.store_files.specs.Kept.{Kept}
 
@@ -27,3 +27,12 @@ returns-in-Ok-masters_of-clause-complete g c = λ t f masters is opens. opened_s
 
 pub returns-in-Ok-masters_of-clause-only_refused : goal.returns-in-Ok-masters_of-clause-only_refused
 returns-in-Ok-masters_of-clause-only_refused g c = λ t why cause. opened_only c.in-Ok.database _ (c.in-Ok.ensures.found t) c.masters_of.result c.masters_of.ensures.complete c.masters_of.ensures.only_refused c.in-Ok-masters_of.masters c.in-Ok-masters_of.is why cause
+
+pub returns-in-Err-clause-refused_stays : goal.returns-in-Err-clause-refused_stays
+returns-in-Err-clause-refused_stays g c = λ t why e.
+    let is = c.in-Err.is ∙ ap Err (stop_same _ _ _ e) in
+    settled_stays _ _ (c.recover.ensures.refused_keeps t why is) (c.recover.ensures.refused_settled t why is)
+
+pub returns-in-Err-masters_of-clause-refused_stays : goal.returns-in-Err-masters_of-clause-refused_stays
+returns-in-Err-masters_of-clause-refused_stays g c = λ t why e.
+    kept_stays c.in-Ok.database (g.D.Disk.view c.args.disk.now).seen (g.D.Disk.view c.recover.new.disk) (c.in-Ok.ensures.found t) (c.what_is_kept_is_recovered.ensures _ (c.in-Ok.ensures.on t))

@@ -1,4 +1,4 @@
-use Rattle.primary_events.proofs.Answering.{dump_ended, dumped, looked, polled}
+use Rattle.primary_events.proofs.Answering.{dump_ended, dumped, looked, polled, wanted}
 use Rattle.primary_events.proofs.laws.answers_are_events.Goals as goal
 use Rattle.std.proofs.Common.{refl}
 
@@ -16,3 +16,6 @@ returns-clause-looked c = looked
 
 pub returns-clause-looked_closed : goal.returns-clause-looked_closed
 returns-clause-looked_closed c = λ s. record { is = refl; silent = refl }
+
+pub returns-clause-wanted : goal.returns-clause-wanted
+returns-clause-wanted c = wanted

@@ -1,4 +1,4 @@
-use Rattle.primary_events.proofs.Returning.{ask_returns, call_returns, load_returns, reset_returns, stash_returns}
+use Rattle.primary_events.proofs.Returning.{ask_returns, call_returns, line_returns, load_returns, reset_returns, stash_returns}
 use Rattle.primary_events.proofs.laws.calls_return.Goals as goal
 
 pub returns-clause-made : goal.returns-clause-made
@@ -15,3 +15,6 @@ returns-clause-reset c = reset_returns
 
 pub returns-clause-loaded : goal.returns-clause-loaded
 returns-clause-loaded c = load_returns
+
+pub returns-clause-stash_line : goal.returns-clause-stash_line
+returns-clause-stash_line c = line_returns

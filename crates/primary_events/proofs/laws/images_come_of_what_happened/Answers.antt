@@ -29,7 +29,7 @@ pub returns-clause-created : goal.returns-clause-created
 returns-clause-created g c = images_made (g.D.Disk.view c.args.«_disk».now)
 
 pub returns-clause-opened : goal.returns-clause-opened
-returns-clause-opened g c = λ s c_ h f size room clock each may left leaves. images_opened IsQuiet stop_quiet (g.D.Disk.view c.args.«_disk».now) s _ c_ h f size room clock _ may.found each may left leaves
+returns-clause-opened g c = λ s c_ h f size room clock each may leaves. images_opened IsQuiet stop_quiet (g.D.Disk.view c.args.«_disk».now) s _ c_ h f size room clock _ may.found each may leaves
 
 pub returns-clause-opened_stopped : goal.returns-clause-opened_stopped
-returns-clause-opened_stopped g c = λ s c_ h f size room clock each may left leaves. images_opened IsStop (λ event stop. stop) (g.D.Disk.view c.args.«_disk».now) s _ c_ h f size room clock _ may.found each may left leaves
+returns-clause-opened_stopped g c = λ s c_ h f size room clock each may leaves. images_opened IsStop (λ event stop. stop) (g.D.Disk.view c.args.«_disk».now) s _ c_ h f size room clock _ may.found each may leaves

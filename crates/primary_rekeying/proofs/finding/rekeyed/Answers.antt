@@ -1,10 +1,12 @@
-use Rattle.std.proofs.Common.{false, ap, subst, sym, ◌∙◌}
+use Rattle.std.proofs.Common.{List, false, ap, subst, sym, ◌∙◌}
+use Rattle.kdb_base.specs.declared.versions.Master.{Master}
 use Rattle.kdb_histories.specs.Asks.{RekeyedNow, at_clock}
 use Rattle.kdb_model.specs.Laws.{IsPoint}
 use Rattle.kdb_model.specs.Rekeying as model
 use Rattle.kdb_model.specs.Rekeying.{Taking, take_of}
+use Rattle.kdb_plain.specs.States.{master_of}
 use Rattle.master_keys.specs.Rewrapping.{IsRewrapped}
-use Rattle.primary_rekeying.proofs.FoundOut.{never_already, never_ready, none_gone, now_already, now_gone, now_may, now_stored, updated_same}
+use Rattle.primary_rekeying.proofs.FoundOut.{is_taken, never_already, never_ready, none_gone, now_already, now_gone, now_may, now_stored, updated_same}
 use Rattle.primary_rekeying.proofs.finding.rekeyed.Goals as goal
 use Rattle.primary_rekeying.specs.Moving.{IsStored, IsTake, MayStore}
 use Rattle.primary_rekeying.specs.declared.taking.TakeAnswer.{TakeAnswer}
@@ -13,6 +15,22 @@ use Rattle.princ_record.specs.declared.princs.Princ.{Princ}
 use Rattle.princ_rows.specs.Rows.{AreRows}
 use Rattle.row_keys.specs.Lookups.{record_named}
 use Rattle.store_files.specs.Kept.{Kept}
+
+pub rewrap_ready-requires-clause-old : goal.rewrap_ready-requires-clause-old
+rewrap_ready-requires-clause-old c =
+    let s = c.holds_opened.ensures.state in
+    let has = c.holds_opened.ensures.has in
+    ap (λ (m : List Master). master_of m c.in-Ready.taken.princ.mkvno) (c.requires.ring ∙ sym has.masters_are)
+    ∙ (is_taken s (at_clock c.args.now false) (record_named c.args.name.now c.args.primary.now.kept.rows.princs) c.in-Ready.taken
+    (subst (λ (a : TakeAnswer). IsTake a (take_of s (at_clock c.args.now false) (record_named c.args.name.now c.args.primary.now.kept.rows.princs))) c.in-Ready.is (c.in_ok-taken.ensures s has))).old_is
+
+pub rewrap_ready-requires-clause-fresh : goal.rewrap_ready-requires-clause-fresh
+rewrap_ready-requires-clause-fresh c =
+    let s = c.holds_opened.ensures.state in
+    let has = c.holds_opened.ensures.has in
+    ap (λ (m : List Master). master_of m c.in-Ready.taken.version) (c.requires.ring ∙ sym has.masters_are)
+    ∙ (is_taken s (at_clock c.args.now false) (record_named c.args.name.now c.args.primary.now.kept.rows.princs) c.in-Ready.taken
+    (subst (λ (a : TakeAnswer). IsTake a (take_of s (at_clock c.args.now false) (record_named c.args.name.now c.args.primary.now.kept.rows.princs))) c.in-Ready.is (c.in_ok-taken.ensures s has))).fresh_is
 
 pub returns-in-Ok-clause-absent : goal.returns-in-Ok-clause-absent
 returns-in-Ok-clause-absent c = λ none. absurd (never_ready c.in-Ready.taken (none_gone c.holds_opened.ensures.state (at_clock c.args.now false) (record_named c.args.name.now c.args.primary.now.kept.rows.princs) (answers.Ready c.in-Ready.taken) none

@@ -3,10 +3,11 @@ use Rattle.kdb_base.specs.declared.versions.Master.{Master}
 use Rattle.kdb_disk.proofs.Runs.{weaken}
 use Rattle.kdb_disk.specs.Moments.{LeavesOnly}
 use Rattle.kdb_disk.specs.View.{View}
-use Rattle.primary_core.proofs.Recovered.{halts_having, late_ends, late_having, late_only, late_refused, may_be_like, opened_at_ok, opens_on, opens_to_if, rows_stop, stop_same, stopped_only}
+use Rattle.primary_core.proofs.Recovered.{halts_having, kept_stays, late_ends, late_having, late_kept, late_only, late_refused, may_be_like, opened_at_ok, opens_on, opens_to_if, rows_stop, stop_same, stopped_only}
 use Rattle.primary_core.proofs.primary.Primary.recover.Goals as goal
 use Rattle.primary_core.specs.Opened.{Opened}
-use Rattle.store_files.specs.Kept.{Kept}
+use Rattle.primary_core.specs.Opening.{RecoversAs}
+use Rattle.store_files.specs.Kept.{Kept, place_kept}
 use Rattle.store_files.specs.Recovery.{IsLike}
 
 pub returns-in-Err-clause-refused : goal.returns-in-Err-clause-refused
@@ -40,10 +41,19 @@ pub returns-in-Ok-clause-complete : goal.returns-in-Ok-clause-complete
 returns-in-Ok-clause-complete g c = λ t f masters is opens left. late_having c.in-Ok.database _ (c.in-Ok.ensures.found t) c.args.size c.args.now c.open_as.result c.in-Ok.masters masters (c.in-Ok.ensures.complete t f masters is opens) (λ o e. (opened_at_ok _ _ _ _ c.open_as.result o e c.open_as.ensures.opens).masters_are) c.open_as.ensures.refused f is left
 
 pub returns-in-Ok-clause-moments : goal.returns-in-Ok-clause-moments
-returns-in-Ok-clause-moments g c = λ t. opens_on c.in-Ok.database _ (c.in-Ok.ensures.found t) c.args.size c.args.now _ _ _ (c.open_rows.ensures.moments t) (c.open_as.ensures.crash.told t)
+returns-in-Ok-clause-moments g c = λ t. opens_on c.in-Ok.database _ (c.in-Ok.ensures.found t) c.args.size c.args.now g.D.Disk.view _ _ _ c.open_as.ensures.late (c.open_rows.ensures.moments t) (c.open_as.ensures.crash.told t)
 
 pub returns-in-Ok-clause-refusals : goal.returns-in-Ok-clause-refusals
 returns-in-Ok-clause-refusals g c = λ t why cause.
     subst (λ (x : View). LeavesOnly (g.D.Disk.view c.args.disk.now) x (IsLike (g.D.Disk.view c.args.disk.now)))
-    (ap g.D.Disk.view (sym (c.open_as.ensures.late_keeps why (late_ends c.in-Ok.database _ (c.in-Ok.ensures.found t) c.args.size c.args.now why (c.in-Ok.ensures.only_refused t) cause))))
+    (ap g.D.Disk.view (sym (late_kept _ _ (place_kept c.in-Ok.database) c.args.size c.args.now why (late_ends c.in-Ok.database _ (c.in-Ok.ensures.found t) c.args.size c.args.now why (c.in-Ok.ensures.only_refused t) cause) c.open_as.ensures.late)))
     (c.open_rows.ensures.moments t)
+
+pub returns-in-Err-clause-refused_stays : goal.returns-in-Err-clause-refused_stays
+returns-in-Err-clause-refused_stays g c = λ t why e. c.open_rows.ensures.refused_stays t why (c.in-Err.is ∙ ap Err (stop_same _ _ _ e))
+
+pub returns-in-Ok-clause-refused_stays : goal.returns-in-Ok-clause-refused_stays
+returns-in-Ok-clause-refused_stays g c = λ t why e.
+    subst (λ (x : View). RecoversAs (g.D.Disk.view c.args.disk.now).seen x)
+    (ap g.D.Disk.view (sym (late_kept _ _ (place_kept c.in-Ok.database) c.args.size c.args.now why (c.open_as.ensures.refused why e) c.open_as.ensures.late)))
+    (kept_stays c.in-Ok.database (g.D.Disk.view c.args.disk.now).seen (g.D.Disk.view c.open_rows.new.disk) (c.in-Ok.ensures.found t) (c.what_is_kept_is_recovered.ensures _ (c.in-Ok.ensures.on t)))

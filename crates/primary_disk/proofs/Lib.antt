@@ -1,0 +1,3 @@
+mod Stashing
+mod Done
+mod Still

@@ -1,0 +1,3 @@
+pub mod Held
+pub mod Leaving
+pub mod Handing
