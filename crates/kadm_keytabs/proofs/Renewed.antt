@@ -1,12 +1,13 @@
 -- What a run that makes new keys comes to, by what its parts tell.
-use Rattle.std.proofs.Common.{◌≡◌, ℕ, Bool, inl, inr, List, [], take, refl, ap, subst, ◌∙◌}
+use Rattle.std.proofs.Common.{◌≡◌, ◌⊎◌, ℕ, Bool, inl, inr, List, [], length, take, refl, ap, sym, subst, ◌∙◌}
 use Rattle.std.proofs.lemmas.Option.{same_Some}
 use Rattle.std.specs.Prelude.{Option, Some, None, Result, Ok, Err, IfOk, IfSome, OnErr, OnOk, option_map}
+use Rattle.kadm_commands.specs.declared.replies.Reply.{Reply}
 use Rattle.kadm_keytabs.proofs.Carried.{crash_still}
 use Rattle.kadm_keytabs.proofs.Wholes.{bad_kept, keytab_kept}
 use Rattle.kadm_keytabs.specs.Answers.{refusal_answer}
 use Rattle.kadm_keytabs.specs.Inputs.{IsBadInput, IsKept, IsKeytabInput, most_kept}
-use Rattle.kadm_keytabs.specs.Renewals.{EndsRenewed, IsOpenAt, Renewal, RenewalLeaves, RenewalStops, Renews, Wanted, answer_of, ask_for, no_renewal, places_for, renewal_of}
+use Rattle.kadm_keytabs.specs.Renewals.{EndsRenewed, IsAsked, IsOpenAt, LeavesOfCommand, Renewal, RenewalLeaves, RenewalStops, Renews, Wanted, answer_of, ask_for, no_renewal, places_for, renewal_of}
 use Rattle.kadm_keytabs.specs.Renewing.{AreItsPlaces, AreRunPlaces, IsCommandSafe, IsMade, IsRenewed, IsRunSafe}
 use Rattle.kadm_keytabs.specs.declared.answers.Answer.{Answer}
 use Rattle.kdb_base.specs.Moment.{Moment}
@@ -17,18 +18,43 @@ use Rattle.kdb_disk.specs.Frames.{IsCrashSafe}
 use Rattle.kdb_disk.specs.Moments.{LeavesOnly}
 use Rattle.kdb_disk.specs.View.{View}
 use Rattle.kdb_disk.specs.declared.disk.Disk.{Ghosts}
+use Rattle.kdb_histories.specs.Asks.{Answer as Outcome, Ask, Replied}
+use Rattle.kdb_histories.specs.Calls.{Performs}
 use Rattle.kdb_histories.specs.Seen.{Seen, after_ask, made_at, seen}
-use Rattle.kdb_histories.specs.Stages.{places}
+use Rattle.kdb_histories.specs.Stages.{Stage, places}
+use Rattle.kdb_model.specs.Laws.{IsMoment}
 use Rattle.kdb_places.specs.Places.{Place}
 use Rattle.kdb_plain.specs.declared.states.State.{State}
 use Rattle.kdb_ports.specs.Parts.{SaidPart}
 use Rattle.kdb_ports.specs.Told.{after_told, later_bytes, later_moments}
-use Rattle.primary_core.specs.Opened.{HasState, Opened, place_of}
-use Rattle.session_base.specs.Draws.{Draws, bytes_of, told_draws}
+use Rattle.primary_core.specs.Opened.{HasState, IsDecided, Opened, place_of}
+use Rattle.primary_core.specs.declared.decided.DecidedChange.{DecidedChange}
+use Rattle.session_base.specs.Draws.{Draws, block_in, bytes_of, moment_in, told_draws}
 use Rattle.session_base.specs.Stages.{IsStopped}
 use Rattle.stash_file.specs.Pieces.{Told}
 use Rattle.store_files.specs.Found.{recovers}
 use Rattle.store_files.specs.Recovery.{LeavesPart, RecoversTo}
+
+-- ---- what a crash leaves, whatever is told
+
+-- nothing was done
+command_still : {D : Type 0} (g : Ghosts D) (old new : D) (w : Wanted) (at : Seen) → new ≡ old → (g.tells → RecoversTo at.place (g.view old)) → IsCrashSafe g old new (LeavesOfCommand w at)
+command_still {D} g old new w at same recovered = record {
+  told = λ tells.
+      subst (λ (x : D). LeavesOnly (g.view old) (g.view x) (LeavesOfCommand w at)) (sym same)
+      (started (g.view old) (LeavesOfCommand w at) (λ c image. inl (recovered tells c image)));
+}
+
+-- the command was done, with this moment and this block
+pub command_done : {D : Type 0} (g : Ghosts D) (old new : D) (w : Wanted) (now : Moment) (random : List ℕ) (at : Seen)
+    → IsMoment now → length random ≡ 2048 → (g.tells → RecoversTo at.place (g.view old))
+    → IsCrashSafe g old new (LeavesPart at.place (places (made_at (ask_for w now random) at))) → (new ≡ old) ⊎ IsAsked (ask_for w now random) at
+    → IsCrashSafe g old new (LeavesOfCommand w at)
+command_done g old new w now random at moment block recovered safe (inl same) = command_still g old new w at same recovered
+command_done g old new w now random at moment block recovered safe (inr asked) = record {
+  told = λ tells. weaken (safe.told tells) (λ c part.
+      inr (record { clock = now; clock_is = moment; random = random; random_is = block; asked = asked; leaves = part }));
+}
 
 -- ---- the command, with what is drawn for it
 
@@ -54,12 +80,13 @@ made_drawn (Ok answer) w (Some m) moments' (Some b) stream' now random at entrie
 
 pub safe_done : {D : Type 0} (g : Ghosts D) (old new : D) (w : Wanted) (moments : Option (ℕ → Moment)) (stream : Option (ℕ → ℕ)) (now : Moment) (random : List ℕ) (at : Seen)
     → IfSome moments (λ f. now ≡ f 0) → IfSome stream (λ f. random ≡ bytes_of 2048 f)
-    → IsCrashSafe g old new (LeavesPart at.place (places (made_at (ask_for w now random) at)))
+    → IsCrashSafe g old new (LeavesPart at.place (places (made_at (ask_for w now random) at))) → IsCrashSafe g old new (LeavesOfCommand w at)
     → IsCommandSafe g old new w (told_draws moments stream) at
-safe_done g old new w moments stream now random at first bytes safe = record {
+safe_done g old new w moments stream now random at first bytes safe some = record {
   made = places (made_at (ask_for w now random) at);
   are = by moments stream first bytes;
   safe = safe;
+  some = some;
 }
   where
     by : (m : Option (ℕ → Moment)) (b : Option (ℕ → ℕ)) → IfSome m (λ f. now ≡ f 0) → IfSome b (λ f. random ≡ bytes_of 2048 f)
@@ -82,7 +109,26 @@ safe_still g old new w told at same recovered = record {
   made = places_told w told at;
   are = places_so w told at;
   safe = crash_still g old new at.place (places_told w told at) same recovered;
+  some = command_still g old new w at same recovered;
 }
+
+-- ---- what the primary is asked, as an event of its history
+
+pub asked_so : (o : Opened) (ask : Ask) (reply : Reply) (change : Option DecidedChange) (s : State) → IsDecided o ask reply change → HasState o s → IsAsked ask (seen (place_of o) s)
+asked_so o ask reply change s is has =
+    let h = is.performs s has in
+    subst (λ (a : Outcome). Performs (place_of o) s ask a (made_at ask (seen (place_of o) s))) h.answers
+    (subst (λ (made : List Stage). Performs (place_of o) s ask (Replied reply) made) h.is h)
+
+pub asked_drawn : (P : Type 0) (w : Wanted) (moments : Option (ℕ → Moment)) (stream : Option (ℕ → ℕ)) (now : Moment) (random : List ℕ) (at : Seen) (draws : Draws)
+    → IfSome moments (λ f. now ≡ f 0) → IfSome stream (λ f. random ≡ bytes_of 2048 f) → told_draws moments stream ≡ Some draws
+    → P ⊎ IsAsked (ask_for w now random) at → P ⊎ IsAsked (ask_for w (moment_in draws) (block_in draws)) at
+asked_drawn P w None stream now random at draws first bytes told done = absurd cc
+asked_drawn P w (Some m) None now random at draws first bytes told done = absurd cc
+asked_drawn P w (Some m) (Some b) now random at draws first bytes told (inl same) = inl same
+asked_drawn P w (Some m) (Some b) now random at draws first bytes told (inr done) =
+    inr (subst (λ (d : Draws). IsAsked (ask_for w (moment_in d) (block_in d)) at) (same_Some (record { moments = m; stream = b }) draws told)
+    (subst (λ (n : Moment). IsAsked (ask_for w n (bytes_of 2048 b)) at) first (subst (λ (x : List ℕ). IsAsked (ask_for w now x) at) bytes done)))
 
 -- ---- a run over a keytab
 
@@ -112,7 +158,7 @@ renewed_none (Err e) w draws s kept place told o left bad same is has drawn = tt
 
 pub run_safe : {D : Type 0} (g : Ghosts D) (old new : D) (w : Wanted) (told : Option Draws) (at : Seen) (kept : List ℕ) (entries : List Told)
     → IsKeytabInput kept entries → IsCommandSafe g old new w told at → IsRunSafe g old new w told at kept
-run_safe g old new w told at kept entries keytab safe = record { made = safe.made; are = by told safe.are; safe = safe.safe }
+run_safe g old new w told at kept entries keytab safe = record { made = safe.made; are = by told safe.are; safe = safe.safe; some = safe.some }
   where
     by : (t : Option Draws) → AreItsPlaces w t at safe.made → AreRunPlaces w t at kept safe.made
     by None are = tt
@@ -121,7 +167,12 @@ run_safe g old new w told at kept entries keytab safe = record { made = safe.mad
 
 pub run_still : {D : Type 0} (g : Ghosts D) (old new : D) (w : Wanted) (told : Option Draws) (at : Seen) (kept : List ℕ)
     → new ≡ old → (g.tells → RecoversTo at.place (g.view old)) → IsRunSafe g old new w told at kept
-run_still g old new w told at kept same recovered = record { made = []; are = by told; safe = crash_still g old new at.place [] same recovered }
+run_still g old new w told at kept same recovered = record {
+  made = [];
+  are = by told;
+  safe = crash_still g old new at.place [] same recovered;
+  some = command_still g old new w at same recovered;
+}
   where
     by : (t : Option Draws) → AreRunPlaces w t at kept []
     by None = tt
@@ -225,22 +276,26 @@ unfolding RenewalLeaves
 leaves_still w text told at now recovered = started now (RenewalLeaves w text told at) (λ c image. by text told c (recovered c image))
   where
     by : (x : Option (List ℕ)) (t : Option Draws) (c : Files) → recovers c ≡ Ok at.place → RenewalLeaves w x t at c
-    by None t c is = tt
-    by (Some x) None c is = tt
+    by None t c is = inl is
+    by (Some x) None c is = inl is
     by (Some x) (Some draws) c is = inl is
 
 pub leaves_safe : {D : Type 0} (g : Ghosts D) (old new : D) (w : Wanted) (text : Option (List ℕ)) (told : Option Draws) (at : Seen) (kept bytes : List ℕ)
     → IsKept text kept → bytes ≡ kept → IsRunSafe g old new w told at bytes → g.tells → LeavesOnly (g.view old) (g.view new) (RenewalLeaves w text told at)
 unfolding RenewalLeaves LeavesPart
-leaves_safe g old new w text told at kept bytes front same safe tells = weaken (safe.safe.told tells) (λ c part. by text told c front safe.are part)
+leaves_safe g old new w text told at kept bytes front same safe tells = by text told front safe.are
   where
-    by : (x : Option (List ℕ)) (t : Option Draws) (c : Files) → IsKept x kept → AreRunPlaces w t at bytes safe.made → LeavesPart at.place safe.made c → RenewalLeaves w x t at c
-    by None t c f may part = tt
-    by (Some x) None c f may part = tt
-    by (Some x) (Some draws) c f (inl none) part = inl (subst (λ (made : List Place). LeavesPart at.place made c) none part)
-    by (Some x) (Some draws) c f (inr m) part =
+    one : (x : List ℕ) (draws : Draws) (c : Files) → IsKept (Some x) kept → AreRunPlaces w (Some draws) at bytes safe.made → LeavesPart at.place safe.made c
+        → RenewalLeaves w (Some x) (Some draws) at c
+    one x draws c f (inl none) part = inl (subst (λ (made : List Place). LeavesPart at.place made c) none part)
+    one x draws c f (inr m) part =
         inr (record {
           renewal = m.renewal;
           is = renews_whole w draws at x kept bytes m.renewal f same m.is;
           leaves = subst (λ (made : List Place). LeavesPart at.place made c) m.made_are part;
         })
+
+    by : (x : Option (List ℕ)) (t : Option Draws) → IsKept x kept → AreRunPlaces w t at bytes safe.made → LeavesOnly (g.view old) (g.view new) (RenewalLeaves w x t at)
+    by None t f may = weaken (safe.some.told tells) (λ c leaves. leaves)
+    by (Some x) None f may = weaken (safe.some.told tells) (λ c leaves. leaves)
+    by (Some x) (Some draws) f may = weaken (safe.safe.told tells) (λ c part. one x draws c f may part)

@@ -1,5 +1,5 @@
 -- What `ktadd` that makes new keys comes to.
-use Rattle.std.specs.Prelude.{ℕ, ◌≡◌, ◌⊎◌, false, Bool, List, [], Option, Some, None, Result, Ok, Err, ⊤}
+use Rattle.std.specs.Prelude.{ℕ, ◌≡◌, ◌⊎◌, false, Bool, List, [], Option, Some, None, Result, Ok, Err, length, ⊤}
 use Rattle.kadm_commands.specs.declared.commands.ChangeKeys.{ChangeKeys}
 use Rattle.kadm_commands.specs.declared.commands.Command.{Command}
 use Rattle.kadm_commands.specs.declared.commands.Command.TheVariants as command
@@ -16,8 +16,10 @@ use Rattle.kdb_base.specs.declared.outcomes.Refusal.{Refusal}
 use Rattle.kdb_base.specs.declared.outcomes.Refusal.TheVariants.{BadKeytab}
 use Rattle.kdb_disk.specs.Files.{Files}
 use Rattle.kdb_histories.specs.Asks.{Answer as Outcome, Ask, Replied}
+use Rattle.kdb_histories.specs.Calls.{Performs}
 use Rattle.kdb_histories.specs.Seen.{Seen, after_ask, answer_at, made_at, moment_at}
 use Rattle.kdb_histories.specs.Stages.{places}
+use Rattle.kdb_model.specs.Laws.{IsMoment}
 use Rattle.kdb_places.specs.Places.{Place}
 use Rattle.kdb_ports.specs.Told.{after_told}
 use Rattle.plain_keys.specs.declared.new_keys.NewKeys.TheVariants.{Random}
@@ -53,12 +55,24 @@ ask_for w now random = command_ask w.client None (renew_command w.name w.etypes)
 
 -- ---- what a run comes to
 
--- what is answered, the places that are made, the place with its state after them, and what the clock and the random source have left
+-- The primary is asked so from here, and answers its own answer: the places that it makes, and the state behind them, are those of its history.
+abbrev pub IsAsked : Ask → Seen → Type 0
+IsAsked ask at = Performs at.place at.state ask (answer_at ask at) (made_at ask at)
+
+-- what is answered, what the primary is asked for it and from where, the places that are made, the place with its state after them, and what the
+-- clock and the random source have left
 pub record Renewal : Type 0 where
   pub answer : Answer
+  pub asked : Option Ask
+  pub from : Seen
   pub made : List Place
   pub later : Seen
   pub draws : Draws
+
+-- what the primary is asked for it was done, where it is asked at all
+abbrev pub WasDone : Option Ask → Seen → Type 0
+WasDone None at = ⊤
+WasDone (Some ask) at = IsAsked ask at
 
 -- the refusal that a reply is
 abbrev pub refused_in : Reply → Option Refusal
@@ -89,6 +103,8 @@ places_for w draws at = places (made_at (ask_for w (moment_in draws) (block_in d
 abbrev pub renewal_of : Wanted → Draws → Seen → List Told → Renewal
 renewal_of w draws at entries = record {
   answer = answer_of w (moment_in draws) (block_in draws) at entries;
+  asked = Some (ask_for w (moment_in draws) (block_in draws));
+  from = at;
   made = places_for w draws at;
   later = after_ask (ask_for w (moment_in draws) (block_in draws)) at;
   draws = behind_command draws;
@@ -96,7 +112,7 @@ renewal_of w draws at entries = record {
 
 -- A refusal that comes first: nothing is done and nothing is drawn.
 abbrev pub no_renewal : Refusal → Draws → Seen → Renewal
-no_renewal why draws at = record { answer = refusal_answer why; made = []; later = at; draws = draws }
+no_renewal why draws at = record { answer = refusal_answer why; asked = None; from = at; made = []; later = at; draws = draws }
 
 -- ---- by the input
 
@@ -158,7 +174,20 @@ pub record LeavesMade (renews : Renewal → Type 0) (before : Place) (c : Files)
   pub is : renews renewal
   pub leaves : LeavesPart before renewal.made c
 
+-- whatever the input, the clock and the random bytes are: a place that this command makes at some moment and with some block, or the one before them
+pub record LeavesAsked (w : Wanted) (at : Seen) (c : Files) : Type 0 where
+  pub clock : Moment
+  pub clock_is : IsMoment clock
+  pub random : List ℕ
+  pub random_is : length random ≡ 2048
+  pub asked : IsAsked (ask_for w clock random) at
+  pub leaves : LeavesPart at.place (places (made_at (ask_for w clock random) at)) c
+
+-- the place before, or one of the command
+abbrev pub LeavesOfCommand : Wanted → Seen → Files → Type 0
+LeavesOfCommand w at c = (recovers c ≡ Ok at.place) ⊎ LeavesAsked w at c
+
 unfoldable pub RenewalLeaves : Wanted → Option (List ℕ) → Option Draws → Seen → Files → Type 0
-RenewalLeaves w None told at c = ⊤
-RenewalLeaves w (Some text) None at c = ⊤
+RenewalLeaves w None told at c = LeavesOfCommand w at c
+RenewalLeaves w (Some text) None at c = LeavesOfCommand w at c
 RenewalLeaves w (Some text) (Some draws) at c = (recovers c ≡ Ok at.place) ⊎ LeavesMade (Renews w draws at text) at.place c

@@ -1,7 +1,7 @@
 -- What the parts of a run that makes new keys come to.
 use Rattle.std.specs.Prelude.{ℕ, ◌+◌, ◌≡◌, ◌⊎◌, List, [], ◌∷◌, map, Option, Some, None, Ok, ⊤}
 use Rattle.kadm_keytabs.specs.Additions.{keys_told}
-use Rattle.kadm_keytabs.specs.Renewals.{IsOpenAt, Renewal, Renews, Wanted, places_for}
+use Rattle.kadm_keytabs.specs.Renewals.{IsOpenAt, LeavesOfCommand, Renewal, Renews, Wanted, places_for}
 use Rattle.kadm_keytabs.specs.declared.answers.Answer.{Answer}
 use Rattle.kdb_base.specs.Key.{Key}
 use Rattle.kdb_base.specs.declared.extracts.Extract.{Extract}
@@ -59,11 +59,12 @@ abbrev pub AreItsPlaces : Wanted → Option Draws → Seen → List Place → Ty
 AreItsPlaces w None at made = ⊤
 AreItsPlaces w (Some draws) at made = made ≡ places_for w draws at
 
--- a crash leaves the place before the command, or one that it makes
+-- a crash leaves the place before the command, or one that it makes; and whatever is told, one that it makes at some moment, with some block
 pub record IsCommandSafe {D : Type 0} (g : Ghosts D) (old new : D) (w : Wanted) (told : Option Draws) (at : Seen) : Type 0 where
   pub made : List Place
   pub are : AreItsPlaces w told at made
   pub safe : IsCrashSafe g old new (LeavesPart at.place made)
+  pub some : IsCrashSafe g old new (LeavesOfCommand w at)
 
 -- the places of such a run
 pub record AreMadeBy (renews : Renewal → Type 0) (made : List Place) : Type 0 where
@@ -76,11 +77,12 @@ abbrev pub AreRunPlaces : Wanted → Option Draws → Seen → List ℕ → List
 AreRunPlaces w None at text made = ⊤
 AreRunPlaces w (Some draws) at text made = (made ≡ []) ⊎ AreMadeBy (Renews w draws at text) made
 
--- a crash leaves the place before the run, or one that it makes
+-- a crash leaves the place before the run, or one that it makes; and whatever is told, one of the command, as above
 pub record IsRunSafe {D : Type 0} (g : Ghosts D) (old new : D) (w : Wanted) (told : Option Draws) (at : Seen) (text : List ℕ) : Type 0 where
   pub made : List Place
   pub are : AreRunPlaces w told at text made
   pub safe : IsCrashSafe g old new (LeavesPart at.place made)
+  pub some : IsCrashSafe g old new (LeavesOfCommand w at)
 
 -- it ended while the input was read
 abbrev pub IsOfInput : SessionHalt → Type 0

@@ -1,10 +1,10 @@
 //! New keys of a principal, made and added to a keytab.
 
-ghost use Rattle.std.specs.Prelude.{◌≡◌, ◌≢◌, false, ℕ, List, Option, Some, None, Err, IfErr, IfOk, OnErr, OnOk, length, map};
+ghost use Rattle.std.specs.Prelude.{◌≡◌, ◌≢◌, ◌⊎◌, false, ℕ, List, Option, Some, None, Err, IfErr, IfOk, OnErr, OnOk, length, map};
 ghost use Rattle.kadm_commands.specs.Commands.{AreEtypes, IsOwnName};
 ghost use Rattle.kadm_keytabs.specs.Additions.{addition_by, keys_told};
 ghost use Rattle.kadm_keytabs.specs.Answers.{refusal_answer};
-ghost use Rattle.kadm_keytabs.specs.Renewals.{EndsRenewed, IsOpenAt, RenewalLeaves, RenewalStops, Renews, answer_of, ask_for, keys_behind, refused_in, renewal_of, wanted};
+ghost use Rattle.kadm_keytabs.specs.Renewals.{EndsRenewed, IsAsked, IsOpenAt, RenewalLeaves, RenewalStops, Renews, answer_of, ask_for, keys_behind, refused_in, renewal_of, wanted};
 ghost use Rattle.kadm_keytabs.specs.Renewing.{AreFresh, IsCommandSafe, IsMade, IsOfInput, IsRenewed, IsRunSafe, extract_at, fresh_keys, version_told};
 ghost use Rattle.kdb_base.specs.declared.outcomes.Refusal.TheVariants.{BadKeytab};
 ghost use Rattle.kdb_disk.specs.Frames.{IsCall, IsCrashSafe};
@@ -12,10 +12,11 @@ ghost use Rattle.kdb_disk.specs.Moments.{LeavesOnly};
 ghost use Rattle.kdb_histories.specs.Asks.{Ask, Replied, clock_of};
 ghost use Rattle.kdb_histories.specs.Seen.{after_ask, answer_at, made_at, moment_at, seen};
 ghost use Rattle.kdb_histories.specs.Stages.{places};
+ghost use Rattle.kdb_model.specs.Laws.{IsMoment};
 ghost use Rattle.kdb_plain.specs.declared.states.State.{State};
 ghost use Rattle.primary_core.specs.Opened.{HasState, IsDecided, MayMake, place_of};
 ghost use Rattle.primary_core.specs.declared.decided.DecidedChange.{DecidedChange as Changes};
-ghost use Rattle.session_base.specs.Draws.{Draws, told_draws};
+ghost use Rattle.session_base.specs.Draws.{Draws, block_in, moment_in, told_draws};
 ghost use Rattle.session_base.specs.Halts.{Counts, IsPerformHalt};
 ghost use Rattle.session_base.specs.Stages.{IsStopped};
 ghost use Rattle.session_base.specs.Wholes.{IsReadWhole, WereTaken};
@@ -251,6 +252,7 @@ fn renew_at<D: Disk>(
     ensures answer { (s : State) → HasState primary.old s → IfOk result (λ answer. answer ≡ answer_of (wanted client.now name.now etypes.now) now random.now (seen (place_of primary.old) s) list) }
     ensures stands { (s : State) → HasState primary.old s → OnOk result (IsOpenAt primary.new (after_ask (ask_for (wanted client.now name.now etypes.now) now random.now) (seen (place_of primary.old) s))) }
     ensures crash { (s : State) → HasState primary.old s → IsCrashSafe D.Disk disk.old disk.new (LeavesPart (place_of primary.old) (places (made_at (ask_for (wanted client.now name.now etypes.now) now random.now) (seen (place_of primary.old) s)))) }
+    ensures done { (s : State) → HasState primary.old s → (disk.new ≡ disk.old) ⊎ IsAsked (ask_for (wanted client.now name.now etypes.now) now random.now) (seen (place_of primary.old) s) }
     ensures on { D.tells → OnOk result (IsOnDisk primary.new.kept (D.view disk.new)) }
     ensures whole { OnOk result (primary.new.kept.broken ≡ false) }
     ensures memory { result ≡ Err SessionHalt.MemoryOut → (disk.new ≡ disk.old) × (place_of primary.new ≡ place_of primary.old) }
@@ -263,6 +265,14 @@ fn renew_at<D: Disk>(
         Ok(renewal) => make_renewal(alloc, primary, disk, renewal, now),
         Err(_) => Err(SessionHalt::MemoryOut),
     }
+}
+
+// Tells a proof that a moment is one. It does nothing.
+fn holds_moment(moment: Time)
+    ensures { IsMoment moment }
+{
+    let _secs = moment.secs();
+    let _usecs = moment.usecs();
 }
 
 // The same with what is drawn for it: a block of random bytes, and a moment of the clock.
@@ -284,6 +294,8 @@ fn renew_list<D: Disk, C: Clock, E: Entropy>(
     ensures made { (s : State) (draws : Draws) → HasState primary.old s → told_draws (C.moments clock.old) (E.stream entropy.old) ≡ Some draws
         → IfOk result (λ answer. IsMade (renewal_of (wanted client.now name.now etypes.now) draws (seen (place_of primary.old) s) list) answer primary.new (told_draws (C.moments clock.new) (E.stream entropy.new))) }
     ensures safe { (s : State) → HasState primary.old s → IsCommandSafe D.Disk disk.old disk.new (wanted client.now name.now etypes.now) (told_draws (C.moments clock.old) (E.stream entropy.old)) (seen (place_of primary.old) s) }
+    ensures done { (s : State) (draws : Draws) → HasState primary.old s → told_draws (C.moments clock.old) (E.stream entropy.old) ≡ Some draws
+        → (disk.new ≡ disk.old) ⊎ IsAsked (ask_for (wanted client.now name.now etypes.now) (moment_in draws) (block_in draws)) (seen (place_of primary.old) s) }
     ensures on { D.tells → OnOk result (IsOnDisk primary.new.kept (D.view disk.new)) }
     ensures whole { OnOk result (primary.new.kept.broken ≡ false) }
     ensures memory { result ≡ Err SessionHalt.MemoryOut → (disk.new ≡ disk.old) × (place_of primary.new ≡ place_of primary.old) }
@@ -296,6 +308,7 @@ fn renew_list<D: Disk, C: Clock, E: Entropy>(
     match draw(alloc, entropy, 2048) {
         Ok(random) => {
             let now = clock.now();
+            holds_moment(now);
             renew_at(
                 alloc,
                 primary,
@@ -342,6 +355,8 @@ fn renew_input<D: Disk, C: Clock, E: Entropy>(
     ensures renewed { (s : State) (draws : Draws) → HasState primary.old s → told_draws (C.moments clock.old) (E.stream entropy.old) ≡ Some draws
         → IfOk result (λ answer. IsRenewed (Renews (wanted client.now name.now etypes.now) draws (seen (place_of primary.old) s) kept.now) answer primary.new (told_draws (C.moments clock.new) (E.stream entropy.new))) }
     ensures safe { (s : State) → HasState primary.old s → IsRunSafe D.Disk disk.old disk.new (wanted client.now name.now etypes.now) (told_draws (C.moments clock.old) (E.stream entropy.old)) (seen (place_of primary.old) s) kept.now }
+    ensures done { (s : State) (draws : Draws) → HasState primary.old s → told_draws (C.moments clock.old) (E.stream entropy.old) ≡ Some draws
+        → (disk.new ≡ disk.old) ⊎ IsAsked (ask_for (wanted client.now name.now etypes.now) (moment_in draws) (block_in draws)) (seen (place_of primary.old) s) }
     ensures on { D.tells → OnOk result (IsOnDisk primary.new.kept (D.view disk.new)) }
     ensures whole { OnOk result (primary.new.kept.broken ≡ false) }
     ensures memory { result ≡ Err SessionHalt.MemoryOut → (disk.new ≡ disk.old) × (place_of primary.new ≡ place_of primary.old) }
@@ -397,11 +412,15 @@ pub fn ktadd_renewing<S: Source, K: Sink, D: Disk, C: Clock, E: Entropy>(
     ensures on { D.tells → OnOk result (IsOnDisk primary.new.kept (D.view disk.new)) }
     ensures whole { OnOk result (primary.new.kept.broken ≡ false) }
 
-    // Where it stops early, the keys of which a byte was written are in every image.
+    // Where it stops early, the keys of which a byte was written are in every image. At any moment a crash leaves the place
+    // before, or one that the command makes, whatever the input, the clock and the random bytes are.
     ensures stopped { D.tells → (s : State) → HasState primary.old s → OnErr result
         (IsStopped (RenewalStops (wanted client.now name.now etypes.now) (K.taken sink.old) (S.left source.old) (told_draws (C.moments clock.old) (E.stream entropy.old)) (seen (place_of primary.old) s)) (K.taken sink.new) (D.view disk.new)) }
     ensures moments { D.tells → (s : State) → HasState primary.old s → LeavesOnly (D.view disk.old) (D.view disk.new)
         (RenewalLeaves (wanted client.now name.now etypes.now) (S.left source.old) (told_draws (C.moments clock.old) (E.stream entropy.old)) (seen (place_of primary.old) s)) }
+    // Where a file was touched, the command is an event of the primary's history.
+    ensures done { (s : State) (draws : Draws) → HasState primary.old s → told_draws (C.moments clock.old) (E.stream entropy.old) ≡ Some draws
+        → (disk.new ≡ disk.old) ⊎ IsAsked (ask_for (wanted client.now name.now etypes.now) (moment_in draws) (block_in draws)) (seen (place_of primary.old) s) }
 
     // For want of memory, of random bytes or of input nothing was done, and but for a fault of the sink itself nothing was
     // written.

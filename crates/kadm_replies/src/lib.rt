@@ -7,8 +7,6 @@ pub mod masters;
 pub mod princs;
 pub mod refusals;
 pub mod replies;
-#[cfg(test)]
-mod tests;
 pub mod texts;
 
 pub use refusals::print_refusal;

@@ -11,7 +11,7 @@ use Rattle.kadm_session.specs.Renewing.{after_reset, is_at_time_end, renewed, re
 use Rattle.kadm_session.specs.Runs.{IsOpenAt, RunsOn, RunsTo, RunsToStop}
 use Rattle.kadm_session.specs.Steps.{ask_of, draws_after, said, seen_after}
 use Rattle.kadm_session.specs.declared.intake.Asked.{Asked}
-use Rattle.kadm_session.specs.declared.intake.Asked.TheVariants.{Nothing, Refused, Does, Rekeys, ResetsLog}
+use Rattle.kadm_session.specs.declared.intake.Asked.TheVariants.{Nothing, Refused, Does, Rekeys, ResetsLog, WritesDump}
 use Rattle.kdb_base.specs.Moment.{Moment}
 use Rattle.kdb_base.specs.declared.moments.Point.{Point}
 use Rattle.kdb_base.specs.declared.outcomes.Refusal.{Refusal}
@@ -203,6 +203,7 @@ line_runs valid (Does command) draws s at here has done = ask_runs s (ask_of com
 line_runs valid (Rekeys glob) draws s at here has done =
     rekeyings_run valid (names_told glob (princ_names at.state.princs)) (moment_in draws) s (begun at draws.stream) done.0 here has done.1
 line_runs valid ResetsLog draws s at here has done = reset_runs s (moment_in draws) at done.0 here done.1
+line_runs valid WritesDump draws s at here has done = runs_still s at here
 
 pub lines_run : (valid : StaysValid) (commands : List Asked) (draws : Draws) (s : Site) (at : Seen) → IsOpenAt s at → HasShown at → ArePerformed commands draws at
     → RunsTo s (said commands draws at).at
@@ -223,6 +224,7 @@ events_stop valid (Does command) draws s at q moment here has may = call_stops s
 events_stop valid (Rekeys glob) draws s at q moment here has h =
     rekeyings_stop valid (names_told glob (princ_names at.state.princs)) (moment_in draws) s (begun at draws.stream) q moment here has h
 events_stop valid ResetsLog draws s at q moment here has h = call_stops s at (ResetLog (moment_in draws)) q here refl moment h.1
+events_stop valid WritesDump draws s at q moment here has h = absurd h
 
 line_stops : (valid : StaysValid) (asked : Asked) (draws : Draws) (s : Site) (at : Seen) (q : Place) → IsOpenAt s at → HasShown at → LineReaches asked draws at q → RunsToStop s q
 line_stops valid asked draws s at q here has (inl same) = still_stops s at q here same

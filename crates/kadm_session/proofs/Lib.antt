@@ -5,6 +5,7 @@ pub mod Making
 pub mod Moving
 pub mod Lines
 pub mod Renewed
+pub mod Dumps
 pub mod Going
 pub mod Turning
 pub mod StashAsked

@@ -11,7 +11,7 @@ use Rattle.kadm_session.specs.Rekeying.{Progress, begun, one_more, rekeyed, unle
 use Rattle.kadm_session.specs.Renewing.{is_at_time_end, places_reset, renewed_place}
 use Rattle.kadm_session.specs.Steps.{ask_of, draws_after, places_by, places_made, seen_after}
 use Rattle.kadm_session.specs.declared.intake.Asked.{Asked}
-use Rattle.kadm_session.specs.declared.intake.Asked.TheVariants.{Nothing, Refused, Does, Rekeys, ResetsLog}
+use Rattle.kadm_session.specs.declared.intake.Asked.TheVariants.{Nothing, Refused, Does, Rekeys, ResetsLog, WritesDump}
 use Rattle.kdb_base.specs.Moment.{Moment}
 use Rattle.kdb_base.specs.declared.outcomes.Refusal.{Refusal}
 use Rattle.kdb_histories.specs.Asks.{Ask}
@@ -95,6 +95,7 @@ events_part (Refused refusal) draws at q h = absurd h
 events_part (Does command) draws at q may = made_part (ask_of command draws at) at.place at.state q may
 events_part (Rekeys glob) draws at q h = rekeyings_part (names_told glob (princ_names at.state.princs)) (moment_in draws) at.place (begun at draws.stream) q refl h
 events_part ResetsLog draws at q h = reset_part (moment_in draws) at q h.0 h.1
+events_part WritesDump draws at q h = absurd h
 
 line_part : (asked : Asked) (draws : Draws) (at : Seen) (q : Place) → LineReaches asked draws at q → IsPart at.place (places_by asked draws at) q
 line_part asked draws at q (inl same) = same_part at.place (places_by asked draws at) q same
@@ -108,6 +109,7 @@ after_is_last (Refused refusal) draws at = refl
 after_is_last (Does command) draws at = refl
 after_is_last (Rekeys glob) draws at = line_ends glob draws at
 after_is_last ResetsLog draws at = reset_ends (draws.moments 0) at
+after_is_last WritesDump draws at = refl
 
 -- ---- one line after another
 

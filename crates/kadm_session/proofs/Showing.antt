@@ -8,7 +8,7 @@ use Rattle.kadm_session.specs.Rekeying.{Progress, begun, one_more, rekeyed, unle
 use Rattle.kadm_session.specs.Renewing.{after_reset, is_at_time_end, renewed, renewed_place}
 use Rattle.kadm_session.specs.Steps.{ask_of, draws_after, seen_after}
 use Rattle.kadm_session.specs.declared.intake.Asked.{Asked}
-use Rattle.kadm_session.specs.declared.intake.Asked.TheVariants.{Nothing, Refused, Does, Rekeys, ResetsLog}
+use Rattle.kadm_session.specs.declared.intake.Asked.TheVariants.{Nothing, Refused, Does, Rekeys, ResetsLog, WritesDump}
 use Rattle.kdb_base.specs.Moment.{Moment}
 use Rattle.kdb_base.specs.declared.outcomes.Refusal.{Refusal}
 use Rattle.kdb_histories.proofs.Growing.{StaysValid}
@@ -184,6 +184,7 @@ line_shows valid (Does command) draws at has done = ask_shows valid (ask_of comm
 line_shows valid (Rekeys glob) draws at has done =
     rekeyings_show valid (names_told glob (princ_names at.state.princs)) (moment_in draws) (begun at draws.stream) done.0 has done.1
 line_shows valid ResetsLog draws at has done = reset_shown valid (moment_in draws) at done.0 has
+line_shows valid WritesDump draws at has done = has
 
 events_reach : (valid : StaysValid) (asked : Asked) (draws : Draws) (at : Seen) (q : Place) → IsMoment (moment_in draws) → HasShown at → EventsReach asked draws at q → ShowsSome q
 events_reach valid Nothing draws at q moment has h = absurd h
@@ -192,6 +193,7 @@ events_reach valid (Does command) draws at q moment has may = ask_reach valid (a
 events_reach valid (Rekeys glob) draws at q moment has h =
     rekeyings_reach valid (names_told glob (princ_names at.state.princs)) (moment_in draws) (begun at draws.stream) q moment has h
 events_reach valid ResetsLog draws at q moment has h = reset_reach valid (moment_in draws) at q moment has h.1
+events_reach valid WritesDump draws at q moment has h = absurd h
 
 line_reach : (valid : StaysValid) (asked : Asked) (draws : Draws) (at : Seen) (q : Place) → HasShown at → LineReaches asked draws at q → ShowsSome q
 line_reach valid asked draws at q has (inl same) = same_shown at q has same

@@ -14,6 +14,8 @@ use Rattle.kdb_histories.specs.Seen.{Seen, seen}
 use Rattle.kdb_places.specs.Places.{Place}
 use Rattle.kdb_plain.specs.declared.states.State.{State}
 use Rattle.kdb_ports.proofs.Told.{after_told-nil}
+use Rattle.kdb_ports.specs.Parts.{SaidPart}
+use Rattle.kdb_ports.specs.Told.{after_told}
 use Rattle.primary_core.specs.Opened.{HasState, Opened, place_of}
 use Rattle.store_files.specs.Found.{recovers}
 use Rattle.store_files.specs.Recovery.{RecoversTo}
@@ -48,7 +50,7 @@ follows_unknown taken taken' refused refused' told left at later = record {
   ends = refl;
   stops = λ out first others h. tt;
   between = λ out place h. tt;
-  rests = λ out place h. tt;
+  rests = λ begun out place h. tt;
   leaves = λ c h. tt;
   done = λ h. tt;
 }
@@ -131,29 +133,33 @@ between_here taken refused None told at = tt
 between_here taken refused (Some commands) None at = tt
 between_here taken refused (Some commands) (Some draws) at = none_answered taken commands draws at
 
+-- nothing of a text was written
+said_nothing : (text : List ℕ) (before out : Option (List ℕ)) → out ≡ before → SaidPart text before out
+said_nothing text before out same = record { count = 0; part = same ∙ sym (after_told-nil before) }
+
 -- between two lines it rests
-answered_between : (taken out : Option (List ℕ)) (commands : List Asked) (draws : Draws) (at : Seen) (later : Place) → AnsweredBetween taken commands draws at out later → AnsweredWhole taken commands draws at out later
-answered_between taken out commands draws at later between =
+answered_between : (begun : List Asked → Place → List ℕ) (taken out : Option (List ℕ)) (commands : List Asked) (draws : Draws) (at : Seen) (later : Place) → AnsweredBetween taken commands draws at out later → AnsweredWhole begun taken commands draws at out later
+answered_between begun taken out commands draws at later between =
     let so_far = said (take between.count commands) draws at in
     record {
       count = between.count;
       within = between.within;
-      out_is = between.out_is;
+      out_is = said_nothing (begun (drop between.count commands) so_far.at.place) (after_told taken so_far.bytes) out between.out_is;
       place_is = subst (λ (p : Place). Contains (rests_before (drop between.count commands) so_far.draws so_far.at) p) (sym between.place_is) (here_rests (drop between.count commands) so_far.draws so_far.at);
       performed = between.performed;
     }
 
-rests_by_between : (c : Course) (out : Option (List ℕ)) (place : Place) → RestsBetween c out place → Rests c out place
+rests_by_between : (begun : List Asked → Place → List ℕ) (c : Course) (out : Option (List ℕ)) (place : Place) → RestsBetween c out place → Rests begun c out place
 unfolding RestsBetween Rests
-rests_by_between c out place between = by c.commands c.draws between
+rests_by_between begun c out place between = by c.commands c.draws between
   where
-    by : (commands : Option (List Asked)) (told : Option Draws) → rests_between_by c.taken commands told c.at out place → rests_by c.taken commands told c.at out place
+    by : (commands : Option (List Asked)) (told : Option Draws) → rests_between_by c.taken commands told c.at out place → rests_by begun c.taken commands told c.at out place
     by None told h = tt
     by (Some commands) None h = tt
-    by (Some commands) (Some draws) h = answered_between c.taken out commands draws c.at place h
+    by (Some commands) (Some draws) h = answered_between begun c.taken out commands draws c.at place h
 
-pub between_rests : (c : Course) (out : Option (List ℕ)) (now : View) → IsBetweenLines c out now → IsAtRest c out now
-between_rests c out now between = record { place = between.place; may = rests_by_between c out between.place between.may; stands = between.stands }
+pub between_rests : (begun : List Asked → Place → List ℕ) (c : Course) (out : Option (List ℕ)) (now : View) → IsBetweenLines c out now → IsAtRest begun c out now
+between_rests begun c out now between = record { place = between.place; may = rests_by_between begun c out between.place between.may; stands = between.stands }
 
 reached_here : (commands : List Asked) (draws : Draws) (at : Seen) → IsReached commands draws at at.place
 unfolding IsReached
@@ -176,14 +182,14 @@ leaves_here taken refused commands told at now recovered =
 -- ---- the whole session, by what follows
 
 pub follows_itself : (c : Course) → Follows c c
-follows_itself c = record { ends = refl; stops = λ out first others h. h; between = λ out place h. h; rests = λ out place h. h; leaves = λ files h. h; done = λ h. h }
+follows_itself c = record { ends = refl; stops = λ out first others h. h; between = λ out place h. h; rests = λ begun out place h. h; leaves = λ files h. h; done = λ h. h }
 
 pub follows_then : (a b c : Course) → Follows a b → Follows b c → Follows a c
 follows_then a b c one two = record {
   ends = one.ends ∙ two.ends;
   stops = λ out first others h. one.stops out first others (two.stops out first others h);
   between = λ out place h. one.between out place (two.between out place h);
-  rests = λ out place h. one.rests out place (two.rests out place h);
+  rests = λ begun out place h. one.rests begun out place (two.rests begun out place h);
   leaves = λ files h. one.leaves files (two.leaves files h);
   done = λ h. one.done (two.done h);
 }
@@ -219,47 +225,53 @@ between_from c o taken refused commands told now was recovered = record {
   stands = recovered;
 }
 
-pub rests_from : (c : Course) (o : Opened) (taken : Option (List ℕ)) (refused : Bool) (commands : Option (List Asked)) (told : Option Draws) (now : View)
-    → GoesOnFrom c o taken refused commands told → RecoversTo (place_of o) now → IsAtRest c taken now
-rests_from c o taken refused commands told now was recovered = between_rests c taken now (between_from c o taken refused commands told now was recovered)
+pub rests_from : (begun : List Asked → Place → List ℕ) (c : Course) (o : Opened) (taken : Option (List ℕ)) (refused : Bool) (commands : Option (List Asked)) (told : Option Draws) (now : View)
+    → GoesOnFrom c o taken refused commands told → RecoversTo (place_of o) now → IsAtRest begun c taken now
+rests_from begun c o taken refused commands told now was recovered = between_rests begun c taken now (between_from c o taken refused commands told now was recovered)
 
 -- it rests where a later course may rest
-pub rests_on : (c : Course) (o : Opened) (taken : Option (List ℕ)) (refused : Bool) (commands : Option (List Asked)) (told : Option Draws) (out : Option (List ℕ)) (now : View)
+pub rests_on : (begun : List Asked → Place → List ℕ) (c : Course) (o : Opened) (taken : Option (List ℕ)) (refused : Bool) (commands : Option (List Asked)) (told : Option Draws) (out : Option (List ℕ)) (now : View)
     → (was : GoesOnFrom c o taken refused commands told)
-    → IsAtRest (course taken refused commands told (seen (place_of o) was.state)) out now
-    → IsAtRest c out now
-rests_on c o taken refused commands told out now was rest = record { place = rest.place; may = was.follows.rests out rest.place rest.may; stands = rest.stands }
+    → IsAtRest begun (course taken refused commands told (seen (place_of o) was.state)) out now
+    → IsAtRest begun c out now
+rests_on begun c o taken refused commands told out now was rest = record { place = rest.place; may = was.follows.rests begun out rest.place rest.may; stands = rest.stands }
 
-may_rest_halfway : (taken : Option (List ℕ)) (refused : Bool) (asked : Asked) (more : List Asked) (told : Option Draws) (at : Seen) (place : Place)
-    → MayRest asked told at place → Rests (course taken refused (Some (asked ∷ more)) told at) taken place
+may_rest_halfway : (begun : List Asked → Place → List ℕ) (taken : Option (List ℕ)) (refused : Bool) (asked : Asked) (more : List Asked) (told : Option Draws) (at : Seen) (place : Place)
+    → MayRest asked told at place → Rests begun (course taken refused (Some (asked ∷ more)) told at) taken place
 unfolding Rests said ArePerformed
-may_rest_halfway taken refused asked more None at place may = tt
-may_rest_halfway taken refused asked more (Some draws) at place may = record { count = 0; within = omega arith; out_is = sym (after_told-nil taken); place_is = may; performed = tt }
+may_rest_halfway begun taken refused asked more None at place may = tt
+may_rest_halfway begun taken refused asked more (Some draws) at place may = record {
+  count = 0;
+  within = omega arith;
+  out_is = said_nothing (begun (asked ∷ more) at.place) (after_told taken []) taken (sym (after_told-nil taken));
+  place_is = may;
+  performed = tt;
+}
 
 -- a line stopped halfway, and nothing was written
-pub rests_halfway : {D : Type 0} (g : Ghosts D) (new : D) (taken : Option (List ℕ)) (refused : Bool) (asked : Asked) (more : List Asked) (told : Option Draws) (at : Seen)
-    → IsHalfway g new asked told at → g.tells → IsAtRest (course taken refused (Some (asked ∷ more)) told at) taken (g.view new)
-rests_halfway g new taken refused asked more told at half tells = record {
+pub rests_halfway : {D : Type 0} (g : Ghosts D) (new : D) (begun : List Asked → Place → List ℕ) (taken : Option (List ℕ)) (refused : Bool) (asked : Asked) (more : List Asked) (told : Option Draws) (at : Seen)
+    → IsHalfway g new asked told at → g.tells → IsAtRest begun (course taken refused (Some (asked ∷ more)) told at) taken (g.view new)
+rests_halfway g new begun taken refused asked more told at half tells = record {
   place = half.place;
-  may = may_rest_halfway taken refused asked more told at half.place half.may;
+  may = may_rest_halfway begun taken refused asked more told at half.place half.may;
   stands = half.stands tells;
 }
 
-rests_unknown : (taken : Option (List ℕ)) (refused : Bool) (told : Option Draws) (at : Seen) (c : Course) (out : Option (List ℕ)) (now : View)
-    → IsAtRest c out now → IsAtRest (course taken refused None told at) out now
+rests_unknown : (begun : List Asked → Place → List ℕ) (taken : Option (List ℕ)) (refused : Bool) (told : Option Draws) (at : Seen) (c : Course) (out : Option (List ℕ)) (now : View)
+    → IsAtRest begun c out now → IsAtRest begun (course taken refused None told at) out now
 unfolding Rests
-rests_unknown taken refused told at c out now rest = record { place = rest.place; may = tt; stands = rest.stands }
+rests_unknown begun taken refused told at c out now rest = record { place = rest.place; may = tt; stands = rest.stands }
 
 -- the first of what comes stopped so
-pub rests_all : (asked : Asked) (old new : Option (List Asked)) (taken : Option (List ℕ)) (refused : Bool) (told : Option Draws) (at : Seen) (out : Option (List ℕ)) (now : View)
+pub rests_all : (begun : List Asked → Place → List ℕ) (asked : Asked) (old new : Option (List Asked)) (taken : Option (List ℕ)) (refused : Bool) (told : Option Draws) (at : Seen) (out : Option (List ℕ)) (now : View)
     → old ≡ before_commands asked new
-    → ((more : List Asked) → IsAtRest (course taken refused (Some (asked ∷ more)) told at) out now)
-    → IsAtRest (course taken refused old told at) out now
-rests_all asked old None taken refused told at out now is step =
-    subst (λ (c : Option (List Asked)). IsAtRest (course taken refused c told at) out now) (sym is)
-    (rests_unknown taken refused told at (course taken refused (Some (asked ∷ [])) told at) out now (step []))
-rests_all asked old (Some more) taken refused told at out now is step =
-    subst (λ (c : Option (List Asked)). IsAtRest (course taken refused c told at) out now) (sym is) (step more)
+    → ((more : List Asked) → IsAtRest begun (course taken refused (Some (asked ∷ more)) told at) out now)
+    → IsAtRest begun (course taken refused old told at) out now
+rests_all begun asked old None taken refused told at out now is step =
+    subst (λ (c : Option (List Asked)). IsAtRest begun (course taken refused c told at) out now) (sym is)
+    (rests_unknown begun taken refused told at (course taken refused (Some (asked ∷ [])) told at) out now (step []))
+rests_all begun asked old (Some more) taken refused told at out now is step =
+    subst (λ (c : Option (List Asked)). IsAtRest begun (course taken refused c told at) out now) (sym is) (step more)
 
 -- no line is left
 ends_here : (taken : Option (List ℕ)) (refused : Bool) (commands : Option (List Asked)) (told : Option Draws) (o : Opened) (s : State) (end : Ending)

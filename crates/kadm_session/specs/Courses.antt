@@ -1,9 +1,11 @@
 -- The course of a session from some point on: how it ends, where it may stop early, and what a crash may leave of the disk.
 use Rattle.std.specs.Prelude.{ℕ, ◌≡◌, ◌≤◌, ◌+◌, ◌⊎◌, Bool, ◌||◌, List, [], ◌∷◌, ◌++◌, Option, Some, None, drop, length, take, ⊤}
 use Rattle.session_base.specs.Draws.{Draws}
+use Rattle.kadm_session.specs.Dumping.{dump_lines}
 use Rattle.kadm_session.specs.Events.{ArePerformed, IsPerformed, IsReached, RecoversWhere}
 use Rattle.kadm_session.specs.Steps.{Said, draws_after, halfway, places_by, places_made, said, seen_after, text_to}
 use Rattle.kadm_session.specs.declared.intake.Asked.{Asked}
+use Rattle.kadm_session.specs.declared.intake.Asked.TheVariants.{WritesDump}
 use Rattle.kdb_disk.specs.Files.{Files}
 use Rattle.kdb_disk.specs.View.{View}
 use Rattle.kdb_histories.specs.Seen.{Seen, seen}
@@ -105,7 +107,16 @@ pub record IsBetweenLines (c : Course) (out : Option (List ℕ)) (now : View) : 
   pub may : RestsBetween c out place
   pub stands : RecoversTo place now
 
--- ---- where it stops for want of memory
+-- ---- where it stops for want of memory or of random bytes
+
+-- what may be written of the next line, of which a part may be: nothing
+unfoldable pub nothing_begun : List Asked → Place → List ℕ
+nothing_begun commands p = []
+
+-- or where it asks for a dump, which wants memory while it is written, the lines of that
+unfoldable pub lines_begun : List Asked → Place → List ℕ
+lines_begun (WritesDump ∷ commands) p = dump_lines p
+lines_begun other p = []
 
 -- where it may stand before the reply to the next command: as behind the one before, or where the next rekeys many, behind some of these
 abbrev pub rests_before : List Asked → Draws → Seen → List Place
@@ -113,27 +124,27 @@ rests_before [] draws at = at.place ∷ []
 rests_before (asked ∷ commands) draws at = at.place ∷ halfway asked draws at
 
 -- So many of the commands were done, and the replies to them are written in full. No change stands without its reply, but that of the next
--- command some rekeyings may be made.
-pub record AnsweredWhole (taken : Option (List ℕ)) (commands : List Asked) (draws : Draws) (at : Seen) (out : Option (List ℕ)) (later : Place) : Type 0 where
+-- command some rekeyings may be made. Of the next line a front of this text may be written.
+pub record AnsweredWhole (begun : List Asked → Place → List ℕ) (taken : Option (List ℕ)) (commands : List Asked) (draws : Draws) (at : Seen) (out : Option (List ℕ)) (later : Place) : Type 0 where
   pub count : ℕ
   pub within : count ≤ length commands
-  pub out_is : out ≡ after_told taken (said (take count commands) draws at).bytes
+  pub out_is : SaidPart (begun (drop count commands) (said (take count commands) draws at).at.place) (after_told taken (said (take count commands) draws at).bytes) out
   pub place_is : Contains (rests_before (drop count commands) (said (take count commands) draws at).draws (said (take count commands) draws at).at) later
   pub performed : ArePerformed (take count commands) draws at
 
-abbrev pub rests_by : Option (List ℕ) → Option (List Asked) → Option Draws → Seen → Option (List ℕ) → Place → Type 0
-rests_by taken None draws at out later = ⊤
-rests_by taken (Some commands) None at out later = ⊤
-rests_by taken (Some commands) (Some draws) at out later = AnsweredWhole taken commands draws at out later
+abbrev pub rests_by : (List Asked → Place → List ℕ) → Option (List ℕ) → Option (List Asked) → Option Draws → Seen → Option (List ℕ) → Place → Type 0
+rests_by begun taken None draws at out later = ⊤
+rests_by begun taken (Some commands) None at out later = ⊤
+rests_by begun taken (Some commands) (Some draws) at out later = AnsweredWhole begun taken commands draws at out later
 
 -- the same, where the commands, the clock and the random bytes are told
-unfoldable pub Rests : Course → Option (List ℕ) → Place → Type 0
-Rests c out later = rests_by c.taken c.commands c.draws c.at out later
+unfoldable pub Rests : (List Asked → Place → List ℕ) → Course → Option (List ℕ) → Place → Type 0
+Rests begun c out later = rests_by begun c.taken c.commands c.draws c.at out later
 
 -- a session has stopped so, with this in its sink, and what a crash leaves of its disk is that place alone
-pub record IsAtRest (c : Course) (out : Option (List ℕ)) (now : View) : Type 0 where
+pub record IsAtRest (begun : List Asked → Place → List ℕ) (c : Course) (out : Option (List ℕ)) (now : View) : Type 0 where
   pub place : Place
-  pub may : Rests c out place
+  pub may : Rests begun c out place
   pub stands : RecoversTo place now
 
 -- ---- what a crash may leave at any moment of it
@@ -166,7 +177,7 @@ pub record Follows (earlier later : Course) : Type 0 where
   pub ends : ending earlier ≡ ending later
   pub stops : (out : Option (List ℕ)) (first : Place) (others : List Place) → Stops later out first others → Stops earlier out first others
   pub between : (out : Option (List ℕ)) (place : Place) → RestsBetween later out place → RestsBetween earlier out place
-  pub rests : (out : Option (List ℕ)) (place : Place) → Rests later out place → Rests earlier out place
+  pub rests : (begun : List Asked → Place → List ℕ) (out : Option (List ℕ)) (place : Place) → Rests begun later out place → Rests begun earlier out place
   pub leaves : (c : Files) → Leaves later c → Leaves earlier c
   pub done : IsDoneWhole later → IsDoneWhole earlier
 

@@ -5,7 +5,7 @@ use Rattle.kadm_session.specs.Rekeying.{Progress, begun, one_more, rekey_ask}
 use Rattle.kadm_session.specs.Renewing.{is_at_time_end, renewed_place}
 use Rattle.kadm_session.specs.Steps.{ask_of, draws_after, seen_after}
 use Rattle.kadm_session.specs.declared.intake.Asked.{Asked}
-use Rattle.kadm_session.specs.declared.intake.Asked.TheVariants.{Nothing, Refused, Does, Rekeys, ResetsLog}
+use Rattle.kadm_session.specs.declared.intake.Asked.TheVariants.{Nothing, Refused, Does, Rekeys, ResetsLog, WritesDump}
 use Rattle.kdb_base.specs.Moment.{Moment}
 use Rattle.kdb_base.specs.declared.outcomes.Refusal.{Refusal}
 use Rattle.kdb_disk.specs.Files.{Files}
@@ -57,7 +57,7 @@ RekeyingsReach (word ∷ words) clock p q =
 -- ---- one line
 
 -- What a line asks for was done at the moment that came next: nothing, one event, or one after another. The log is begun anew where a later
--- time is left.
+-- time is left. A dump is no event.
 abbrev pub IsPerformed : Asked → Draws → Seen → Type 0
 IsPerformed Nothing draws at = ⊤
 IsPerformed (Refused refusal) draws at = ⊤
@@ -67,6 +67,7 @@ IsPerformed (Rekeys glob) draws at =
 IsPerformed ResetsLog draws at =
     IsMoment (moment_in draws)
     × (is_at_time_end at ≡ false → Resets at.place (moment_in draws) (stage (renewed_place (moment_in draws) at.place) Anew ∷ []))
+IsPerformed WritesDump draws at = ⊤
 
 -- the events of a line stopped at this place
 abbrev pub EventsReach : Asked → Draws → Seen → Place → Type 0
@@ -76,6 +77,7 @@ EventsReach (Does command) draws at q = MayReach at.place at.state (Perform (ask
 EventsReach (Rekeys glob) draws at q =
     RekeyingsReach (names_told glob (princ_names at.state.princs)) (moment_in draws) (begun at draws.stream) q
 EventsReach ResetsLog draws at q = (is_at_time_end at ≡ false) × MayReach at.place at.state (ResetLog (moment_in draws)) q
+EventsReach WritesDump draws at q = ⊥
 
 -- The place is as before the line, or one at which its events stopped.
 abbrev pub LineReaches : Asked → Draws → Seen → Place → Type 0

@@ -6,7 +6,7 @@ use Rattle.kadm_commands.specs.declared.commands.Command.TheVariants as command
 use Rattle.kadm_lines.specs.Lines.{Seen}
 use Rattle.primary_core.specs.Deciding.{is_judged}
 use Rattle.kadm_session.specs.declared.intake.Asked.{Asked}
-use Rattle.kadm_session.specs.declared.intake.Asked.TheVariants.{Nothing, Refused, Does, Rekeys, ResetsLog}
+use Rattle.kadm_session.specs.declared.intake.Asked.TheVariants.{Nothing, Refused, Does, Rekeys, ResetsLog, WritesDump}
 use Rattle.kadm_wire.specs.LineReadings.{reading}
 use Rattle.kdb_base.specs.declared.outcomes.Refusal.{Refusal}
 use Rattle.kdb_base.specs.declared.outcomes.Refusal.TheVariants.{BadLine, LineTooLong}
@@ -29,9 +29,10 @@ is_stash other = false
 abbrev pub is_event : Command → Bool
 is_event asked = is_judged asked || is_stash asked
 
--- A rekeying of many is an event for each of them. Another command that is not one event of a primary is no line of this program yet.
+-- A rekeying of many is an event for each of them, and a dump is none. Each other command is one event of a primary.
 abbrev pub asked_else : Command → Asked
 asked_else (command.RekeyPrincs glob) = Rekeys glob
+asked_else command.Dump = WritesDump
 asked_else other = Refused BadLine
 
 abbrev pub asked_for : Command → Asked
@@ -64,3 +65,8 @@ IsAsked realm (Refused refusal) = Unit {0}
 IsAsked realm (Does command) = IsLineCommand realm command
 IsAsked realm (Rekeys glob) = Unit {0}
 IsAsked realm ResetsLog = Unit {0}
+IsAsked realm WritesDump = Unit {0}
+
+abbrev pub is_dump : Asked → Bool
+is_dump WritesDump = true
+is_dump other = false

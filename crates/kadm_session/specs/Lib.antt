@@ -1,3 +1,4 @@
+pub mod Dumping
 pub mod Input
 pub mod Intake
 pub mod Rekeying

@@ -5,11 +5,12 @@ use Rattle.kadm_commands.specs.declared.commands.Command.{Command}
 use Rattle.kadm_commands.specs.declared.replies.Reply.{Reply}
 use Rattle.kadm_commands.specs.declared.replies.Reply.TheVariants as reply
 use Rattle.session_base.specs.Draws.{Draws, behind_command, behind_moment, block_in, moment_in}
+use Rattle.kadm_session.specs.Dumping.{dump_answer}
 use Rattle.kadm_session.specs.Rekeying.{Progress, begun, rekeyed, rekeyed_reply}
 use Rattle.kadm_session.specs.Renewing.{after_reset, places_reset, reset_reply}
 use Rattle.session_base.specs.Replies.{text_of}
 use Rattle.kadm_session.specs.declared.intake.Asked.{Asked}
-use Rattle.kadm_session.specs.declared.intake.Asked.TheVariants.{Nothing, Refused, Does, Rekeys, ResetsLog}
+use Rattle.kadm_session.specs.declared.intake.Asked.TheVariants.{Nothing, Refused, Does, Rekeys, ResetsLog, WritesDump}
 use Rattle.kdb_base.specs.Moment.{Moment}
 use Rattle.kdb_histories.specs.Asks.{Answer, Ask, Replied}
 use Rattle.kdb_histories.specs.Seen.{Seen, after_ask, answer_at, made_at}
@@ -43,13 +44,14 @@ reply_in_answer other = None
 abbrev pub rekeyed_by : Option (List ℕ) → Draws → Seen → Progress
 rekeyed_by glob draws at = rekeyed (names_told glob (princ_names at.state.princs)) (moment_in draws) (begun at draws.stream)
 
--- a skipped line has no reply
+-- A skipped line has no reply. A dump is no value of a reply: what is written for it is a text alone.
 unfoldable pub reply_to : Asked → Draws → Seen → Option Reply
 reply_to Nothing draws at = None
 reply_to (Refused refusal) draws at = Some (reply.Refused refusal)
 reply_to (Does command) draws at = reply_in_answer (answer_at (ask_of command draws at) at)
 reply_to (Rekeys glob) draws at = Some (rekeyed_reply (rekeyed_by glob draws at))
 reply_to ResetsLog draws at = Some (reset_reply (moment_in draws) at)
+reply_to WritesDump draws at = None
 
 -- the place and the state after it
 unfoldable pub seen_after : Asked → Draws → Seen → Seen
@@ -58,6 +60,7 @@ seen_after (Refused refusal) draws at = at
 seen_after (Does command) draws at = after_ask (ask_of command draws at) at
 seen_after (Rekeys glob) draws at = (rekeyed_by glob draws at).at
 seen_after ResetsLog draws at = after_reset (moment_in draws) at
+seen_after WritesDump draws at = at
 
 -- the places that it makes: none, those of its change, those of the rekeyings, or that of the log begun anew on request; a change has one, or
 -- before it that of a log begun anew
@@ -67,6 +70,7 @@ places_by (Refused refusal) draws at = []
 places_by (Does command) draws at = places (made_at (ask_of command draws at) at)
 places_by (Rekeys glob) draws at = (rekeyed_by glob draws at).made
 places_by ResetsLog draws at = places_reset (moment_in draws) at
+places_by WritesDump draws at = []
 
 -- those at which it may stop for want of memory or of random bytes: rekeyings that were settled before stay
 abbrev pub halfway : Asked → Draws → Seen → List Place
@@ -74,13 +78,14 @@ halfway (Rekeys glob) draws at = places_by (Rekeys glob) draws at
 halfway other draws at = []
 
 -- A line that gives no command reads no clock and draws nothing. Of many that are rekeyed each has its own 512 bytes, up to the first that
--- is refused. A log that is begun anew on request takes a moment alone.
+-- is refused. A log that is begun anew on request takes a moment alone, and a dump what each command takes.
 unfoldable pub draws_after : Asked → Draws → Seen → Draws
 draws_after Nothing draws at = draws
 draws_after (Refused refusal) draws at = draws
 draws_after (Does command) draws at = behind_command draws
 draws_after (Rekeys glob) draws at = record { moments = later_moments draws.moments; stream = (rekeyed_by glob draws at).stream }
 draws_after ResetsLog draws at = behind_moment draws
+draws_after WritesDump draws at = behind_command draws
 
 abbrev pub refuses : Reply → Bool
 refuses (reply.Refused refusal) = true
@@ -90,8 +95,13 @@ abbrev pub is_refusal : Option Reply → Bool
 is_refusal None = false
 is_refusal (Some reply) = refuses reply
 
+-- what is written for a line of which this is the reply, at this place: the reply, or a dump
+abbrev pub line_text : Asked → Place → Option Reply → List ℕ
+line_text WritesDump p reply = dump_answer p
+line_text other p reply = text_of reply
+
 abbrev pub text_to : Asked → Draws → Seen → List ℕ
-text_to asked draws at = text_of (reply_to asked draws at)
+text_to asked draws at = line_text asked at.place (reply_to asked draws at)
 
 -- ---- one line after another
 
@@ -102,12 +112,13 @@ pub record Said : Type 0 where
   pub at : Seen
   pub draws : Draws
 
-abbrev pub after_reply : Option Reply → Said → Said
-after_reply reply later = record { bytes = text_of reply ++ later.bytes; refused = is_refusal reply || later.refused; at = later.at; draws = later.draws }
+abbrev pub after_reply : List ℕ → Option Reply → Said → Said
+after_reply text reply later = record { bytes = text ++ later.bytes; refused = is_refusal reply || later.refused; at = later.at; draws = later.draws }
 
 unfoldable pub said : List Asked → Draws → Seen → Said
 said [] draws at = record { bytes = []; refused = false; at = at; draws = draws }
-said (asked ∷ commands) draws at = after_reply (reply_to asked draws at) (said commands (draws_after asked draws at) (seen_after asked draws at))
+said (asked ∷ commands) draws at =
+    after_reply (text_to asked draws at) (reply_to asked draws at) (said commands (draws_after asked draws at) (seen_after asked draws at))
 
 -- the places that they make, in their order
 unfoldable pub places_made : List Asked → Draws → Seen → List Place

@@ -20,7 +20,7 @@ use std::alloc::Global;
 pub enum Asked {
     /// The line is skipped.
     Nothing,
-    /// The line is not of the grammar, or too long, or of a command that is no line yet.
+    /// The line is not of the grammar, or too long.
     Refused(Refusal),
     /// The line gives a command that is one event of a primary.
     Does(Command),
@@ -28,6 +28,8 @@ pub enum Asked {
     Rekeys(Option<Blob>),
     /// The log is begun anew on request. No line of an input gives it.
     ResetsLog,
+    /// The line asks for the whole database as text.
+    WritesDump,
 }
 
 /// What comes next of the input.
@@ -87,13 +89,14 @@ fn is_event(command: &Command) -> bool
     }
 }
 
-/// A rekeying of many is an event for each of them; another command that is not one event is no line of the program.
+/// A rekeying of many is an event for each of them, and a dump is none; each other command is one event.
 fn asked_else(command: Command) -> Asked
     ensures value { result ≡ asked_else command }
     ensures valid { (realm : List ℕ) → IsAsked realm result }
 {
     match command {
         Command::RekeyPrincs(glob) => Asked::Rekeys(glob),
+        Command::Dump => Asked::WritesDump,
         _ => Asked::Refused(Refusal::BadLine),
     }
 }

@@ -3,6 +3,7 @@
 
 pub mod clients;
 pub mod commands;
+mod dumping;
 pub mod intake;
 pub mod laws;
 mod moments;

@@ -29,6 +29,7 @@ use primary_core::Primary;
 use primary_rekeying::rekey_now;
 use princ_name::laws::printed_form_spells_the_name;
 use rekey_work::Settled;
+use row_keys::MasterRing;
 use session_base::{Printed, SessionHalt, draw, print};
 use std::alloc::Global;
 use store_files::laws::what_is_kept_is_recovered;
@@ -62,6 +63,7 @@ fn rekey_with<D: Disk>(
     alloc: Global,
     primary: &mut Primary,
     disk: &mut D,
+    ring: &MasterRing,
     name: &[u8],
     now: Time,
     random: &[u8],
@@ -69,6 +71,7 @@ fn rekey_with<D: Disk>(
 ) -> Result<Result<Totals, Refusal>, SessionHalt>
     requires printed { IsPrinted name.now }
     requires other { is_master name.now ≡ false }
+    requires ring { ring.now ≡ primary.old.masters }
     requires random { length random.now ≡ 512 }
     requires few { sum_of totals < 4294967295 }
     requires on { D.tells → IsOnDisk primary.old.kept (D.view disk.old) }
@@ -79,6 +82,7 @@ fn rekey_with<D: Disk>(
     ensures on { D.tells → OnOk result (IsOnDisk primary.new.kept (D.view disk.new)) }
     ensures whole { OnOk result (primary.new.kept.broken ≡ false) }
     ensures realm { OnOk result (primary.new.kept.realm ≡ primary.old.kept.realm) }
+    ensures masters { OnOk result (primary.new.masters ≡ primary.old.masters) }
     ensures memory { D.tells → result ≡ Err SessionHalt.MemoryOut → IsOnDisk primary.new.kept (D.view disk.new) }
     ensures memory_place { result ≡ Err SessionHalt.MemoryOut → place_of primary.new ≡ place_of primary.old }
     ensures halt { IfErr result IsPerformHalt }
@@ -87,7 +91,7 @@ fn rekey_with<D: Disk>(
 {
     primary.holds_opened();
     printed_form_spells_the_name();
-    match rekey_now(alloc, primary, disk, name, now, block_of(random)) {
+    match rekey_now(alloc, primary, disk, ring, name, now, block_of(random)) {
         Ok(settled) => Ok(Ok(counted(&settled, totals))),
         Err(Stop::Refused(why)) => Ok(Err(why)),
         Err(Stop::Halt(halt)) => Err(SessionHalt::from(halt)),
@@ -100,12 +104,14 @@ fn rekey_one<D: Disk, E: Entropy>(
     primary: &mut Primary,
     disk: &mut D,
     entropy: &mut E,
+    ring: &MasterRing,
     name: &[u8],
     now: Time,
     totals: Totals,
 ) -> Result<Result<Totals, Refusal>, SessionHalt>
     requires printed { IsPrinted name.now }
     requires other { is_master name.now ≡ false }
+    requires ring { ring.now ≡ primary.old.masters }
     requires few { sum_of totals < 4294967295 }
     requires on { D.tells → IsOnDisk primary.old.kept (D.view disk.old) }
     requires whole { primary.old.kept.broken ≡ false }
@@ -115,6 +121,7 @@ fn rekey_one<D: Disk, E: Entropy>(
     ensures on { D.tells → OnOk result (IsOnDisk primary.new.kept (D.view disk.new)) }
     ensures whole { OnOk result (primary.new.kept.broken ≡ false) }
     ensures realm { OnOk result (primary.new.kept.realm ≡ primary.old.kept.realm) }
+    ensures masters { OnOk result (primary.new.masters ≡ primary.old.masters) }
     ensures memory { D.tells → result ≡ Err SessionHalt.MemoryOut → IsOnDisk primary.new.kept (D.view disk.new) }
     ensures memory_place { result ≡ Err SessionHalt.MemoryOut → place_of primary.new ≡ place_of primary.old }
     ensures drawn { result ≡ Err SessionHalt.DrawFault → (disk.new ≡ disk.old) × (primary.new ≡ primary.old) }
@@ -124,7 +131,16 @@ fn rekey_one<D: Disk, E: Entropy>(
 {
     what_is_kept_is_recovered(disk);
     match draw(alloc, entropy, 512) {
-        Ok(random) => rekey_with(alloc, primary, disk, name, now, random.as_slice(), totals),
+        Ok(random) => rekey_with(
+            alloc,
+            primary,
+            disk,
+            ring,
+            name,
+            now,
+            random.as_slice(),
+            totals,
+        ),
         Err(halt) => Err(halt),
     }
 }
@@ -135,11 +151,13 @@ fn rekey_all<D: Disk, E: Entropy>(
     primary: &mut Primary,
     disk: &mut D,
     entropy: &mut E,
+    ring: &MasterRing,
     names: &[Blob],
     now: Time,
 ) -> Result<Reply, SessionHalt>
     requires printed { All IsPrinted names.now }
     requires others { All (λ name. is_master name ≡ false) names.now }
+    requires ring { ring.now ≡ primary.old.masters }
     requires few { length names.now < 4294967295 }
     requires on { D.tells → IsOnDisk primary.old.kept (D.view disk.old) }
     requires whole { primary.old.kept.broken ≡ false }
@@ -161,7 +179,16 @@ fn rekey_all<D: Disk, E: Entropy>(
         gone: 0,
     };
     for name in names {
-        match rekey_one(alloc, primary, disk, entropy, name.as_slice(), now, totals) {
+        match rekey_one(
+            alloc,
+            primary,
+            disk,
+            entropy,
+            ring,
+            name.as_slice(),
+            now,
+            totals,
+        ) {
             Ok(Ok(more)) => totals = more,
             Ok(Err(why)) => return Ok(Reply::Refused(why)),
             Err(halt) => {
@@ -192,6 +219,28 @@ fn names_of(alloc: Global, primary: &Primary, glob: &Option<Blob>) -> Result<Nam
     }
 }
 
+// What a rekeying of many goes by: the names of the principals, and the master keys, from each of which what it wraps
+// with is derived once.
+#[derive(Drop)]
+struct Rekeying {
+    names: NameList,
+    ring: MasterRing,
+}
+
+// What a rekeying of the principals that a glob matches goes by.
+fn rekeying_of(alloc: Global, primary: &Primary, glob: &Option<Blob>) -> Result<Rekeying, MemoryOut>
+    requires whole { primary.now.kept.broken ≡ false }
+    ensures names { (s : State) → HasState primary.now s → IfOk result (λ begun. begun.names ≡ names_told glob.now (princ_names s.princs)) }
+    ensures printed { IfOk result (λ begun. All IsPrinted begun.names) }
+    ensures others { IfOk result (λ begun. All (λ name. is_master name ≡ false) begun.names) }
+    ensures few { IfOk result (λ begun. length begun.names < 4294967295) }
+    ensures ring { IfOk result (λ begun. begun.ring ≡ primary.now.masters) }
+{
+    let names = names_of(alloc, primary, glob)?;
+    let ring = MasterRing::new(alloc, primary.masters())?;
+    Ok(Rekeying { names, ring })
+}
+
 // Rekeys the principals that a glob matches, and gives the reply. The clock is read once.
 fn rekey_matching<D: Disk, C: Clock, E: Entropy>(
     alloc: Global,
@@ -215,11 +264,19 @@ fn rekey_matching<D: Disk, C: Clock, E: Entropy>(
     ensures faults { Counts (E.faults entropy.old) (E.faults entropy.new) (result ≡ Err SessionHalt.DrawFault) }
 {
     what_is_kept_is_recovered(disk);
-    match names_of(alloc, primary, glob) {
-        Ok(names) => {
+    match rekeying_of(alloc, primary, glob) {
+        Ok(begun) => {
             let now = clock.now();
             holds_moment(now);
-            rekey_all(alloc, primary, disk, entropy, names.as_slice(), now)
+            rekey_all(
+                alloc,
+                primary,
+                disk,
+                entropy,
+                &begun.ring,
+                begun.names.as_slice(),
+                now,
+            )
         }
         Err(_) => Err(SessionHalt::MemoryOut),
     }

@@ -2,25 +2,30 @@
 
 ghost use Rattle.std.specs.Prelude.{◌≡◌, ◌≢◌, ◌<◌, ◌∷◌, ◌||◌, IsTrue, Bool, false, List, [], ℕ, Option, Some, None, Ok, Err, IfErr, IfOk, OnOk, OnErr};
 ghost use Rattle.kadm_lines.specs.Reader.{work_left};
-ghost use Rattle.kadm_session.specs.Courses.{Ending, EndsAs, GoesOnFrom, IsAtRest, IsBetweenLines, IsDoneWhole, Leaves, Stops, course, ending};
+ghost use Rattle.kadm_session.specs.Courses.{Ending, EndsAs, GoesOnFrom, IsAtRest, IsBetweenLines, IsDoneWhole, Leaves, Stops, course, ending, lines_begun, nothing_begun};
 ghost use Rattle.session_base.specs.Stages.{IsStopped};
 ghost use Rattle.kadm_session.specs.Deciding.{Decides, IsHalfway, IsLineSafe};
 ghost use Rattle.session_base.specs.Draws.{told_draws};
 ghost use Rattle.session_base.specs.Halts.{Counts, IsAnswerHalt, IsPerformHalt};
 ghost use Rattle.kadm_session.specs.Input.{IsAsked};
+ghost use Rattle.kadm_session.specs.Dumping.{dump_lines};
 ghost use Rattle.kadm_session.specs.Intake.{coming, NoCommand, HasTaken};
 ghost use Rattle.session_base.specs.Replies.{reply_in, text_in, text_of};
-ghost use Rattle.kadm_session.specs.Steps.{is_refusal, refuses};
+ghost use Rattle.kadm_session.specs.Steps.{is_refusal, line_text, refuses};
 ghost use Rattle.kadm_session.specs.Turns.{GoesOn};
 ghost use Rattle.kadm_session.specs.declared.intake.Asked.{Asked as Asks};
+ghost use Rattle.kadm_session.specs.declared.intake.Asked.TheVariants.{WritesDump};
 ghost use Rattle.kdb_disk.specs.Frames.{IsCall};
 ghost use Rattle.kdb_disk.specs.Moments.{LeavesOnly};
 ghost use Rattle.kdb_histories.specs.Seen.{seen};
 ghost use Rattle.kdb_plain.specs.declared.states.State.{State};
+ghost use Rattle.kdb_ports.specs.Parts.{SaidPart};
+ghost use Rattle.kdb_ports.specs.Told.{after_told};
 ghost use Rattle.primary_core.specs.Opened.{HasState, place_of};
 ghost use Rattle.store_files.specs.Kept.{IsOnDisk};
 
 use crate::commands::perform;
+use crate::dumping::{AnswerStop, is_dump, take_draws, write_dump};
 use crate::intake::{Asked, Next, next_command};
 use crate::rekeying::rekey;
 use crate::renewing::renew;
@@ -50,10 +55,10 @@ fn is_refusal(printed: &Option<Printed>) -> bool
     }
 }
 
-// Does what is asked for, and gives the printed reply; none, where a line is skipped. The clock is read, and random
-// bytes are drawn, where a line gives a command; for a log that is begun anew on request the clock alone is read. Where
-// memory is wanted and not there, or no random bytes are given, nothing was done, but that of many that are rekeyed some
-// may be.
+// Does what is asked for, and gives the printed reply; none, where a line is skipped, and for a dump, which is written
+// without one. The clock is read, and random bytes are drawn, where a line gives a command; for a log that is begun anew on
+// request the clock alone is read. Where memory is wanted and not there, or no random bytes are given, nothing was done, but
+// that of many that are rekeyed some may be.
 fn decide<D: Disk, C: Clock, E: Entropy>(
     alloc: Global,
     primary: &mut Primary,
@@ -96,12 +101,40 @@ fn decide<D: Disk, C: Clock, E: Entropy>(
             Ok(printed) => Ok(Some(printed)),
             Err(halt) => Err(halt),
         },
+        Asked::WritesDump => match take_draws(alloc, clock, entropy) {
+            Ok(()) => Ok(None),
+            Err(halt) => Err(halt),
+        },
     }
 }
 
-// Does what a line asks for, and then writes the reply, if there is one. It answers whether that is a refusal. The
-// writing takes no memory: where memory is wanted and not there, nothing was written, and nothing was done, but that of
-// many that are rekeyed some may be.
+// Writes what is answered to a line: the reply that was printed, where there is one, or a dump. Only a dump takes
+// memory.
+fn write_answer<K: Sink>(
+    alloc: Global,
+    primary: &Primary,
+    sink: &mut K,
+    asked: &Asked,
+    printed: &Option<Printed>,
+) -> Result<(), AnswerStop>
+    requires text { text_in printed.now ≡ text_of (reply_in printed.now) }
+    ensures ok { OnOk result (K.taken sink.new ≡ after_told (K.taken sink.old) (line_text asked.now (place_of primary.now) (reply_in printed.now))) }
+    ensures err { OnErr result (SaidPart (line_text asked.now (place_of primary.now) (reply_in printed.now)) (K.taken sink.old) (K.taken sink.new)) }
+    ensures memory { result ≡ Err AnswerStop.MemoryOut → (asked.now ≡ WritesDump) × SaidPart (dump_lines (place_of primary.now)) (K.taken sink.old) (K.taken sink.new) }
+    ensures faults { Counts (K.faults sink.old) (K.faults sink.new) (result ≡ Err AnswerStop.WriteFault) }
+{
+    if is_dump(asked) {
+        return write_dump(alloc, primary, sink);
+    }
+    match write_any(sink, printed) {
+        Ok(()) => Ok(()),
+        Err(_) => Err(AnswerStop::WriteFault),
+    }
+}
+
+// Does what a line asks for, and then writes the answer. It says whether that is a refusal. But for that of a dump, the
+// writing takes no memory: where memory is wanted and not there, nothing was written but for a front of a dump's lines,
+// and nothing was done, but that of many that are rekeyed some may be.
 fn answer<K: Sink, D: Disk, C: Clock, E: Entropy>(
     alloc: Global,
     primary: &mut Primary,
@@ -125,10 +158,10 @@ fn answer<K: Sink, D: Disk, C: Clock, E: Entropy>(
     ensures whole { OnOk result (primary.new.kept.broken ≡ false) }
     ensures realm { OnOk result (primary.new.kept.realm ≡ primary.old.kept.realm) }
     ensures memory { D.tells → (s : State) (refused : Bool) (more : List Asks) → HasState primary.old s → result ≡ Err SessionHalt.MemoryOut
-        → IsAtRest (course (K.taken sink.old) refused (Some (asked.now ∷ more)) (told_draws (C.moments clock.old) (E.stream entropy.old)) (seen (place_of primary.old) s)) (K.taken sink.new) (D.view disk.new) }
+        → IsAtRest lines_begun (course (K.taken sink.old) refused (Some (asked.now ∷ more)) (told_draws (C.moments clock.old) (E.stream entropy.old)) (seen (place_of primary.old) s)) (K.taken sink.new) (D.view disk.new) }
     ensures drawn { D.tells → (s : State) (refused : Bool) (more : List Asks) → HasState primary.old s → result ≡ Err SessionHalt.DrawFault
-        → IsAtRest (course (K.taken sink.old) refused (Some (asked.now ∷ more)) (told_draws (C.moments clock.old) (E.stream entropy.old)) (seen (place_of primary.old) s)) (K.taken sink.new) (D.view disk.new) }
-    ensures unsaid { IfErr result (λ halt. halt ≢ SessionHalt.WriteFault → sink.new ≡ sink.old) }
+        → IsAtRest nothing_begun (course (K.taken sink.old) refused (Some (asked.now ∷ more)) (told_draws (C.moments clock.old) (E.stream entropy.old)) (seen (place_of primary.old) s)) (K.taken sink.new) (D.view disk.new) }
+    ensures unsaid { asked.now ≢ WritesDump → IfErr result (λ halt. halt ≢ SessionHalt.WriteFault → sink.new ≡ sink.old) }
     ensures halt { IfErr result IsAnswerHalt }
     ensures call { IsCall D.Disk disk.old disk.new (result ≡ Err SessionHalt.DiskFault) }
     ensures writes { Counts (K.faults sink.old) (K.faults sink.new) (result ≡ Err SessionHalt.WriteFault) }
@@ -139,9 +172,10 @@ fn answer<K: Sink, D: Disk, C: Clock, E: Entropy>(
         Err(halt) => return Err(halt),
     };
     what_is_kept_is_recovered(disk);
-    match write_any(sink, &printed) {
+    match write_answer(alloc, primary, sink, asked, &printed) {
         Ok(()) => Ok(is_refusal(&printed)),
-        Err(_) => Err(SessionHalt::WriteFault),
+        Err(AnswerStop::WriteFault) => Err(SessionHalt::WriteFault),
+        Err(AnswerStop::MemoryOut) => Err(SessionHalt::MemoryOut),
     }
 }
 
@@ -170,9 +204,9 @@ fn turn<S: Source, K: Sink, D: Disk, C: Clock, E: Entropy>(
     ensures on { D.tells → OnOk result (IsOnDisk primary.new.kept (D.view disk.new)) }
     ensures whole { OnOk result (primary.new.kept.broken ≡ false) }
     ensures memory { D.tells → (s : State) (refused : Bool) → HasState primary.old s → result ≡ Err SessionHalt.MemoryOut
-        → IsAtRest (course (K.taken sink.old) refused (coming primary.old.kept.realm reader.old (S.left source.old)) (told_draws (C.moments clock.old) (E.stream entropy.old)) (seen (place_of primary.old) s)) (K.taken sink.new) (D.view disk.new) }
+        → IsAtRest lines_begun (course (K.taken sink.old) refused (coming primary.old.kept.realm reader.old (S.left source.old)) (told_draws (C.moments clock.old) (E.stream entropy.old)) (seen (place_of primary.old) s)) (K.taken sink.new) (D.view disk.new) }
     ensures drawn { D.tells → (s : State) (refused : Bool) → HasState primary.old s → result ≡ Err SessionHalt.DrawFault
-        → IsAtRest (course (K.taken sink.old) refused (coming primary.old.kept.realm reader.old (S.left source.old)) (told_draws (C.moments clock.old) (E.stream entropy.old)) (seen (place_of primary.old) s)) (K.taken sink.new) (D.view disk.new) }
+        → IsAtRest nothing_begun (course (K.taken sink.old) refused (coming primary.old.kept.realm reader.old (S.left source.old)) (told_draws (C.moments clock.old) (E.stream entropy.old)) (seen (place_of primary.old) s)) (K.taken sink.new) (D.view disk.new) }
     ensures read { result ≡ Err SessionHalt.ReadFault → (sink.new ≡ sink.old) × (disk.new ≡ disk.old) × (primary.new ≡ primary.old) }
     ensures at_limit { result ≡ Err SessionHalt.InputTooLong → (sink.new ≡ sink.old) × (disk.new ≡ disk.old) × (primary.new ≡ primary.old) }
     ensures end { result ≡ Ok None → (K.taken sink.new ≡ K.taken sink.old) × (primary.new ≡ primary.old) × IsTrue reader.new.over }
@@ -235,11 +269,12 @@ pub fn serve<S: Source, K: Sink, D: Disk, C: Clock, E: Entropy>(
 
     // Where it stops for want of memory or of random bytes, so many commands were done, and the replies to them are written
     // in full: no change stands without its reply, but of many that are to be rekeyed those that were before it. For want
-    // of input, and at the limit of the input, it stops between two lines: there that exception is none.
+    // of memory, where the next line asks for a dump, a front of the lines of that may be written. For want of input, and
+    // at the limit of the input, it stops between two lines: there these exceptions are none.
     ensures memory { D.tells → (s : State) → HasState primary.old s → result ≡ Err SessionHalt.MemoryOut
-        → IsAtRest (course (K.taken sink.old) false (coming primary.old.kept.realm reader.old (S.left source.old)) (told_draws (C.moments clock.old) (E.stream entropy.old)) (seen (place_of primary.old) s)) (K.taken sink.new) (D.view disk.new) }
+        → IsAtRest lines_begun (course (K.taken sink.old) false (coming primary.old.kept.realm reader.old (S.left source.old)) (told_draws (C.moments clock.old) (E.stream entropy.old)) (seen (place_of primary.old) s)) (K.taken sink.new) (D.view disk.new) }
     ensures drawn { D.tells → (s : State) → HasState primary.old s → result ≡ Err SessionHalt.DrawFault
-        → IsAtRest (course (K.taken sink.old) false (coming primary.old.kept.realm reader.old (S.left source.old)) (told_draws (C.moments clock.old) (E.stream entropy.old)) (seen (place_of primary.old) s)) (K.taken sink.new) (D.view disk.new) }
+        → IsAtRest nothing_begun (course (K.taken sink.old) false (coming primary.old.kept.realm reader.old (S.left source.old)) (told_draws (C.moments clock.old) (E.stream entropy.old)) (seen (place_of primary.old) s)) (K.taken sink.new) (D.view disk.new) }
     ensures read { D.tells → (s : State) → HasState primary.old s → result ≡ Err SessionHalt.ReadFault
         → IsBetweenLines (course (K.taken sink.old) false (coming primary.old.kept.realm reader.old (S.left source.old)) (told_draws (C.moments clock.old) (E.stream entropy.old)) (seen (place_of primary.old) s)) (K.taken sink.new) (D.view disk.new) }
     ensures at_limit { D.tells → (s : State) → HasState primary.old s → result ≡ Err SessionHalt.InputTooLong
@@ -277,7 +312,7 @@ pub fn serve<S: Source, K: Sink, D: Disk, C: Clock, E: Entropy>(
 /// # Errors
 ///
 /// As those of `serve`. But for `WriteFault` nothing was written, and after `MemoryOut` and `DrawFault` nothing was done,
-/// but that of many that are rekeyed some may be.
+/// but that of many that are rekeyed some may be, and after `MemoryOut` a front of a dump's lines may be written.
 pub fn serve_one<K: Sink, D: Disk, C: Clock, E: Entropy>(
     alloc: Global,
     primary: &mut Primary,
@@ -301,13 +336,13 @@ pub fn serve_one<K: Sink, D: Disk, C: Clock, E: Entropy>(
     ensures stopped { D.tells → (s : State) → HasState primary.old s → OnErr result
         (IsStopped (Stops (course (K.taken sink.old) false (Some (asked.now ∷ [])) (told_draws (C.moments clock.old) (E.stream entropy.old)) (seen (place_of primary.old) s))) (K.taken sink.new) (D.view disk.new)) }
     ensures memory { D.tells → (s : State) → HasState primary.old s → result ≡ Err SessionHalt.MemoryOut
-        → IsAtRest (course (K.taken sink.old) false (Some (asked.now ∷ [])) (told_draws (C.moments clock.old) (E.stream entropy.old)) (seen (place_of primary.old) s)) (K.taken sink.new) (D.view disk.new) }
+        → IsAtRest lines_begun (course (K.taken sink.old) false (Some (asked.now ∷ [])) (told_draws (C.moments clock.old) (E.stream entropy.old)) (seen (place_of primary.old) s)) (K.taken sink.new) (D.view disk.new) }
     ensures drawn { D.tells → (s : State) → HasState primary.old s → result ≡ Err SessionHalt.DrawFault
-        → IsAtRest (course (K.taken sink.old) false (Some (asked.now ∷ [])) (told_draws (C.moments clock.old) (E.stream entropy.old)) (seen (place_of primary.old) s)) (K.taken sink.new) (D.view disk.new) }
+        → IsAtRest nothing_begun (course (K.taken sink.old) false (Some (asked.now ∷ [])) (told_draws (C.moments clock.old) (E.stream entropy.old)) (seen (place_of primary.old) s)) (K.taken sink.new) (D.view disk.new) }
     ensures moments { D.tells → (s : State) → HasState primary.old s → LeavesOnly (D.view disk.old) (D.view disk.new)
         (Leaves (course (K.taken sink.old) false (Some (asked.now ∷ [])) (told_draws (C.moments clock.old) (E.stream entropy.old)) (seen (place_of primary.old) s))) }
-    // But for a fault of the sink itself, an error comes with nothing written.
-    ensures unsaid { IfErr result (λ halt. halt ≢ SessionHalt.WriteFault → sink.new ≡ sink.old) }
+    // But for a fault of the sink itself, an error comes with nothing written; want of memory for a dump is told above.
+    ensures unsaid { asked.now ≢ WritesDump → IfErr result (λ halt. halt ≢ SessionHalt.WriteFault → sink.new ≡ sink.old) }
     ensures halt { IfErr result IsAnswerHalt }
     ensures call { IsCall D.Disk disk.old disk.new (result ≡ Err SessionHalt.DiskFault) }
     ensures writes { Counts (K.faults sink.old) (K.faults sink.new) (result ≡ Err SessionHalt.WriteFault) }

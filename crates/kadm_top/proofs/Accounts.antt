@@ -8,7 +8,7 @@ use Rattle.session_base.specs.Draws.{Draws, moment_in}
 use Rattle.session_base.specs.declared.halts.SessionHalt.{SessionHalt}
 use Rattle.kadm_top.specs.Accounts.{account_text, first_held, log_text, report_at, texts_of, whole_text}
 use Rattle.kadm_top.specs.Openings.{AMoment, HasOpening, IsOpening, IsToldBy, Opening, Refuses, Tells, behind}
-use Rattle.kadm_top.specs.Run.{HasRun, RunEnd, RunEndsAs, Told, refusal_line}
+use Rattle.kadm_top.specs.Run.{HasRun, RunEnd, RunEndsAs, StaysRead, Told, refusal_line}
 use Rattle.kadm_top.specs.declared.words.Account.{Account}
 use Rattle.kadm_top.specs.declared.words.Account.TheVariants.{Dump, Log, Report}
 use Rattle.kadm_top.specs.declared.words.Words.{Words}
@@ -18,7 +18,7 @@ use Rattle.kdb_base.specs.Moment.{Moment}
 use Rattle.kdb_base.specs.declared.moments.Point.{Point}
 use Rattle.kdb_base.specs.declared.outcomes.Refusal.{Refusal}
 use Rattle.kdb_disk.specs.Files.{Files}
-use Rattle.kdb_disk.specs.Moments.{LeavesOnly}
+use Rattle.kdb_disk.specs.Moments.{IsSettled, Keeps, LeavesOnly}
 use Rattle.kdb_disk.specs.View.{View}
 use Rattle.kdb_places.specs.Places.{Place, last_point, no_point}
 use Rattle.kdb_ports.specs.Parts.{SaidPart}
@@ -26,7 +26,7 @@ use Rattle.kdb_ports.specs.Told.{after_told}
 use Rattle.princ_rows.specs.declared.entries.Entry.{Entry}
 use Rattle.store_files.specs.Found.{recovers}
 use Rattle.store_files.specs.Kept.{Kept, place_kept}
-use Rattle.store_files.specs.Recovery.{IsLike}
+use Rattle.store_files.specs.Recovery.{IsLike, RecoversTo}
 use Rattle.ulog_text.specs.Ulogs.{ulog_text}
 use Rattle.update_log.specs.Logs.{Journal, entry_of}
 
@@ -89,6 +89,16 @@ text_then (Report kind) None now gave text is p = absurd cc
 text_then (Report kind) (Some told) now gave text is p =
     ap (λ (m : Moment). report_at kind m.secs p) (gave told refl) ∙ same_text (report_at kind (moment_in told).secs) text is p
 
+-- ---- what stays
+
+-- of what was opened
+pub opened_stays : (old now : View) (p : Place) → recovers old.seen ≡ Ok p → RecoversTo p now → LeavesOnly old now (IsLike old) → StaysRead old now
+opened_stays old now p is stands leaves = record { stays = λ c image. stands c image ∙ sym is; leaves = leaves }
+
+-- of what was refused
+pub refused_stays : {old now : View} → Keeps old now → IsSettled now → LeavesOnly old now (IsLike old) → StaysRead old now
+refused_stays keeps settled leaves = record { stays = λ c image. ap (λ (files : Files). recovers files) (settled.only c image ∙ keeps.seen); leaves = leaves }
+
 -- ---- runs
 
 by_text : (P : Opening → Type 0) (text : Option (Place → List ℕ)) (found : Result Place Refusal) (o : Opening) (p : Place) (said : List ℕ) → found ≡ Ok p → IsToldBy text found o
@@ -105,14 +115,14 @@ by_refusal P text found o why is opens there = subst P (sym (subst (λ (r : Resu
 -- it was told
 pub told_run : {old now : View} {before after : Told} (text : Option (Place → List ℕ)) (found : Result Place Refusal) (o : Opening) (p : Place) (said : List ℕ) → found ≡ Ok p → IsToldBy text found o
     → ((f : Place → List ℕ) → text ≡ Some f → said ≡ f p)
-    → after.taken ≡ after_told before.taken said → after.draws ≡ behind AMoment before.draws → LeavesOnly old now (IsLike old)
+    → after.taken ≡ after_told before.taken said → after.draws ≡ behind AMoment before.draws → StaysRead old now
     → HasRun o old now before after (Ok false)
-told_run {old} {now} {before} {after} text found o p said is opens says said_it draws same = by_text (λ (x : Opening). HasRun x old now before after (Ok false)) text found o p said is opens says (record {
+told_run {old} {now} {before} {after} text found o p said is opens says said_it draws stays = by_text (λ (x : Opening). HasRun x old now before after (Ok false)) text found o p said is opens says (record {
   ended = λ end e. subst (λ (x : RunEnd). RunEndsAs after.taken false after.draws old now x) (same_Some _ _ e)
-      (record { out_is = said_it; refused_is = refl; stands = same; draws_are = draws });
+      (record { out_is = said_it; refused_is = refl; stands = stays; draws_are = draws });
   stopped = tt;
   rests = tt;
-  moments = same;
+  moments = stays.leaves;
   read = λ no. absurd no;
 })
 
@@ -131,10 +141,10 @@ cut_told_run {old} {now} {before} {after} text found o p said halt is opens says
 
 -- nothing stands there of which it could be told
 pub untold_run : {old now : View} {before after : Told} (text : Option (Place → List ℕ)) (found : Result Place Refusal) (o : Opening) (why : Refusal) → found ≡ Err why → IsToldBy text found o
-    → after.taken ≡ after_told before.taken (refusal_line why) → after.draws ≡ behind AMoment before.draws → LeavesOnly old now (IsLike old)
+    → after.taken ≡ after_told before.taken (refusal_line why) → after.draws ≡ behind AMoment before.draws → StaysRead old now
     → HasRun o old now before after (Ok true)
-untold_run {old} {now} {before} {after} text found o why is opens said_it draws same =
-    by_refusal (λ (x : Opening). HasRun x old now before after (Ok true)) text found o why is opens (refused_run why AMoment said_it draws same)
+untold_run {old} {now} {before} {after} text found o why is opens said_it draws stays =
+    by_refusal (λ (x : Opening). HasRun x old now before after (Ok true)) text found o why is opens (refused_run why AMoment said_it draws stays)
 
 pub cut_untold_run : {old now : View} {before after : Told} (text : Option (Place → List ℕ)) (found : Result Place Refusal) (o : Opening) (why : Refusal) (halt : SessionHalt) → found ≡ Err why
     → IsToldBy text found o → SaidPart (refusal_line why) before.taken after.taken → LeavesOnly old now (IsLike old) → (SparesOutput halt → after.taken ≡ before.taken)

@@ -2,16 +2,18 @@
 use Rattle.std.proofs.Common.{◌≡◌, ◌≢◌, ◌≤◌, ◌∙◌, ◌⊎◌, ℕ, refl, sym, subst, inl, inr, Bool, true, false, arith}
 use Rattle.std.specs.Prelude.{Option, List, Result, Ok, Err, IfErr, IfOk, OnErr, OnOk}
 use Rattle.kadm_loading.specs.Halts.{SparesOutput}
+use Rattle.kadm_session.specs.declared.intake.Asked.{Asked}
 use Rattle.session_base.specs.declared.halts.SessionHalt.{SessionHalt}
 use Rattle.session_base.specs.declared.halts.SessionHalt.TheVariants as session
 use Rattle.kadm_top.specs.Openings.{Opening}
 use Rattle.kadm_top.specs.Reads.{InputIsRead}
-use Rattle.kadm_top.specs.Run.{HasRun, Told}
-use Rattle.kadm_top.specs.Statuses.{Faults, HasCauses, IsRun, IsSayHalt, OnEnd, OnRest, OnStop, StatusHasCauses, faults, status_after}
+use Rattle.kadm_top.specs.Run.{HasRun, RunRests, Told, begun_at}
+use Rattle.kadm_top.specs.Statuses.{Faults, HasCauses, IsRun, IsSayHalt, OnEnd, OnRest, OnStop, StatusHasCauses, begun_by, faults, status_after}
 use Rattle.kdb_base.specs.Causes.{Rose}
 use Rattle.kdb_base.specs.declared.outcomes.Status.{Status}
 use Rattle.kdb_base.specs.declared.outcomes.Status.TheVariants as status
 use Rattle.kdb_disk.specs.View.{View}
+use Rattle.kdb_places.specs.Places.{Place}
 
 -- a run that went through
 on_end : (r : Result Bool SessionHalt) (P : Bool → Type 0) → IfOk r P → OnEnd (status_after r) P
@@ -45,7 +47,8 @@ on_stop (Err session.DiskFault) P p = p
 on_stop (Err session.DrawFault) P p = p
 on_stop (Err session.InputTooLong) P p = p
 
-on_rest : (r : Result Bool SessionHalt) (P : Type 0) → IfErr r (λ halt. SparesOutput halt → P) → OnRest (status_after r) P
+on_rest : (r : Result Bool SessionHalt) (P : (List Asked → Place → List ℕ) → Type 0) → IfErr r (λ halt. SparesOutput halt → P (begun_at halt))
+    → OnRest (status_after r) (P (begun_by (status_after r)))
 on_rest (Ok true) P p = tt
 on_rest (Ok false) P p = tt
 on_rest (Err session.MemoryOut) P p = p tt
@@ -133,7 +136,7 @@ pub run_by_status : {o : Opening} {old now : View} {before after : Told} (s : St
 run_by_status {o} {old} {now} {before} {after} s r is run = subst (λ (x : Status). IsRun o old now before after x) (sym is) (record {
   ended = λ end e. on_end r _ (run.ended end e);
   stopped = on_stop r _ run.stopped;
-  rests = on_rest r _ run.rests;
+  rests = on_rest r (λ begun. RunRests begun o old before after.taken now) run.rests;
   moments = run.moments;
   read = λ reads. on_end_any r _ (run.read reads);
 })

@@ -7,7 +7,7 @@ use Rattle.kadm_lines.specs.Lines.{lines_from}
 use Rattle.kadm_lines.specs.Reader.{ReaderState, to_come}
 use Rattle.kadm_loading.specs.Halts.{SparesOutput}
 use Rattle.session_base.specs.Wholes.{IsReadWhole, WereTaken}
-use Rattle.kadm_session.specs.Courses.{Course, Ending, EndsAs, IsAtRest, Leaves, MayStop, Rests, Stops, course, ending}
+use Rattle.kadm_session.specs.Courses.{Course, Ending, EndsAs, IsAtRest, Leaves, MayStop, Rests, Stops, course, ending, lines_begun, nothing_begun}
 use Rattle.session_base.specs.Stages.{IsStopped}
 use Rattle.session_base.specs.Draws.{Draws}
 use Rattle.session_base.specs.Halts.{IsAnswerHalt}
@@ -18,7 +18,7 @@ use Rattle.session_base.specs.declared.halts.SessionHalt.{SessionHalt}
 use Rattle.session_base.specs.declared.halts.SessionHalt.TheVariants as session
 use Rattle.kadm_session.specs.declared.intake.Asked.{Asked}
 use Rattle.kadm_top.specs.Reads.{fresh}
-use Rattle.kadm_top.specs.Run.{HasCourse, RunEndsAs, Told, course_from, end_opened, input_commands, told}
+use Rattle.kadm_top.specs.Run.{HasCourse, RunEndsAs, Told, begun_at, course_from, end_opened, input_commands, told}
 use Rattle.kdb_disk.proofs.Runs.{kept, weaken}
 use Rattle.kdb_disk.specs.Files.{Files}
 use Rattle.kdb_disk.specs.Moments.{LeavesOnly}
@@ -28,6 +28,7 @@ use Rattle.kdb_histories.specs.Stages.{ShowsAt}
 use Rattle.kdb_places.specs.Places.{Place}
 use Rattle.primary_core.specs.Opened.{Opened, place_of}
 use Rattle.kdb_ports.proofs.Told.{after_told-nil}
+use Rattle.kdb_ports.specs.Told.{after_told}
 use Rattle.store_files.specs.Found.{recovers}
 use Rattle.store_files.specs.Recovery.{LeavesPart, RecoversTo}
 
@@ -80,21 +81,23 @@ ends_open {old} {now} after o refused end ends stands = record {
   draws_are = ends.draws_are;
 }
 
-at_rest : {P : Type 0} (halt : SessionHalt) → (◌≡◌ {A = Result Bool SessionHalt} (Err halt) (Err session.MemoryOut) → P) → (◌≡◌ {A = Result Bool SessionHalt} (Err halt) (Err session.DrawFault) → P)
-    → (◌≡◌ {A = Result Bool SessionHalt} (Err halt) (Err session.ReadFault) → P) → (◌≡◌ {A = Result Bool SessionHalt} (Err halt) (Err session.InputTooLong) → P) → SparesOutput halt → P
-at_rest session.MemoryOut memory drawn read limit spares = memory refl
-at_rest session.DrawFault memory drawn read limit spares = drawn refl
-at_rest session.ReadFault memory drawn read limit spares = read refl
-at_rest session.InputTooLong memory drawn read limit spares = limit refl
-at_rest session.WriteFault memory drawn read limit spares = absurd spares
-at_rest session.DiskFault memory drawn read limit spares = absurd spares
+at_rest : (P : SessionHalt → Type 0) (halt : SessionHalt) → (◌≡◌ {A = Result Bool SessionHalt} (Err halt) (Err session.MemoryOut) → P session.MemoryOut)
+    → (◌≡◌ {A = Result Bool SessionHalt} (Err halt) (Err session.DrawFault) → P session.DrawFault)
+    → (◌≡◌ {A = Result Bool SessionHalt} (Err halt) (Err session.ReadFault) → P session.ReadFault)
+    → (◌≡◌ {A = Result Bool SessionHalt} (Err halt) (Err session.InputTooLong) → P session.InputTooLong) → SparesOutput halt → P halt
+at_rest P session.MemoryOut memory drawn read limit spares = memory refl
+at_rest P session.DrawFault memory drawn read limit spares = drawn refl
+at_rest P session.ReadFault memory drawn read limit spares = read refl
+at_rest P session.InputTooLong memory drawn read limit spares = limit refl
+at_rest P session.WriteFault memory drawn read limit spares = absurd spares
+at_rest P session.DiskFault memory drawn read limit spares = absurd spares
 
 pub course_run : {c : Course} {old now : View} {after : Told} (o : Opened) (r : Result Bool SessionHalt)
     → ((end : Ending) → ending c ≡ Some end → IfOk r (λ refused. EndsAs after.taken refused o after.draws end))
     → OnOk r (RecoversTo (place_of o) now)
     → OnErr r (IsStopped (Stops c) after.taken now)
-    → (r ≡ Err session.MemoryOut → IsAtRest c after.taken now) → (r ≡ Err session.DrawFault → IsAtRest c after.taken now)
-    → (r ≡ Err session.ReadFault → IsAtRest c after.taken now) → (r ≡ Err session.InputTooLong → IsAtRest c after.taken now)
+    → (r ≡ Err session.MemoryOut → IsAtRest lines_begun c after.taken now) → (r ≡ Err session.DrawFault → IsAtRest nothing_begun c after.taken now)
+    → (r ≡ Err session.ReadFault → IsAtRest nothing_begun c after.taken now) → (r ≡ Err session.InputTooLong → IsAtRest nothing_begun c after.taken now)
     → LeavesOnly old now (Leaves c)
     → HasCourse c old now after r
 course_run {after = after} o (Ok refused) ended stands stopped memory drawn read limit moments = record {
@@ -103,10 +106,10 @@ course_run {after = after} o (Ok refused) ended stands stopped memory drawn read
   rests = tt;
   moments = moments;
 }
-course_run o (Err halt) ended stands stopped memory drawn read limit moments = record {
+course_run {c = c} {now = now} {after = after} o (Err halt) ended stands stopped memory drawn read limit moments = record {
   ended = λ end e. tt;
   stopped = stopped;
-  rests = λ spares. at_rest halt memory drawn read limit spares;
+  rests = λ spares. at_rest (λ h. IsAtRest (begun_at h) c after.taken now) halt memory drawn read limit spares;
   moments = moments;
 }
 
@@ -123,7 +126,7 @@ pub one_run : {c : Course} {old now : View} {after : Told} (o : Opened) (r : Res
     → ((end : Ending) → ending c ≡ Some end → IfOk r (λ refused. EndsAs after.taken refused o after.draws end))
     → OnOk r (RecoversTo (place_of o) now)
     → OnErr r (IsStopped (Stops c) after.taken now)
-    → (r ≡ Err session.MemoryOut → IsAtRest c after.taken now) → (r ≡ Err session.DrawFault → IsAtRest c after.taken now)
+    → (r ≡ Err session.MemoryOut → IsAtRest lines_begun c after.taken now) → (r ≡ Err session.DrawFault → IsAtRest nothing_begun c after.taken now)
     → IfErr r IsAnswerHalt → LeavesOnly old now (Leaves c)
     → HasCourse c old now after r
 one_run o r ended stands stopped memory drawn answers moments =
@@ -155,7 +158,7 @@ idle_course taken left asked (Some draws) at now stands = record {
   };
   rests = λ spares. record {
     place = at.place;
-    may = record { count = 0; within = omega arith; out_is = sym (after_told-nil taken); place_is = (0, omega arith, refl); performed = tt };
+    may = record { count = 0; within = omega arith; out_is = record { count = 0; part = sym (after_told-nil (after_told taken []) ∙ after_told-nil taken) }; place_is = (0, omega arith, refl); performed = tt };
     stands = stands;
   };
   moments = weaken (kept now).leaves (λ c image. record { place = at.place; is = stands c image; reached = inl (inl refl) });

@@ -10,13 +10,14 @@ use Rattle.kadm_loading.specs.Halts.{SparesOutput}
 use Rattle.session_base.specs.Draws.{Draws, block_in, moment_in}
 use Rattle.session_base.specs.declared.halts.SessionHalt.{SessionHalt}
 use Rattle.kadm_top.specs.Openings.{ABlock, Ends, Makes, NoDraw, Opening, Refuses, ReadsInput, behind, create_of, destroy_of}
-use Rattle.kadm_top.specs.Run.{AreDrawn, HasRun, IfTold, IsErased, MakesStop, RunEnd, RunEndsAs, RunLeaves, Told, end_made, ended_text, made_line, place_made, refusal_line}
+use Rattle.kadm_top.specs.Run.{AreDrawn, HasRun, IfTold, IsErased, IsMade, MakesStop, RunEnd, RunEndsAs, RunLeaves, Told, end_made, ended_text, made_line, place_made, refusal_line}
 use Rattle.kadm_top.proofs.Running.{cut_refusal_run, idle_run, refused_run}
 use Rattle.kdb_base.specs.Moment.{Moment}
 use Rattle.kdb_base.specs.declared.outcomes.Refusal.{Refusal}
 use Rattle.kdb_base.specs.declared.outcomes.Refusal.TheVariants.{AlreadyThere}
 use Rattle.kdb_base.specs.declared.outcomes.Stop.{Stop}
 use Rattle.kdb_base.specs.declared.outcomes.Stop.TheVariants as stop
+use Rattle.kdb_control.specs.Choice.{Choice}
 use Rattle.kdb_control.specs.declared.force.Force.{Force}
 use Rattle.kdb_control.specs.declared.force.Force.TheVariants.{Nothing, Is, Broken}
 use Rattle.kdb_disk.specs.Files.{Files}
@@ -26,9 +27,11 @@ use Rattle.kdb_disk.proofs.Runs.{at_end, weaken}
 use Rattle.kdb_places.specs.Places.{Place}
 use Rattle.kdb_ports.specs.Parts.{SaidPart}
 use Rattle.kdb_ports.specs.Told.{after_told}
-use Rattle.primary_core.specs.Opening.{first_place}
+use Rattle.primary_core.specs.Opening.{first_control, first_file, first_place}
+use Rattle.store_files.specs.Kept.{IsOnDisk, Kept, place_kept}
 use Rattle.store_files.specs.Recovery.{Creates, Destroys, RecoversTo}
 use Rattle.store_opening.specs.Made.{AnswersMade}
+use Rattle.store_opening.specs.Moments.{HasFile}
 use Rattle.store_switches.specs.Ending.{AnswersEnded, IsChosen, RefusesEnd}
 
 -- ---- a database that is made
@@ -47,6 +50,20 @@ is_nothing (Broken place) = inr (λ e. absurd cc)
 made_place : (spec : SpecParts) (draws : Draws) (now : Moment) (random : List ℕ) → (now ≡ moment_in draws) × (random ≡ block_in draws) → first_place spec now random ≡ place_made spec draws
 made_place spec draws now random drawn = ap (λ (m : Moment). first_place spec m random) drawn.0 ∙ ap (λ (bytes : List ℕ). first_place spec (moment_in draws) bytes) drawn.1
 
+made_files : {now : View} (spec : SpecParts) (draws : Draws) (moment : Moment) (random : List ℕ) → (moment ≡ moment_in draws) × (random ≡ block_in draws) → IsMade spec moment random now
+    → IsMade spec (moment_in draws) (block_in draws) now
+made_files {now} spec draws moment random drawn made =
+    subst (λ (bytes : List ℕ). IsMade spec (moment_in draws) bytes now) drawn.1 (subst (λ (m : Moment). IsMade spec m random now) drawn.0 made)
+
+-- the files of what was created
+pub made_on : {now : View} (k : Kept) (spec : SpecParts) (moment : Moment) (random : List ℕ) → IsOnDisk k now → RecoversTo (place_kept k) now → place_kept k ≡ first_place spec moment random
+    → k.control ≡ first_control spec moment → HasFile 1 (first_file spec moment random) now → IsMade spec moment random now
+made_on {now} k spec moment random on recovers place control written = record {
+  place = subst (λ (p : Place). RecoversTo p now) place recovers;
+  control = λ c image. (on.stands.each c image).force ∙ ap (λ (x : Choice). Is x) control;
+  written = written;
+}
+
 made_reply : (draws : Draws) (now : Moment) → now ≡ moment_in draws → reply_text (Done (first_point now)) ≡ made_line draws
 made_reply draws now is = ap (λ (m : Moment). reply_text (Done (first_point m))) is
 
@@ -60,10 +77,10 @@ making_leaves {old} {now} before spec moment random drawn run = weaken run (λ c
 
 -- it was made, and its point was written
 makes_run : {old now : View} {before after : Told} (spec : SpecParts) (moment : Moment) (random : List ℕ) → AreDrawn before.draws moment random
-    → LeavesOnly old now (Creates old (first_place spec moment random)) → RecoversTo (first_place spec moment random) now
+    → LeavesOnly old now (Creates old (first_place spec moment random)) → IsMade spec moment random now
     → after.taken ≡ after_told before.taken (reply_text (Done (first_point moment))) → after.draws ≡ behind ABlock before.draws
     → HasRun (Makes spec) old now before after (Ok false)
-makes_run {old} {now} {before} {after} spec moment random drawn run stands said_it draws = record {
+makes_run {old} {now} {before} {after} spec moment random drawn run made said_it draws = record {
   ended = λ end e. by before.draws drawn draws end e;
   stopped = tt;
   rests = tt;
@@ -77,16 +94,16 @@ makes_run {old} {now} {before} {after} spec moment random drawn run stands said_
         (record {
           out_is = said_it ∙ ap (after_told before.taken) (made_reply told moment a.0);
           refused_is = refl;
-          stands = subst (λ (p : Place). RecoversTo p now) (made_place spec told moment random a) stands;
+          stands = made_files spec told moment random a made;
           draws_are = is;
         })
 
 -- it was made, and not all of its point was written
 cut_makes_run : {old now : View} {before after : Told} (spec : SpecParts) (moment : Moment) (random : List ℕ) (halt : SessionHalt) → AreDrawn before.draws moment random
-    → LeavesOnly old now (Creates old (first_place spec moment random)) → RecoversTo (first_place spec moment random) now
+    → LeavesOnly old now (Creates old (first_place spec moment random)) → IsMade spec moment random now
     → SaidPart (reply_text (Done (first_point moment))) before.taken after.taken → (SparesOutput halt → ⊥)
     → HasRun (Makes spec) old now before after (Err halt)
-cut_makes_run {old} {now} {before} {after} spec moment random halt drawn run stands part fault = record {
+cut_makes_run {old} {now} {before} {after} spec moment random halt drawn run made part fault = record {
   ended = λ end e. tt;
   stopped = by before.draws drawn;
   rests = λ is. absurd (fault is);
@@ -98,7 +115,7 @@ cut_makes_run {old} {now} {before} {after} spec moment random halt drawn run sta
     by None a = tt
     by (Some told) a = inr (
       subst (λ (text : List ℕ). SaidPart text before.taken after.taken) (made_reply told moment a.0) part,
-      subst (λ (p : Place). RecoversTo p now) (made_place spec told moment random a) stands,
+      made_files spec told moment random a made,
     )
 
 -- its making was stopped
@@ -119,19 +136,19 @@ halted_makes_run {old} {now} {before} {after} spec moment random halt drawn run 
 
 pub create_made : {old now : View} {before after : Told} (spec : SpecParts) (force : Force) (moment : Moment) (random : List ℕ) → AreDrawn before.draws moment random
     → force ≡ Nothing
-    → LeavesOnly old now (Creates old (first_place spec moment random)) → RecoversTo (first_place spec moment random) now
+    → LeavesOnly old now (Creates old (first_place spec moment random)) → IsMade spec moment random now
     → after.taken ≡ after_told before.taken (reply_text (Done (first_point moment))) → after.draws ≡ behind ABlock before.draws
     → HasRun (create_of spec force) old now before after (Ok false)
-create_made {old} {now} {before} {after} spec force moment random drawn answer run stands said_it draws =
-    subst (λ (f : Force). HasRun (create_of spec f) old now before after (Ok false)) (sym answer) (makes_run spec moment random drawn run stands said_it draws)
+create_made {old} {now} {before} {after} spec force moment random drawn answer run made said_it draws =
+    subst (λ (f : Force). HasRun (create_of spec f) old now before after (Ok false)) (sym answer) (makes_run spec moment random drawn run made said_it draws)
 
 pub create_cut : {old now : View} {before after : Told} (spec : SpecParts) (force : Force) (moment : Moment) (random : List ℕ) (halt : SessionHalt) → AreDrawn before.draws moment random
     → force ≡ Nothing
-    → LeavesOnly old now (Creates old (first_place spec moment random)) → RecoversTo (first_place spec moment random) now
+    → LeavesOnly old now (Creates old (first_place spec moment random)) → IsMade spec moment random now
     → SaidPart (reply_text (Done (first_point moment))) before.taken after.taken → (SparesOutput halt → ⊥)
     → HasRun (create_of spec force) old now before after (Err halt)
-create_cut {old} {now} {before} {after} spec force moment random halt drawn answer run stands part fault =
-    subst (λ (f : Force). HasRun (create_of spec f) old now before after (Err halt)) (sym answer) (cut_makes_run spec moment random halt drawn run stands part fault)
+create_cut {old} {now} {before} {after} spec force moment random halt drawn answer run made part fault =
+    subst (λ (f : Force). HasRun (create_of spec f) old now before after (Err halt)) (sym answer) (cut_makes_run spec moment random halt drawn run made part fault)
 
 pub create_halted : {old now : View} {before after : Told} (spec : SpecParts) (force : Force) (moment : Moment) (random : List ℕ) (halt : SessionHalt) → AreDrawn before.draws moment random
     → LeavesOnly old now (Creates old (first_place spec moment random)) → (force ≢ Nothing → Keeps old now) → after.taken ≡ before.taken → (SparesOutput halt → Keeps old now)

@@ -20,7 +20,7 @@ use Rattle.kadm_top.proofs.Loads.{part_of_opening}
 use Rattle.kadm_top.proofs.Openings.{Answers as Opened_so, is_open, open_having, opened_place, opened_state, opening_part, refused_always}
 use Rattle.kadm_top.proofs.Running.{all_at_end, cut_refusal_run, keeps_like, refused_run, said_nothing}
 use Rattle.kadm_top.specs.Openings.{Adds, AddsNew, AddsBy, AMoment, AnswersTold, Drawn, Ends, Filters, HasAdding, HasAddition, HasAnswer, HasKeytab, HasOpening, IsOpening, Loads, Makes, NoDraw, Opening, Opens, ReadsInput, Refuses, Tells, adds_for, behind, filters_for, keytab_for}
-use Rattle.kadm_top.specs.Run.{HasRun, HasWritten, IsFront, IsSame, OpensPart, RunEnd, RunEndsAs, Same, Shown, Told, keytab_end, refusal_line}
+use Rattle.kadm_top.specs.Run.{HasRun, HasWritten, IsFront, IsSame, OpensPart, RunEnd, RunEndsAs, Same, Shown, Stays, Told, keytab_end, refusal_line}
 use Rattle.kadm_top.specs.declared.words.Words.{Words}
 use Rattle.kadm_top.specs.declared.words.Words.TheVariants as words
 use Rattle.kdb_base.specs.Moment.{Moment}
@@ -298,7 +298,7 @@ add_refused {old = old} {now = now} {before = before} {after = after} word clock
     refused_run why drawn
     (said_it ∙ ap (λ (r : Refusal). after_told before.taken (refusal_line r)) same)
     (draws ∙ ap (λ (d : Drawn). behind d before.draws) (sym adds.0))
-    (subst (λ (d : Drawn). IsSame d old now) (sym adds.0) (answers.refusals why cause))
+    (subst (λ (d : Drawn). Stays d old now) (sym adds.0) (record { stays = answers.stays refusal refl; leaves = answers.refusals why cause }))
 add_refused word clock (Adds begin made at reads what) refusal gave adds answers said_it draws =
     absurd (open_having clock (Err (stop.Refused refusal)) adds.opens (gave adds.opens.told adds.opens.draws_are) answers)
 add_refused word clock (Opens begin made at its) refusal gave adds answers said_it draws = absurd adds

@@ -17,7 +17,7 @@ use Rattle.kadm_top.proofs.Openings.{Answers, any_ok, is_open, open_having, open
 use Rattle.kadm_top.proofs.Running.{all_at_end, cut_refusal_run, refused_run, said_nothing}
 use Rattle.kadm_top.proofs.Telling.{behind_clock}
 use Rattle.kadm_top.specs.Openings.{Adds, AddsNew, AMoment, Drawn, Ends, Filters, HasLoaded, HasLoading, HasOpening, IsOpening, LoadsAt, Loads, Makes, Opening, Opens, ReadsInput, Refuses, Tells, behind, loads_for}
-use Rattle.kadm_top.specs.Run.{HasLoad, HasRun, IsSame, LeavesAll, OpensPart, RunEnd, RunEndsAs, Stands, Told, load_end, refusal_line, told}
+use Rattle.kadm_top.specs.Run.{HasLoad, HasRun, IsSame, LeavesAll, OpensPart, RunEnd, RunEndsAs, Stands, Stays, Told, load_end, refusal_line, told}
 use Rattle.kadm_top.specs.declared.words.Words.{Words}
 use Rattle.kadm_top.specs.declared.words.Words.TheVariants as words
 use Rattle.kdb_base.specs.Moment.{Moment}
@@ -299,7 +299,7 @@ load_refused {old = old} {now = now} {before = before} {after = after} clock (Re
     refused_run why drawn
     (said_it ∙ ap (λ (r : Refusal). after_told before.taken (refusal_line r)) same)
     (draws ∙ ap (λ (d : Drawn). behind d before.draws) (sym loads.0))
-    (subst (λ (d : Drawn). IsSame d old now) (sym loads.0) (answers.refusals why cause))
+    (subst (λ (d : Drawn). Stays d old now) (sym loads.0) (record { stays = answers.stays refusal refl; leaves = answers.refusals why cause }))
 load_refused clock (Loads begin made at what) refusal gave loads answers said_it draws =
     absurd (open_having clock (Err (stop.Refused refusal)) loads.opens (gave loads.opens.told loads.opens.draws_are) answers)
 load_refused clock (Opens begin made at its) refusal gave loads answers said_it draws = absurd loads

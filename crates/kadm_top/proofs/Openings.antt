@@ -11,7 +11,7 @@ use Rattle.kadm_session.specs.declared.intake.Asked.{Asked}
 use Rattle.kadm_top.specs.declared.asking.Asking.{Asking}
 use Rattle.kadm_top.specs.declared.asking.Asking.TheVariants as asking
 use Rattle.kadm_top.specs.Openings.{Adds, AddsNew, AMoment, AsksInput, Drawn, Ends, Filters, HasOpening, HasOpeningFor, IsInput, IsOpen, IsOpening, Loads, Makes, NoDraw, Opening, Opens, Refuses, ReadsInput, Tells, asked_of, behind, create_of, destroy_of, opens_for}
-use Rattle.kadm_top.specs.Run.{HasCourse, HasRun, IsSame, OpensPart, Told, course_behind, course_from, refusal_line, told}
+use Rattle.kadm_top.specs.Run.{HasCourse, HasRun, IsSame, OpensPart, Stays, Told, course_behind, course_from, refusal_line, told}
 use Rattle.kadm_top.proofs.Running.{cut_refusal_run, opened_run, refused_run, said_nothing, unopened_run}
 use Rattle.kadm_top.specs.declared.words.Words.{Words}
 use Rattle.kadm_top.specs.declared.words.Words.TheVariants.{Admin, Create, Destroy, Generate, Line, Renew}
@@ -21,6 +21,7 @@ use Rattle.kdb_base.specs.declared.outcomes.Stop.{Stop}
 use Rattle.kdb_base.specs.declared.outcomes.Stop.TheVariants as stop
 use Rattle.kdb_base.specs.declared.versions.Master.{Master}
 use Rattle.kdb_control.specs.Force.{in_force}
+use Rattle.kdb_disk.proofs.Runs.{weaken}
 use Rattle.kdb_disk.specs.Files.{Files}
 use Rattle.kdb_disk.specs.Moments.{LeavesOnly}
 use Rattle.kdb_disk.specs.View.{View}
@@ -34,7 +35,7 @@ use Rattle.kdb_ports.specs.Told.{after_told}
 use Rattle.made_scripts.specs.Runs.{told_of}
 use Rattle.made_scripts.specs.declared.words.Script.{Script}
 use Rattle.primary_core.specs.Opened.{HasState, IsOpened, Opened, place_of}
-use Rattle.primary_core.specs.Opening.{IsRefusedAs, MayOpen, OpeningRefused, OpensHaving, OpensTo, OpensWith, place_found}
+use Rattle.primary_core.specs.Opening.{IsRefusedAs, MayOpen, OpeningRefused, OpensHaving, OpensTo, OpensWith, RecoversAs, place_found}
 use Rattle.store_files.specs.Found.{Found, found_in}
 use Rattle.store_files.specs.Recovery.{IsLike}
 
@@ -50,6 +51,12 @@ pub record Answers (found : Result Found Refusal) (size : Option ℕ) (clock : M
   pub complete : (f : Found) (masters : List Master) → found ≡ Ok f → OpensWith f masters → (resized size clock (place_found f) ≢ [] → HasTimeLeft (place_found f)) → OpensHaving answer masters
   pub moments : LeavesOnly old mid (MayOpen old found size clock)
   pub refusals : (why : Refusal) → OpeningRefused found size clock why → LeavesOnly old mid (IsLike old)
+  pub stays : (why : Refusal) → answer ≡ Err (stop.Refused why) → RecoversAs old.seen mid
+
+part_opened : (old : View) (f : Found) (size : Option ℕ) (clock : Moment) (c : Files) → MayOpen old (Ok f) size clock c
+    → OpensPart old (place_found f) (places (resized size clock (place_found f))) c
+part_opened old f size clock c (inl like) = inl like
+part_opened old f size clock c (inr leaves) = inr leaves.part
 
 -- while it opens
 pub opening_part : {old mid : View} {found : Result Found Refusal} {size : Option ℕ} {draws : Option Draws} {begin : Place} {made : List Place} {at : Seen} (clock : Moment)
@@ -58,7 +65,7 @@ opening_part {old} {mid} {found} {size} {begin = begin} {made = made} clock open
     let at_clock : LeavesOnly old mid (MayOpen old (Ok opens.files) size (moment_in opens.told)) =
     subst (λ (m : Moment). LeavesOnly old mid (MayOpen old (Ok opens.files) size m)) is (subst (λ (r : Result Found Refusal). LeavesOnly old mid (MayOpen old r size clock)) opens.found_is run) in
     subst (λ (p : Place). LeavesOnly old mid (OpensPart old p made)) (sym opens.begin_is)
-    (subst (λ (ps : List Place). LeavesOnly old mid (OpensPart old (place_found opens.files) ps)) (sym opens.made_are) at_clock)
+    (subst (λ (ps : List Place). LeavesOnly old mid (OpensPart old (place_found opens.files) ps)) (sym opens.made_are) (weaken at_clock (part_opened old opens.files size (moment_in opens.told))))
 
 -- what is open is where the opening leads
 pub opened_place : {size : Option ℕ} {found : Result Found Refusal} {draws : Option Draws} {begin : Place} {made : List Place} {at : Seen} (clock : Moment) (o : Opened)
@@ -139,7 +146,7 @@ admin_refused {old = old} {now = now} {before = before} {after = after} asks clo
     refused_run why drawn
     (said_it ∙ ap (λ (r : Refusal). after_told before.taken (refusal_line r)) same)
     (draws ∙ ap (λ (d : Drawn). behind d before.draws) (sym opens.0))
-    (subst (λ (d : Drawn). IsSame d old now) (sym opens.0) (answers.refusals why cause))
+    (subst (λ (d : Drawn). Stays d old now) (sym opens.0) (record { stays = answers.stays refusal refl; leaves = answers.refusals why cause }))
 admin_refused asks clock (Opens begin made at its) refusal gave opens answers said_it draws =
     absurd (open_having clock (Err (stop.Refused refusal)) opens.0 (gave opens.0.told opens.0.draws_are) answers)
 admin_refused asks clock (Loads begin made at what) refusal gave opens answers said_it draws = absurd opens

@@ -1,11 +1,11 @@
 -- What comes of a run that makes new keys and adds them to a keytab.
-use Rattle.std.proofs.Common.{◌≡◌, ◌≢◌, ◌∙◌, ℕ, List, [], refl, ap, sym, subst, inl, inr, Bool, true, false, IsTrue}
+use Rattle.std.proofs.Common.{◌≡◌, ◌≢◌, ◌⊎◌, ◌∙◌, ℕ, List, [], refl, ap, sym, subst, inl, inr, Bool, true, false, IsTrue}
 use Rattle.std.specs.Prelude.{Option, Some, None, Result, Ok, Err, IfErr, IfOk, OnErr, OnOk, ⊤}
 use Rattle.std.proofs.lemmas.Option.{same_Some}
 use Rattle.std.proofs.lemmas.Result.{on_err_weaker}
 use Rattle.iprop_truths.specs.Parts.{end_of}
 use Rattle.kadm_commands.specs.Commands.{AreEtypes}
-use Rattle.kadm_keytabs.specs.Renewals.{EndsRenewed, MayStop, Renewal, RenewalLeaves, RenewalStops, Renews, Wanted, no_renewal, renewal_of, wanted}
+use Rattle.kadm_keytabs.specs.Renewals.{EndsRenewed, IsAsked, MayStop, Renewal, RenewalLeaves, RenewalStops, Renews, Wanted, WasDone, ask_for, no_renewal, renewal_of, wanted}
 use Rattle.kadm_keytabs.specs.Renewing.{IsOfInput}
 use Rattle.kadm_loading.specs.Halts.{SparesOutput}
 use Rattle.kadm_session.proofs.Leaving.{leaves_first}
@@ -14,8 +14,8 @@ use Rattle.kadm_top.proofs.KeytabRuns.{no_keytab, same_bad, same_entries}
 use Rattle.kadm_top.proofs.Loads.{rests_part}
 use Rattle.kadm_top.proofs.Openings.{Answers as Opened_so, is_open, open_having, opened_place, opened_state, opening_part, refused_always}
 use Rattle.kadm_top.proofs.Running.{all_at_end, cut_refusal_run, refused_run, said_nothing}
-use Rattle.kadm_top.specs.Openings.{Adds, AddsNew, AMoment, Drawn, Ends, Filters, HasAddingNew, HasRenewal, HasRenewalBy, Loads, Makes, Opening, Opens, ReadsInput, Refuses, RenewsBy, RenewsTold, Tells, adds_new_for, behind}
-use Rattle.kadm_top.specs.Run.{HasRenewed, HasRun, IsSame, OpensPart, RenewedLeaves, RenewedStops, RunEnd, RunEndsAs, Told, refusal_line, renewed_end}
+use Rattle.kadm_top.specs.Openings.{Adds, AddsNew, AMoment, Drawn, Ends, Filters, HasAddingNew, HasRenewal, HasRenewalBy, Loads, Makes, Opening, Opens, ReadsInput, Refuses, Renewed, Renewing, RenewsBy, RenewsTold, Tells, Untold, adds_new_for, behind}
+use Rattle.kadm_top.specs.Run.{HasRenewed, HasRun, IsSame, OpensPart, RenewedLeaves, RenewedStops, RunEnd, RunEndsAs, Stays, Told, refusal_line, renewed_end}
 use Rattle.kdb_base.specs.Moment.{Moment}
 use Rattle.kdb_base.specs.declared.keys.Etype.{Etype}
 use Rattle.kdb_base.specs.declared.outcomes.Refusal.{Refusal}
@@ -38,7 +38,7 @@ use Rattle.primary_core.specs.Opened.{HasState, IsOpened, Opened, place_of}
 use Rattle.primary_core.specs.Opening.{OpeningRefused, OpensTo, place_found}
 use Rattle.princ_name.specs.Names.{NameParts}
 use Rattle.princ_name.specs.Readings.{own_name_in}
-use Rattle.session_base.specs.Draws.{Draws, behind_moment, moment_in}
+use Rattle.session_base.specs.Draws.{Draws, behind_moment, block_in, moment_in}
 use Rattle.session_base.specs.Stages.{IsStopped, StandsPart, StopsAt}
 use Rattle.session_base.specs.Wholes.{IsReadWhole}
 use Rattle.session_base.specs.declared.halts.SessionHalt.{SessionHalt}
@@ -56,6 +56,15 @@ one_renewal w draws at text a b (inr x) (inr y) = x.is ∙ ap (λ (p : ℕ). no_
 
 -- ---- what was made and written
 
+abbrev pub StandsAt : Place → Files → Type 0
+StandsAt p c = recovers c ≡ Ok p
+
+-- no file was touched, or something holds
+pub untouched_or : {D : Type 0} (view : D → View) (old new : D) (p : Place) (P : Type 0) → RecoversTo p (view old) → (new ≡ old) ⊎ P → LeavesOnly (view old) (view new) (StandsAt p) ⊎ P
+untouched_or {D} view old new p P recovered (inl same) =
+    inl (subst (λ (x : D). LeavesOnly (view old) (view x) (StandsAt p)) (sym same) (started (view old) (StandsAt p) recovered))
+untouched_or view old new p P recovered (inr holds) = inr holds
+
 -- what a run over an input says of what it made and wrote, where the clock and the random bytes are told
 pub record Says (w : Wanted) (left : Option (List ℕ)) (draws : Draws) (at : Seen) (old now : View) (taken out : Option (List ℕ)) (o : Opened) (later : Option Draws) (r : Result Bool SessionHalt) : Type 0 where
   pub ended : (text : List ℕ) → left ≡ Some text → IfOk r (λ refused. EndsRenewed (Renews w draws at text) refused taken out o later)
@@ -63,6 +72,7 @@ pub record Says (w : Wanted) (left : Option (List ℕ)) (draws : Draws) (at : Se
   pub moments : LeavesOnly old now (RenewalLeaves w left (Some draws) at)
   pub rests : IfErr r (λ halt. SparesOutput halt → (out ≡ taken) × RecoversTo at.place now)
   pub stands : OnOk r (RecoversTo (place_of o) now)
+  pub done : LeavesOnly old now (StandsAt at.place) ⊎ IsAsked (ask_for w (moment_in draws) (block_in draws)) at
 
 any_err : {T E : Type 0} (r : Result T E) → OnErr r ⊤
 any_err (Ok x) = tt
@@ -70,7 +80,7 @@ any_err (Err e) = tt
 
 ended_as : (w : Wanted) (draws : Draws) (at : Seen) (text : List ℕ) (old now : View) (taken out : Option (List ℕ)) (o : Opened) (later : Option Draws) (r : Result Bool SessionHalt) (renewal : Renewal)
     → Renews w draws at text renewal → IfOk r (λ refused. EndsRenewed (Renews w draws at text) refused taken out o later) → OnOk r (RecoversTo (place_of o) now)
-    → (end : RunEnd) → renewed_end (Some renewal) taken ≡ Some end → IfOk r (λ refused. RunEndsAs out refused later old now end)
+    → (end : RunEnd) → renewed_end (Renewed renewal) taken ≡ Some end → IfOk r (λ refused. RunEndsAs out refused later old now end)
 ended_as w draws at text old now taken out o later (Err halt) renewal is ends stands end e = tt
 ended_as w draws at text old now taken out o later (Ok refused) renewal is ends stands end e =
     let same : ends.renewal ≡ renewal = one_renewal w draws at text ends.renewal renewal ends.is is in
@@ -90,7 +100,7 @@ unfolding LeavesPart
 only_first first p others c is none part = subst (λ (q : Place). LeavesPart q [] c) is (subst (λ (ps : List Place). LeavesPart first ps c) none part)
 
 stops_as : (w : Wanted) (draws : Draws) (at : Seen) (text : List ℕ) (now : View) (taken out : Option (List ℕ)) (renewal : Renewal)
-    → Renews w draws at text renewal → IsStopped (RenewalStops w taken (Some text) (Some draws) at) out now → RenewedStops (Some renewal) at.place taken out now
+    → Renews w draws at text renewal → IsStopped (RenewalStops w taken (Some text) (Some draws) at) out now → RenewedStops (Renewed renewal) at.place taken out now
 unfolding RenewalStops
 stops_as w draws at text now taken out renewal is s = by s.first s.others s.may s.stands
   where
@@ -109,34 +119,56 @@ stops_as w draws at text now taken out renewal is s = by s.first s.others s.may 
       stands = stands;
     }
 
-leaves_as : (w : Wanted) (draws : Draws) (at : Seen) (text : List ℕ) (renewal : Renewal) (c : Files)
-    → Renews w draws at text renewal → RenewalLeaves w (Some text) (Some draws) at c → LeavesPart at.place renewal.made c
-unfolding RenewalLeaves
-leaves_as w draws at text renewal c is (inl same) = leaves_first at.place renewal.made c same
-leaves_as w draws at text renewal c is (inr m) = subst (λ (x : Renewal). LeavesPart at.place x.made c) (one_renewal w draws at text m.renewal renewal m.is is) m.leaves
+was_done : (w : Wanted) (draws : Draws) (at : Seen) (text : List ℕ) (renewal : Renewal) → Renews w draws at text renewal
+    → IsAsked (ask_for w (moment_in draws) (block_in draws)) at → WasDone renewal.asked renewal.from
+was_done w draws at text renewal (inl k) done = subst (λ (x : Renewal). WasDone x.asked x.from) (sym k.is) done
+was_done w draws at text renewal (inr n) done = subst (λ (x : Renewal). WasDone x.asked x.from) (sym n.is) tt
 
-pub renewed : (w : Wanted) (left : Option (List ℕ)) (draws : Draws) (at : Seen) (old now : View) (taken out : Option (List ℕ)) (o : Opened) (later : Option Draws) (r : Result Bool SessionHalt) (what : Option Renewal)
-    → Says w left draws at old now taken out o later r → RenewsTold w left draws at what → HasRenewed what at.place old now taken out later r
-renewed w left draws at old now taken out o later r None says is = record {
+leaves_as : (w : Wanted) (draws : Draws) (at : Seen) (text : List ℕ) (renewal : Renewal) (c : Files)
+    → Renews w draws at text renewal → WasDone renewal.asked renewal.from → RenewalLeaves w (Some text) (Some draws) at c → RenewedLeaves (Renewed renewal) at c
+unfolding RenewalLeaves
+leaves_as w draws at text renewal c is done (inl same) = inl same
+leaves_as w draws at text renewal c is done (inr m) =
+    inr (done, subst (λ (x : Renewal). LeavesPart at.place x.made c) (one_renewal w draws at text m.renewal renewal m.is is) m.leaves)
+
+moments_as : (w : Wanted) (draws : Draws) (at : Seen) (text : List ℕ) (old now : View) (renewal : Renewal) → Renews w draws at text renewal
+    → LeavesOnly old now (RenewalLeaves w (Some text) (Some draws) at) → LeavesOnly old now (StandsAt at.place) ⊎ IsAsked (ask_for w (moment_in draws) (block_in draws)) at
+    → LeavesOnly old now (RenewedLeaves (Renewed renewal) at)
+moments_as w draws at text old now renewal is run (inl same) = weaken same (λ c stands. inl stands)
+moments_as w draws at text old now renewal is run (inr done) = weaken run (λ c leaves. leaves_as w draws at text renewal c is (was_done w draws at text renewal is done) leaves)
+
+same_wanted : (a b : Wanted) → Untold a ≡ Untold b → a ≡ b
+same_wanted a b e = cc
+
+untold_as : (w : Wanted) (left : Option (List ℕ)) (draws : Draws) (at : Seen) (old now : View) (other : Wanted) → RenewsTold w left draws at (Untold other)
+    → LeavesOnly old now (RenewalLeaves w left (Some draws) at) → LeavesOnly old now (RenewedLeaves (Untold other) at)
+unfolding RenewalLeaves
+untold_as w None draws at old now other is run =
+    subst (λ (x : Wanted). LeavesOnly old now (RenewedLeaves (Untold x) at)) (sym (same_wanted other w is)) (weaken run (λ c leaves. leaves))
+untold_as w (Some text) draws at old now other is run = absurd is
+
+pub renewed : (w : Wanted) (left : Option (List ℕ)) (draws : Draws) (at : Seen) (old now : View) (taken out : Option (List ℕ)) (o : Opened) (later : Option Draws) (r : Result Bool SessionHalt) (what : Renewing)
+    → Says w left draws at old now taken out o later r → RenewsTold w left draws at what → HasRenewed what at old now taken out later r
+renewed w left draws at old now taken out o later r (Untold other) says is = record {
   ended = λ end e. absurd cc;
   stopped = any_err r;
   rests = says.rests;
-  moments = weaken says.moments (λ c l. tt);
+  moments = untold_as w left draws at old now other is says.moments;
 }
-renewed w None draws at old now taken out o later r (Some renewal) says is = absurd cc
-renewed w (Some text) draws at old now taken out o later r (Some renewal) says is = record {
+renewed w None draws at old now taken out o later r (Renewed renewal) says is = absurd cc
+renewed w (Some text) draws at old now taken out o later r (Renewed renewal) says is = record {
   ended = ended_as w draws at text old now taken out o later r renewal is (says.ended text refl) says.stands;
   stopped = on_err_weaker r (stops_as w draws at text now taken out renewal is) says.stopped;
   rests = says.rests;
-  moments = weaken says.moments (λ c l. leaves_as w draws at text renewal c is l);
+  moments = moments_as w draws at text old now renewal is says.moments says.done;
 }
 
 -- there is such a run
 pub has_renewal : (w : Wanted) (left : Option (List ℕ)) (draws : Draws) (at : Seen) (taken out : Option (List ℕ)) (o : Opened) (later : Option Draws) (r : Result Bool SessionHalt)
     → ((text : List ℕ) → left ≡ Some text → IfOk r (λ refused. EndsRenewed (Renews w draws at text) refused taken out o later)) → OnOk r (HasRenewal w left draws at)
 has_renewal w left draws at taken out o later (Err halt) ends = tt
-has_renewal w None draws at taken out o later (Ok refused) ends = record { what = None; is = refl }
-has_renewal w (Some text) draws at taken out o later (Ok refused) ends = let e = ends text refl in record { what = Some e.renewal; is = e.is }
+has_renewal w None draws at taken out o later (Ok refused) ends = record { what = Untold w; is = refl }
+has_renewal w (Some text) draws at taken out o later (Ok refused) ends = let e = ends text refl in record { what = Renewed e.renewal; is = e.is }
 
 -- by what is told of the clock and of the random bytes
 pub stopped_told : (w : Wanted) (taken left : Option (List ℕ)) (told : Option Draws) (draws : Draws) (at : Seen) (out : Option (List ℕ)) (now : View) (r : Result Bool SessionHalt) → told ≡ Some draws
@@ -152,7 +184,7 @@ unread_disk (Ok refused) A B C D unread = tt
 unread_disk (Err halt) A B C D unread = λ of. (unread of).0
 
 -- by the client
-pub told_for : (client other name : NameParts) (etypes : List Etype) (left : Option (List ℕ)) (draws : Draws) (at : Seen) (what : Option Renewal) → client ≡ other
+pub told_for : (client other name : NameParts) (etypes : List Etype) (left : Option (List ℕ)) (draws : Draws) (at : Seen) (what : Renewing) → client ≡ other
     → RenewsTold (wanted other name etypes) left draws at what → RenewsTold (wanted client name etypes) left draws at what
 told_for client other name etypes left draws at what is told = subst (λ (n : NameParts). RenewsTold (wanted n name etypes) left draws at what) (sym is) told
 
@@ -180,13 +212,13 @@ rests_same {D} {K} view taken disk_old disk_new old new p (Err halt) recovered u
 
 -- ---- nothing was made
 
-leaves_start : (what : Option Renewal) (p : Place) (v : View) → RecoversTo p v → LeavesOnly v v (RenewedLeaves what p)
-leaves_start None p v recovered = started v (RenewedLeaves None p) (λ c image. tt)
-leaves_start (Some renewal) p v recovered = started v (RenewedLeaves (Some renewal) p) (λ c image. leaves_first p renewal.made c (recovered c image))
+leaves_start : (what : Renewing) (at : Seen) (v : View) → RecoversTo at.place v → LeavesOnly v v (RenewedLeaves what at)
+leaves_start (Untold w) at v recovered = started v (RenewedLeaves (Untold w) at) (λ c image. inl (recovered c image))
+leaves_start (Renewed renewal) at v recovered = started v (RenewedLeaves (Renewed renewal) at) (λ c image. inl (recovered c image))
 
-stops_start : (what : Option Renewal) (p : Place) (v : View) (taken out : Option (List ℕ)) → out ≡ taken → RecoversTo p v → RenewedStops what p taken out v
-stops_start None p v taken out same recovered = tt
-stops_start (Some renewal) p v taken out same recovered = record {
+stops_start : (what : Renewing) (p : Place) (v : View) (taken out : Option (List ℕ)) → out ≡ taken → RecoversTo p v → RenewedStops what p taken out v
+stops_start (Untold w) p v taken out same recovered = tt
+stops_start (Renewed renewal) p v taken out same recovered = record {
   first = p;
   others = renewal.made;
   may = inl (same, refl, refl);
@@ -194,33 +226,33 @@ stops_start (Some renewal) p v taken out same recovered = record {
 }
 
 -- want of memory before all
-pub nothing_renewed : (what : Option Renewal) (p : Place) (v : View) (taken : Option (List ℕ)) (draws : Option Draws) → RecoversTo p v → HasRenewed what p v v taken taken draws (Err session.MemoryOut)
-nothing_renewed what p v taken draws recovered = record {
+pub nothing_renewed : (what : Renewing) (at : Seen) (v : View) (taken : Option (List ℕ)) (draws : Option Draws) → RecoversTo at.place v → HasRenewed what at v v taken taken draws (Err session.MemoryOut)
+nothing_renewed what at v taken draws recovered = record {
   ended = λ end e. tt;
-  stopped = stops_start what p v taken taken refl recovered;
+  stopped = stops_start what at.place v taken taken refl recovered;
   rests = λ spares. (refl, recovered);
-  moments = leaves_start what p v recovered;
+  moments = leaves_start what at v recovered;
 }
 
 -- the refusal of a name, in place of a keytab
 pub refusal_renewed : (why : Refusal) (draws : Draws) (at : Seen) (v : View) (taken out : Option (List ℕ)) (later : Option Draws) → RecoversTo at.place v → ShowsAt at.place at.state
-    → out ≡ after_told taken (refusal_line why) → later ≡ Some draws → HasRenewed (Some (no_renewal why draws at)) at.place v v taken out later (Ok true)
+    → out ≡ after_told taken (refusal_line why) → later ≡ Some draws → HasRenewed (Renewed (no_renewal why draws at)) at v v taken out later (Ok true)
 refusal_renewed why draws at v taken out later recovered shows is same = record {
   ended = λ end e. subst (λ (x : RunEnd). RunEndsAs out true later v v x) (same_Some _ _ e)
       (record { out_is = is; refused_is = refl; stands = record { place = recovered; shows = shows }; draws_are = same });
   stopped = tt;
   rests = tt;
-  moments = leaves_start (Some (no_renewal why draws at)) at.place v recovered;
+  moments = leaves_start (Renewed (no_renewal why draws at)) at v recovered;
 }
 
 pub refusal_renewed_cut : (why : Refusal) (draws : Draws) (at : Seen) (v : View) (taken out : Option (List ℕ)) (later : Option Draws) (halt : SessionHalt) → RecoversTo at.place v
-    → SaidPart (refusal_line why) taken out → (SparesOutput halt → out ≡ taken) → HasRenewed (Some (no_renewal why draws at)) at.place v v taken out later (Err halt)
+    → SaidPart (refusal_line why) taken out → (SparesOutput halt → out ≡ taken) → HasRenewed (Renewed (no_renewal why draws at)) at v v taken out later (Err halt)
 unfolding LeavesPart
 refusal_renewed_cut why draws at v taken out later halt recovered part nothing = record {
   ended = λ end e. tt;
   stopped = record { first = at.place; others = []; may = inr (part, refl, refl); stands = record { each = λ c image. recovered c image } };
   rests = λ spares. (nothing spares, recovered);
-  moments = leaves_start (Some (no_renewal why draws at)) at.place v recovered;
+  moments = leaves_start (Renewed (no_renewal why draws at)) at v recovered;
 }
 
 -- ---- by the name
@@ -228,14 +260,14 @@ refusal_renewed_cut why draws at v taken out later halt recovered part nothing =
 pub are_etypes : (etypes : List Etype) → AreTypes etypes → AreEtypes etypes
 are_etypes etypes types = record { some = types.some; once = types.once }
 
-pub renewal_refused : (name : Result NameParts ℕ) (etypes : List Etype) (left : Option (List ℕ)) (draws : Draws) (at : Seen) (reads : Bool) (what : Option Renewal) (P : Option Renewal → Type 0)
-    → RenewsBy name etypes left draws at reads what → (offset : ℕ) → name ≡ Err offset → P (Some (no_renewal (BadName offset) draws at)) → P what
+pub renewal_refused : (name : Result NameParts ℕ) (etypes : List Etype) (left : Option (List ℕ)) (draws : Draws) (at : Seen) (reads : Bool) (what : Renewing) (P : Renewing → Type 0)
+    → RenewsBy name etypes left draws at reads what → (offset : ℕ) → name ≡ Err offset → P (Renewed (no_renewal (BadName offset) draws at)) → P what
 renewal_refused (Ok n) etypes left draws at reads what P is offset e p = absurd cc
 renewal_refused (Err place) etypes left draws at reads what P is offset e p =
     let same : place ≡ offset = cc in
-    subst P (ap (λ (n : ℕ). Some (no_renewal (BadName n) draws at)) (sym same) ∙ sym is.1) p
+    subst P (ap (λ (n : ℕ). Renewed (no_renewal (BadName n) draws at)) (sym same) ∙ sym is.1) p
 
-renewal_reads : (name : Result NameParts ℕ) (etypes : List Etype) (left : Option (List ℕ)) (draws : Draws) (at : Seen) (reads : Bool) (what : Option Renewal) (P : Type 0)
+renewal_reads : (name : Result NameParts ℕ) (etypes : List Etype) (left : Option (List ℕ)) (draws : Draws) (at : Seen) (reads : Bool) (what : Renewing) (P : Type 0)
     → RenewsBy name etypes left draws at reads what → ((n : NameParts) → name ≡ Ok n → P) → IsTrue reads → P
 renewal_reads (Ok n) etypes left draws at reads what P is by t = by n refl
 renewal_reads (Err place) etypes left draws at reads what P is by t =
@@ -243,7 +275,7 @@ renewal_reads (Err place) etypes left draws at reads what P is by t =
     let never : reads ≡ false = is.0 in
     absurd cc
 
-renewal_unread : (name : Result NameParts ℕ) (etypes : List Etype) (left : Option (List ℕ)) (draws : Draws) (at : Seen) (reads : Bool) (what : Option Renewal) (P : Type 0)
+renewal_unread : (name : Result NameParts ℕ) (etypes : List Etype) (left : Option (List ℕ)) (draws : Draws) (at : Seen) (reads : Bool) (what : Renewing) (P : Type 0)
     → RenewsBy name etypes left draws at reads what → ((offset : ℕ) → name ≡ Err offset → P) → (IsTrue reads → ⊥) → P
 renewal_unread (Ok n) etypes left draws at reads what P is by unread = absurd (unread is.0)
 renewal_unread (Err place) etypes left draws at reads what P is by unread = by place refl
@@ -252,7 +284,7 @@ same_name : (a b : NameParts) → ◌≡◌ {A = Result NameParts ℕ} (Ok a) (O
 same_name a b e = cc
 
 -- the keys of a name
-pub renewal_named : (name : Result NameParts ℕ) (etypes : List Etype) (left : Option (List ℕ)) (draws : Draws) (at : Seen) (reads : Bool) (what : Option Renewal) (P : Type 0)
+pub renewal_named : (name : Result NameParts ℕ) (etypes : List Etype) (left : Option (List ℕ)) (draws : Draws) (at : Seen) (reads : Bool) (what : Renewing) (P : Type 0)
     → RenewsBy name etypes left draws at reads what → (n : NameParts) → name ≡ Ok n → (RenewsTold (wanted (local_client at.place.realm) n etypes) left draws at what → P) → P
 renewal_named (Err place) etypes left draws at reads what P is n e by = absurd cc
 renewal_named (Ok m) etypes left draws at reads what P is n e by =
@@ -267,22 +299,22 @@ has_named name etypes left draws at n e (Ok b) has =
 -- what is none is refused
 pub has_refused : (name : Result NameParts ℕ) (etypes : List Etype) (left : Option (List ℕ)) (draws : Draws) (at : Seen) (offset : ℕ) → name ≡ Err offset → HasRenewalBy name etypes left draws at
 has_refused name etypes left draws at offset e =
-    subst (λ (x : Result NameParts ℕ). HasRenewalBy x etypes left draws at) (sym e) (record { reads = false; what = Some (no_renewal (BadName offset) draws at); is = (refl, refl) })
+    subst (λ (x : Result NameParts ℕ). HasRenewalBy x etypes left draws at) (sym e) (record { reads = false; what = Renewed (no_renewal (BadName offset) draws at); is = (refl, refl) })
 
 -- ---- runs
 
 -- an end at a place does not speak of the disk of before
-ends_over : (what : Option Renewal) (taken out : Option (List ℕ)) (draws : Option Draws) (mid old now : View) (r : Result Bool SessionHalt) (end : RunEnd) → renewed_end what taken ≡ Some end
+ends_over : (what : Renewing) (taken out : Option (List ℕ)) (draws : Option Draws) (mid old now : View) (r : Result Bool SessionHalt) (end : RunEnd) → renewed_end what taken ≡ Some end
     → IfOk r (λ refused. RunEndsAs out refused draws mid now end) → IfOk r (λ refused. RunEndsAs out refused draws old now end)
-ends_over None taken out draws mid old now r end e ends = absurd cc
-ends_over (Some renewal) taken out draws mid old now (Err halt) end e ends = tt
-ends_over (Some renewal) taken out draws mid old now (Ok refused) end e ends =
+ends_over (Untold w) taken out draws mid old now r end e ends = absurd cc
+ends_over (Renewed renewal) taken out draws mid old now (Err halt) end e ends = tt
+ends_over (Renewed renewal) taken out draws mid old now (Ok refused) end e ends =
     subst (λ (x : RunEnd). RunEndsAs out refused draws mid now x → RunEndsAs out refused draws old now x) (same_Some _ _ e)
     (λ x. record { out_is = x.out_is; refused_is = x.refused_is; stands = x.stands; draws_are = x.draws_are }) ends
 
 -- over a database that was opened
-renewed_run : {old mid now : View} {before after : Told} (begin : Place) (made : List Place) (at : Seen) (reads : Bool) (what : Option Renewal) (r : Result Bool SessionHalt)
-    → at.place ≡ end_of begin made → LeavesOnly old mid (OpensPart old begin made) → HasRenewed what at.place mid now before.taken after.taken after.draws r
+renewed_run : {old mid now : View} {before after : Told} (begin : Place) (made : List Place) (at : Seen) (reads : Bool) (what : Renewing) (r : Result Bool SessionHalt)
+    → at.place ≡ end_of begin made → LeavesOnly old mid (OpensPart old begin made) → HasRenewed what at mid now before.taken after.taken after.draws r
     → (IsTrue reads → OnOk r (IsReadWhole before.left after.left))
     → HasRun (AddsNew begin made at reads what) old now before after r
 renewed_run {old} {mid} {now} {before} {after} begin made at reads what r place opening has read = record {
@@ -299,9 +331,9 @@ renewed_run {old} {mid} {now} {before} {after} begin made at reads what r place 
 pub renew_opened_run : {found : Result Found Refusal} {old mid now : View} {before after : Told} {r : Result Bool SessionHalt} (word : List ℕ) (etypes : List Etype) (clock : Moment) (o : Opening) (primary : Opened)
     → ((d : Draws) → before.draws ≡ Some d → clock ≡ moment_in d)
     → adds_new_for word etypes before.left found before.draws o → Opened_so found None clock (Ok primary) old mid
-    → ((s : State) (draws : Draws) (reads : Bool) (what : Option Renewal) → HasState primary s → behind AMoment before.draws ≡ Some draws
+    → ((s : State) (draws : Draws) (reads : Bool) (what : Renewing) → HasState primary s → behind AMoment before.draws ≡ Some draws
     → RenewsBy (own_name_in word primary.kept.realm) etypes before.left draws (seen (place_of primary) s) reads what
-    → HasRenewed what (place_of primary) mid now before.taken after.taken after.draws r)
+    → HasRenewed what (seen (place_of primary) s) mid now before.taken after.taken after.draws r)
     → ((name : NameParts) → own_name_in word primary.kept.realm ≡ Ok name → OnOk r (IsReadWhole before.left after.left))
     → HasRun o old now before after r
 renew_opened_run word etypes clock (Refuses why drawn) primary gave adds answers written read = absurd (answers.only_refused why (adds.1 clock))
@@ -314,7 +346,7 @@ renew_opened_run {found} {old} {mid} {now} {before} {after} {r} word etypes cloc
     let comes : RenewsBy (own_name_in word (place_of primary).realm) etypes before.left (behind_moment opens.told) (seen (place_of primary) at.state) reads what =
     subst (λ (p : Place). RenewsBy (own_name_in word p.realm) etypes before.left (behind_moment opens.told) (seen p at.state) reads what) (sym place) adds.comes in
     renewed_run begin made at reads what r opens.place_is (opening_part clock opens at_clock answers.moments)
-    (subst (λ (p : Place). HasRenewed what p mid now before.taken after.taken after.draws r) place (written at.state (behind_moment opens.told) reads what state draws comes))
+    (subst (λ (p : Place). HasRenewed what (seen p at.state) mid now before.taken after.taken after.draws r) place (written at.state (behind_moment opens.told) reads what state draws comes))
     (renewal_reads (own_name_in word (place_of primary).realm) etypes before.left (behind_moment opens.told) (seen (place_of primary) at.state) reads what _ comes read)
 renew_opened_run word etypes clock (Opens begin made at its) primary gave adds answers written read = absurd adds
 renew_opened_run word etypes clock (Loads begin made at what) primary gave adds answers written read = absurd adds
@@ -336,7 +368,7 @@ renew_refused {old = old} {now = now} {before = before} {after = after} word ety
     refused_run why drawn
     (said_it ∙ ap (λ (r : Refusal). after_told before.taken (refusal_line r)) same)
     (draws ∙ ap (λ (d : Drawn). behind d before.draws) (sym adds.0))
-    (subst (λ (d : Drawn). IsSame d old now) (sym adds.0) (answers.refusals why cause))
+    (subst (λ (d : Drawn). Stays d old now) (sym adds.0) (record { stays = answers.stays refusal refl; leaves = answers.refusals why cause }))
 renew_refused word etypes clock (AddsNew begin made at reads what) refusal gave adds answers said_it draws =
     absurd (open_having clock (Err (stop.Refused refusal)) adds.opens (gave adds.opens.told adds.opens.draws_are) answers)
 renew_refused word etypes clock (Opens begin made at its) refusal gave adds answers said_it draws = absurd adds

@@ -5,7 +5,7 @@ use Rattle.std.proofs.lemmas.Option.{same_Some}
 use Rattle.first_rows.specs.Parts.{SpecParts}
 use Rattle.kadm_loading.specs.Halts.{SparesOutput}
 use Rattle.session_base.specs.Wholes.{IsReadWhole}
-use Rattle.kadm_session.specs.Courses.{Ending, ending}
+use Rattle.kadm_session.specs.Courses.{Ending, IsAtRest, ending}
 use Rattle.session_base.specs.Draws.{Draws}
 use Rattle.session_base.specs.Halts.{disk_as_session}
 use Rattle.kadm_keytabs.specs.declared.answers.Answer.{Answer}
@@ -13,7 +13,7 @@ use Rattle.session_base.specs.declared.halts.SessionHalt.{SessionHalt}
 use Rattle.kadm_session.specs.declared.intake.Asked.{Asked}
 use Rattle.session_base.specs.declared.halts.SessionHalt.TheVariants as session
 use Rattle.kadm_top.specs.Openings.{Adds, AddsNew, AMoment, ABlock, Drawn, Ends, Filters, IsInput, Loads, Makes, NoDraw, Opening, Opens, Refuses, Tells, behind}
-use Rattle.kadm_top.specs.Run.{HasCourse, HasRun, IfTold, IsFront, IsSame, LeavesAll, MakesStop, OpensPart, RunEnd, RunEndsAs, RunLeaves, RunRests, RunStops, Told, course_behind, end_opened, place_made, refusal_line}
+use Rattle.kadm_top.specs.Run.{HasCourse, HasRun, IfTold, IsFront, IsSame, LeavesAll, MakesStop, OpensPart, RunEnd, RunEndsAs, RunLeaves, RunRests, RunStops, Stays, Told, begun_at, course_behind, end_opened, place_made, refusal_line}
 use Rattle.kadm_top.specs.Statuses.{IsSayHalt}
 use Rattle.kdb_base.specs.declared.outcomes.Halt.{Halt}
 use Rattle.kdb_base.specs.declared.outcomes.Halt.TheVariants as disk
@@ -48,6 +48,11 @@ same_leaves NoDraw same = keeps_like same
 same_leaves AMoment same = same
 same_leaves ABlock same = keeps_like same
 
+stays_leaves : {old now : View} (drawn : Drawn) → Stays drawn old now → LeavesOnly old now (IsLike old)
+stays_leaves NoDraw stays = keeps_like stays
+stays_leaves AMoment stays = stays.leaves
+stays_leaves ABlock stays = keeps_like stays
+
 -- nothing was written
 pub said_nothing : (text : List ℕ) (old new : Option (List ℕ)) → new ≡ old → SaidPart text old new
 said_nothing text old new is = record { count = 0; part = is ∙ sym (after_told-nil old) }
@@ -72,14 +77,14 @@ says_no_disk session.InputTooLong says e = absurd says
 -- ---- a refusal
 
 pub refused_run : {old now : View} {before after : Told} (why : Refusal) (drawn : Drawn)
-    → after.taken ≡ after_told before.taken (refusal_line why) → after.draws ≡ behind drawn before.draws → IsSame drawn old now
+    → after.taken ≡ after_told before.taken (refusal_line why) → after.draws ≡ behind drawn before.draws → Stays drawn old now
     → HasRun (Refuses why drawn) old now before after (Ok true)
-refused_run {old} {now} {before} {after} why drawn said_it draws same = record {
+refused_run {old} {now} {before} {after} why drawn said_it draws stays = record {
   ended = λ end e. subst (λ (x : RunEnd). RunEndsAs after.taken true after.draws old now x) (same_Some _ _ e)
-      (record { out_is = said_it; refused_is = refl; stands = same; draws_are = draws });
+      (record { out_is = said_it; refused_is = refl; stands = stays; draws_are = draws });
   stopped = tt;
   rests = tt;
-  moments = same_leaves drawn same;
+  moments = stays_leaves drawn stays;
   read = λ no. absurd no;
 }
 
@@ -100,14 +105,14 @@ cut_refusal_run {old} {now} {before} {after} why drawn halt part same nothing = 
 
 -- it was told
 pub text_run : {old now : View} {before after : Told} (text : List ℕ) (drawn : Drawn)
-    → after.taken ≡ after_told before.taken text → after.draws ≡ behind drawn before.draws → IsSame drawn old now
+    → after.taken ≡ after_told before.taken text → after.draws ≡ behind drawn before.draws → Stays drawn old now
     → HasRun (Tells text drawn) old now before after (Ok false)
-text_run {old} {now} {before} {after} text drawn said_it draws same = record {
+text_run {old} {now} {before} {after} text drawn said_it draws stays = record {
   ended = λ end e. subst (λ (x : RunEnd). RunEndsAs after.taken false after.draws old now x) (same_Some _ _ e)
-      (record { out_is = said_it; refused_is = refl; stands = same; draws_are = draws });
+      (record { out_is = said_it; refused_is = refl; stands = stays; draws_are = draws });
   stopped = tt;
   rests = tt;
-  moments = same_leaves drawn same;
+  moments = stays_leaves drawn stays;
   read = λ no. absurd no;
 }
 
@@ -157,16 +162,16 @@ idle_stops {old} {now} before (Tells text drawn) out keeps is = (said_nothing te
 idle_stops {old} {now} before (Makes spec) out keeps is = made_idle spec before.draws before.taken out keeps is
 idle_stops before Ends out keeps is = inl (is, all_at_end (weaken (keeps_like keeps) (λ c like. inl like)))
 
-idle_rests : {old now : View} (before : Told) (o : Opening) (out : Option (List ℕ)) → Keeps old now → out ≡ before.taken → RunRests o old before out now
-idle_rests before (Refuses why drawn) out keeps is = (is, keeps_same drawn keeps)
-idle_rests before (Opens begin made at asked) out keeps is = inr (is, all_at_end (weaken (keeps_like keeps) (λ c like. inl like)))
-idle_rests before (Loads begin made at what) out keeps is = (is, all_at_end (weaken (keeps_like keeps) (λ c like. inl like)))
-idle_rests before (Adds begin made at reads what) out keeps is = (is, all_at_end (weaken (keeps_like keeps) (λ c like. inl like)))
-idle_rests before (AddsNew begin made at reads what) out keeps is = (is, all_at_end (weaken (keeps_like keeps) (λ c like. inl like)))
-idle_rests before (Filters what) out keeps is = (is, keeps)
-idle_rests before (Tells text drawn) out keeps is = (said_nothing text before.taken out is, keeps_same drawn keeps)
-idle_rests before (Makes spec) out keeps is = (is, keeps)
-idle_rests before Ends out keeps is = (is, keeps)
+idle_rests : {old now : View} (begun : List Asked → Place → List ℕ) (before : Told) (o : Opening) (out : Option (List ℕ)) → Keeps old now → out ≡ before.taken → RunRests begun o old before out now
+idle_rests begun before (Refuses why drawn) out keeps is = (is, keeps_same drawn keeps)
+idle_rests begun before (Opens begin made at asked) out keeps is = inr (is, all_at_end (weaken (keeps_like keeps) (λ c like. inl like)))
+idle_rests begun before (Loads begin made at what) out keeps is = (is, all_at_end (weaken (keeps_like keeps) (λ c like. inl like)))
+idle_rests begun before (Adds begin made at reads what) out keeps is = (is, all_at_end (weaken (keeps_like keeps) (λ c like. inl like)))
+idle_rests begun before (AddsNew begin made at reads what) out keeps is = (is, all_at_end (weaken (keeps_like keeps) (λ c like. inl like)))
+idle_rests begun before (Filters what) out keeps is = (is, keeps)
+idle_rests begun before (Tells text drawn) out keeps is = (said_nothing text before.taken out is, keeps_same drawn keeps)
+idle_rests begun before (Makes spec) out keeps is = (is, keeps)
+idle_rests begun before Ends out keeps is = (is, keeps)
 
 idle_leaves : {old now : View} (before : Told) (o : Opening) → Keeps old now → LeavesOnly old now (RunLeaves o old before)
 idle_leaves before (Refuses why drawn) keeps = keeps_like keeps
@@ -183,7 +188,7 @@ pub idle_run : {old now : View} {before after : Told} (o : Opening) (halt : Sess
 idle_run {old} {now} {before} {after} o halt keeps is = record {
   ended = λ end e. tt;
   stopped = idle_stops before o after.taken keeps is;
-  rests = λ at. idle_rests before o after.taken keeps is;
+  rests = λ at. idle_rests (begun_at halt) before o after.taken keeps is;
   moments = idle_leaves before o keeps;
   read = λ reads. tt;
 }
@@ -214,7 +219,7 @@ stopped_over : (P Q : Type 0) (r : Result Bool SessionHalt) → OnErr r P → On
 stopped_over P Q (Ok refused) p = tt
 stopped_over P Q (Err halt) p = inl p
 
-rests_over : (P Q : Type 0) (r : Result Bool SessionHalt) → IfErr r (λ halt. SparesOutput halt → P) → IfErr r (λ halt. SparesOutput halt → P ⊎ Q)
+rests_over : (P : SessionHalt → Type 0) (Q : Type 0) (r : Result Bool SessionHalt) → IfErr r (λ halt. SparesOutput halt → P halt) → IfErr r (λ halt. SparesOutput halt → P halt ⊎ Q)
 rests_over P Q (Ok refused) rests = tt
 rests_over P Q (Err halt) rests = λ spares. inl (rests spares)
 
@@ -227,7 +232,7 @@ pub opened_run : {old mid now : View} {before after : Told} {result : Result Boo
 opened_run {old} {mid} {now} {before} {after} {result} begin made at asked opening course whole = record {
   ended = λ end e. by (ending (course_behind asked before at)) course.ended end e;
   stopped = stopped_over _ _ result course.stopped;
-  rests = rests_over _ _ result course.rests;
+  rests = rests_over (λ halt. IsAtRest (begun_at halt) (course_behind asked before at) after.taken now) _ result course.rests;
   moments = then_on (weaken opening (λ c part. inl part)) course.moments (λ c leaves. inr leaves);
   read = λ reads. whole reads;
 }

@@ -58,6 +58,11 @@ behind ABlock told = option_map behind_command told
 
 -- ---- openings
 
+-- what keys that are made anew come to: this, or, where the input is not told, some run for what is wanted
+pub data Renewing : Type 0 where
+  Renewed : (renewal : Renewal) → Renewing
+  Untold : (w : Wanted) → Renewing
+
 -- A refusal, and what was taken before it. A database that is to be asked: the place that its files stand for, the places that its opening makes
 -- (a log begun anew, or none), where it then is, and what alone it is asked, or none where that is the input. One that is to be loaded, and what
 -- that comes to, as far as the input is told. One whose keys are to be added to a keytab: whether the input is read, and what is written, as far
@@ -69,7 +74,7 @@ pub data Opening : Type 0 where
   Opens : (begin : Place) (made : List Place) (at : Seen) (asked : Option Asked) → Opening
   Loads : (begin : Place) (made : List Place) (at : Seen) (what : Option LoadEnd) → Opening
   Adds : (begin : Place) (made : List Place) (at : Seen) (reads : Bool) (what : Option Answer) → Opening
-  AddsNew : (begin : Place) (made : List Place) (at : Seen) (reads : Bool) (what : Option Renewal) → Opening
+  AddsNew : (begin : Place) (made : List Place) (at : Seen) (reads : Bool) (what : Renewing) → Opening
   Filters : (what : Option Answer) → Opening
   Tells : (text : List ℕ) (drawn : Drawn) → Opening
   Makes : (spec : SpecParts) → Opening
@@ -188,30 +193,30 @@ adds_for word left found draws Ends = ⊥
 -- ---- keytabs with new keys
 
 -- what a run over the text of the input comes to, as far as that is told
-abbrev pub RenewsTold : Wanted → Option (List ℕ) → Draws → Seen → Option Renewal → Type 0
-RenewsTold w None draws at what = what ≡ None
-RenewsTold w (Some text) draws at None = ⊥
-RenewsTold w (Some text) draws at (Some renewal) = Renews w draws at text renewal
+abbrev pub RenewsTold : Wanted → Option (List ℕ) → Draws → Seen → Renewing → Type 0
+RenewsTold w None draws at what = what ≡ Untold w
+RenewsTold w (Some text) draws at (Untold other) = ⊥
+RenewsTold w (Some text) draws at (Renewed renewal) = Renews w draws at text renewal
 
 -- New keys of the name, of these types, are made and added to the keytab that the input is. A word that is no name of the realm is refused: no
 -- input is read, and nothing is drawn.
-abbrev pub RenewsBy : Result NameParts ℕ → List Etype → Option (List ℕ) → Draws → Seen → Bool → Option Renewal → Type 0
+abbrev pub RenewsBy : Result NameParts ℕ → List Etype → Option (List ℕ) → Draws → Seen → Bool → Renewing → Type 0
 RenewsBy (Ok name) etypes left draws at reads what = (reads ≡ true) × RenewsTold (wanted (local_client at.place.realm) name etypes) left draws at what
-RenewsBy (Err offset) etypes left draws at reads what = (reads ≡ false) × (what ≡ Some (no_renewal (BadName offset) draws at))
+RenewsBy (Err offset) etypes left draws at reads what = (reads ≡ false) × (what ≡ Renewed (no_renewal (BadName offset) draws at))
 
 -- there is such a run
 pub record HasRenewal (w : Wanted) (left : Option (List ℕ)) (draws : Draws) (at : Seen) : Type 0 where
-  pub what : Option Renewal
+  pub what : Renewing
   pub is : RenewsTold w left draws at what
 
 pub record HasRenewalBy (name : Result NameParts ℕ) (etypes : List Etype) (left : Option (List ℕ)) (draws : Draws) (at : Seen) : Type 0 where
   pub reads : Bool
-  pub what : Option Renewal
+  pub what : Renewing
   pub is : RenewsBy name etypes left draws at reads what
 
 -- it opens, and then the word is read in its realm; what is drawn comes behind the opening's moment
 pub record IsAddingNew (word : List ℕ) (etypes : List Etype) (left : Option (List ℕ)) (found : Result Found Refusal) (draws : Option Draws) (begin : Place)
-    (made : List Place) (at : Seen) (reads : Bool) (what : Option Renewal) : Type 0 where
+    (made : List Place) (at : Seen) (reads : Bool) (what : Renewing) : Type 0 where
   pub opens : IsOpen None found draws begin made at
   pub comes : RenewsBy (own_name_in word at.place.realm) etypes left (behind_moment opens.told) at reads what
 
@@ -315,3 +320,16 @@ WantsInput (Ok (Admin size)) = Unit {0}
 WantsInput (Ok Load) = Unit {0}
 WantsInput (Ok (Keytab words)) = Unit {0}
 WantsInput (Ok other) = ⊥
+
+-- by the words of a keytab, the database is opened
+abbrev pub OpensDatabase : KeytabWords → Type 0
+OpensDatabase (Remove name which) = ⊥
+OpensDatabase (AddStanding word) = Unit {0}
+OpensDatabase (AddRenewed word etypes) = Unit {0}
+
+-- by the words, a database is looked at or made: they are not refused, and neither make a script nor take entries out of a keytab
+abbrev pub NeedsDatabase : Result Words Refusal → Type 0
+NeedsDatabase (Err refusal) = ⊥
+NeedsDatabase (Ok (Generate script)) = ⊥
+NeedsDatabase (Ok (Keytab words)) = OpensDatabase words
+NeedsDatabase (Ok other) = Unit {0}

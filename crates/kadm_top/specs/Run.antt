@@ -1,24 +1,27 @@
 -- A whole run of the program, from its opening on: how it ends, where it may stop early, and what a crash may leave.
-use Rattle.std.specs.Prelude.{ℕ, ◌≡◌, ◌≤◌, ◌⊎◌, Bool, true, false, List, [], ◌∷◌, codes, Option, Some, None, Result, IfErr, IfOk, OnErr, OnOk, option_map, ⊤}
+use Rattle.std.specs.Prelude.{ℕ, ◌≡◌, ◌≤◌, ◌⊎◌, Bool, true, false, List, [], ◌∷◌, codes, Option, Some, None, Result, Ok, IfErr, IfOk, OnErr, OnOk, option_map, ⊤}
 use Rattle.first_rows.specs.Creation.{first_point}
 use Rattle.first_rows.specs.Parts.{SpecParts}
 use Rattle.kadm_commands.specs.declared.replies.Reply.TheVariants.{Done, Refused}
-use Rattle.kadm_keytabs.specs.Renewals.{Renewal}
+use Rattle.kadm_keytabs.specs.Renewals.{LeavesOfCommand, WasDone}
 use Rattle.kadm_keytabs.specs.declared.answers.Answer.{Answer}
 use Rattle.kadm_lines.specs.Lines.{seen_lines}
 use Rattle.kadm_loading.specs.Halts.{SparesOutput}
 use Rattle.session_base.specs.Wholes.{IsReadWhole}
 use Rattle.kadm_loading.specs.Loads.{LeavesSome, LoadEnd, is_refused, load_reply, load_stage, place_loaded, places_loaded}
 use Rattle.kadm_replies.specs.Replies.{reply_text}
-use Rattle.kadm_session.specs.Courses.{Course, Ending, IsAtRest, Leaves, Stops, course, ending}
+use Rattle.kadm_session.specs.Courses.{Course, Ending, IsAtRest, Leaves, Stops, course, ending, lines_begun, nothing_begun}
 use Rattle.session_base.specs.Stages.{IsStopped, StopsAt}
 use Rattle.session_base.specs.Draws.{Draws, behind_command, behind_moment, block_in, moment_in}
 use Rattle.kadm_session.specs.Input.{commands_in}
 use Rattle.kadm_session.specs.declared.intake.Asked.{Asked}
 use Rattle.session_base.specs.declared.halts.SessionHalt.{SessionHalt}
-use Rattle.kadm_top.specs.Openings.{Adds, AddsNew, AMoment, ABlock, Drawn, Ends, Filters, Loads, Makes, NoDraw, Opening, Opens, ReadsInput, Refuses, Tells, behind}
+use Rattle.session_base.specs.declared.halts.SessionHalt.TheVariants.{MemoryOut}
+use Rattle.kadm_top.specs.Openings.{Adds, AddsNew, AMoment, ABlock, Drawn, Ends, Filters, Loads, Makes, NoDraw, Opening, Opens, ReadsInput, Refuses, Renewed, Renewing, Tells, Untold, behind}
 use Rattle.kdb_base.specs.Moment.{Moment}
 use Rattle.kdb_base.specs.declared.outcomes.Refusal.{Refusal}
+use Rattle.kdb_control.specs.Moments.{HasInForce}
+use Rattle.kdb_control.specs.declared.force.Force.TheVariants.{Is}
 use Rattle.kdb_disk.specs.Files.{Files}
 use Rattle.kdb_disk.specs.Moments.{Keeps, LeavesOnly}
 use Rattle.kdb_disk.specs.View.{View}
@@ -27,8 +30,10 @@ use Rattle.kdb_histories.specs.Stages.{ShowsAt}
 use Rattle.kdb_places.specs.Places.{Place}
 use Rattle.kdb_ports.specs.Parts.{SaidPart}
 use Rattle.kdb_ports.specs.Told.{after_told}
-use Rattle.primary_core.specs.Opening.{first_place}
+use Rattle.primary_core.specs.Opening.{RecoversAs, first_control, first_file, first_place}
+use Rattle.store_files.specs.Found.{recovers}
 use Rattle.store_files.specs.Recovery.{Creates, Destroys, IsLike, LeavesPart, RecoversTo, RecoversToNone}
+use Rattle.store_opening.specs.Moments.{HasFile}
 
 -- ---- what is told before it
 
@@ -83,18 +88,37 @@ IfTold (Some x) P = P x
 abbrev pub AreDrawn : Option Draws → Moment → List ℕ → Type 0
 AreDrawn draws now random = IfTold draws (λ told. (now ≡ moment_in told) × (random ≡ block_in told))
 
--- ---- how it ends where nothing fails
-
--- Each file reads as before. An opening that is refused has looked at more than that: there a crash leaves what stands for the same.
+-- Each file reads as before. An opening has looked at more than that: there a crash leaves what stands for what an image of before did.
 abbrev pub IsSame : Drawn → View → View → Type 0
 IsSame AMoment old now = LeavesOnly old now (IsLike old)
 IsSame NoDraw old now = Keeps old now
 IsSame ABlock old now = Keeps old now
 
+-- ---- how it ends where nothing fails
+
+-- Files that were opened: whatever a crash leaves now recovers to what they recovered to, and at each moment before it left what stood for what
+-- an image of before did.
+pub record StaysRead (old now : View) : Type 0 where
+  pub stays : RecoversAs old.seen now
+  pub leaves : LeavesOnly old now (IsLike old)
+
+-- Each file reads as before, or the files were opened.
+abbrev pub Stays : Drawn → View → View → Type 0
+Stays AMoment old now = StaysRead old now
+Stays NoDraw old now = Keeps old now
+Stays ABlock old now = Keeps old now
+
 -- Whatever a crash leaves recovers to no database, and every file but the control file reads as empty.
 pub record IsErased (now : View) : Type 0 where
   pub none : RecoversToNone now
   pub empty : (file : ℕ) → 1 ≤ file → file ≤ 6 → now.seen file ≡ []
+
+-- Whatever a crash leaves recovers to the place of the creation. Its files are the first of each kind, at the first turn, and the rows stand one
+-- behind the other from unit 1 on, in their order.
+pub record IsMade (spec : SpecParts) (moment : Moment) (random : List ℕ) (now : View) : Type 0 where
+  pub place : RecoversTo (first_place spec moment random) now
+  pub control : HasInForce (Is (first_control spec moment)) now
+  pub written : HasFile 1 (first_file spec moment random) now
 
 -- whatever a crash leaves recovers to this place, whose rows show this state
 pub record StandsShown (at : Seen) (now : View) : Type 0 where
@@ -107,14 +131,17 @@ pub data Standing : Type 0 where
   Same : (drawn : Drawn) → Standing
   -- whatever a crash leaves recovers to this place
   At : (place : Place) → Standing
+  -- to the place of a creation, in its first files
+  Made : (spec : SpecParts) (draws : Draws) → Standing
   -- to this place, whose rows show the state: each listed version of the master key opens each key
   Shown : (at : Seen) → Standing
   -- to no database, and nothing of one is left
   Gone : Standing
 
 abbrev pub Stands : Standing → View → View → Type 0
-Stands (Same drawn) old now = IsSame drawn old now
+Stands (Same drawn) old now = Stays drawn old now
 Stands (At place) old now = RecoversTo place now
+Stands (Made spec draws) old now = IsMade spec (moment_in draws) (block_in draws) now
 Stands (Shown at) old now = StandsShown at now
 Stands Gone old now = IsErased now
 
@@ -129,7 +156,7 @@ abbrev pub end_opened : Ending → RunEnd
 end_opened end = record { out = end.out; refused = end.refused; disk = Shown end.at; draws = Some end.draws }
 
 abbrev pub end_made : SpecParts → Option (List ℕ) → Draws → RunEnd
-end_made spec taken draws = record { out = after_told taken (made_line draws); refused = false; disk = At (place_made spec draws); draws = Some (behind_command draws) }
+end_made spec taken draws = record { out = after_told taken (made_line draws); refused = false; disk = Made spec draws; draws = Some (behind_command draws) }
 
 -- of a load from this place, at the next of these moments
 abbrev pub load_end : Option LoadEnd → Option Draws → Place → Option (List ℕ) → Option RunEnd
@@ -148,9 +175,9 @@ keytab_end None taken disk draws = None
 keytab_end (Some answer) taken disk draws = Some (record { out = after_told taken answer.text; refused = answer.refused; disk = disk; draws = draws })
 
 -- of one with new keys
-abbrev pub renewed_end : Option Renewal → Option (List ℕ) → Option RunEnd
-renewed_end None taken = None
-renewed_end (Some renewal) taken = Some (record {
+abbrev pub renewed_end : Renewing → Option (List ℕ) → Option RunEnd
+renewed_end (Untold w) taken = None
+renewed_end (Renewed renewal) taken = Some (record {
   out = after_told taken renewal.answer.text;
   refused = renewal.answer.refused;
   disk = Shown renewal.later;
@@ -190,7 +217,7 @@ OpensPart old begin made c = IsLike old c ⊎ LeavesPart begin made c
 abbrev pub MakesStop : SpecParts → View → Option (List ℕ) → Draws → Option (List ℕ) → View → Type 0
 MakesStop spec old taken draws out now =
     ((out ≡ taken) × LeavesAll (Creates old (place_made spec draws)) now)
-    ⊎ (SaidPart (made_line draws) taken out × RecoversTo (place_made spec draws) now)
+    ⊎ (SaidPart (made_line draws) taken out × IsMade spec (moment_in draws) (block_in draws) now)
 
 -- while one is ended
 abbrev pub EndsStop : View → Option (List ℕ) → Option (List ℕ) → View → Type 0
@@ -211,9 +238,9 @@ IsFront (Some answer) taken out = SaidPart answer.text taken out
 
 -- while keys are made anew and written: nothing was written, and a crash leaves the place before or one that is made; or a part was, and then
 -- the last place alone
-abbrev pub RenewedStops : Option Renewal → Place → Option (List ℕ) → Option (List ℕ) → View → Type 0
-RenewedStops None p taken out now = ⊤
-RenewedStops (Some renewal) p taken out now = IsStopped (StopsAt taken renewal.answer.text p renewal.made renewal.later.place) out now
+abbrev pub RenewedStops : Renewing → Place → Option (List ℕ) → Option (List ℕ) → View → Type 0
+RenewedStops (Untold w) p taken out now = ⊤
+RenewedStops (Renewed renewal) p taken out now = IsStopped (StopsAt taken renewal.answer.text p renewal.made renewal.later.place) out now
 
 abbrev pub RunStops : Opening → View → Told → Option (List ℕ) → View → Type 0
 RunStops (Refuses why drawn) old before out now = SaidPart (refusal_line why) before.taken out × IsSame drawn old now
@@ -230,19 +257,24 @@ RunStops (Tells text drawn) old before out now = SaidPart text before.taken out 
 RunStops (Makes spec) old before out now = IfTold before.draws (λ draws. MakesStop spec old before.taken draws out now)
 RunStops Ends old before out now = EndsStop old before.taken out now
 
+-- what may be written of a next line, of which a part may be: of a dump its lines, where memory was short
+abbrev pub begun_at : SessionHalt → List Asked → Place → List ℕ
+begun_at MemoryOut = lines_begun
+begun_at other = nothing_begun
+
 -- There the first so many lines were done and are answered in full, or nothing was written, and no more was done than an opening does. Of a
--- text that is told a front may have been written.
-abbrev pub RunRests : Opening → View → Told → Option (List ℕ) → View → Type 0
-RunRests (Refuses why drawn) old before out now = (out ≡ before.taken) × IsSame drawn old now
-RunRests (Opens begin made at asked) old before out now =
-    IsAtRest (course_behind asked before at) out now ⊎ ((out ≡ before.taken) × LeavesAll (OpensPart old begin made) now)
-RunRests (Loads begin made at what) old before out now = (out ≡ before.taken) × LeavesAll (OpensPart old begin made) now
-RunRests (Adds begin made at reads what) old before out now = (out ≡ before.taken) × LeavesAll (OpensPart old begin made) now
-RunRests (AddsNew begin made at reads what) old before out now = (out ≡ before.taken) × LeavesAll (OpensPart old begin made) now
-RunRests (Filters what) old before out now = (out ≡ before.taken) × IsSame NoDraw old now
-RunRests (Tells text drawn) old before out now = SaidPart text before.taken out × IsSame drawn old now
-RunRests (Makes spec) old before out now = (out ≡ before.taken) × Keeps old now
-RunRests Ends old before out now = (out ≡ before.taken) × Keeps old now
+-- text that is told, and of what may be written of a next line, a front may have been written.
+abbrev pub RunRests : (List Asked → Place → List ℕ) → Opening → View → Told → Option (List ℕ) → View → Type 0
+RunRests begun (Refuses why drawn) old before out now = (out ≡ before.taken) × IsSame drawn old now
+RunRests begun (Opens begin made at asked) old before out now =
+    IsAtRest begun (course_behind asked before at) out now ⊎ ((out ≡ before.taken) × LeavesAll (OpensPart old begin made) now)
+RunRests begun (Loads begin made at what) old before out now = (out ≡ before.taken) × LeavesAll (OpensPart old begin made) now
+RunRests begun (Adds begin made at reads what) old before out now = (out ≡ before.taken) × LeavesAll (OpensPart old begin made) now
+RunRests begun (AddsNew begin made at reads what) old before out now = (out ≡ before.taken) × LeavesAll (OpensPart old begin made) now
+RunRests begun (Filters what) old before out now = (out ≡ before.taken) × IsSame NoDraw old now
+RunRests begun (Tells text drawn) old before out now = SaidPart text before.taken out × IsSame drawn old now
+RunRests begun (Makes spec) old before out now = (out ≡ before.taken) × Keeps old now
+RunRests begun Ends old before out now = (out ≡ before.taken) × Keeps old now
 
 -- ---- what a crash may leave at any moment of it
 
@@ -252,10 +284,11 @@ LoadLeaves None draws p c = LeavesSome p c
 LoadLeaves (Some end) None p c = LeavesSome p c
 LoadLeaves (Some end) (Some draws) p c = LeavesPart p (places_loaded end (moment_in draws) p) c
 
--- while keys are made anew
-abbrev pub RenewedLeaves : Option Renewal → Place → Files → Type 0
-RenewedLeaves None p c = ⊤
-RenewedLeaves (Some renewal) p c = LeavesPart p renewal.made c
+-- while keys are made anew: the place before, or one that is made, and then the command is an event of the primary's history; where the input is
+-- not told, the command for what is wanted, at some moment and with some random bytes
+abbrev pub RenewedLeaves : Renewing → Seen → Files → Type 0
+RenewedLeaves (Untold w) at c = LeavesOfCommand w at c
+RenewedLeaves (Renewed renewal) at c = (recovers c ≡ Ok at.place) ⊎ (WasDone renewal.asked renewal.from × LeavesPart at.place renewal.made c)
 
 -- what an image of before stood for, a place of the opening, of the input's course or of a load, or nothing while a database is made or once
 -- its end has begun
@@ -264,7 +297,7 @@ RunLeaves (Refuses why drawn) old before c = IsLike old c
 RunLeaves (Opens begin made at asked) old before c = OpensPart old begin made c ⊎ Leaves (course_behind asked before at) c
 RunLeaves (Loads begin made at what) old before c = OpensPart old begin made c ⊎ LoadLeaves what (behind AMoment before.draws) at.place c
 RunLeaves (Adds begin made at reads what) old before c = OpensPart old begin made c
-RunLeaves (AddsNew begin made at reads what) old before c = OpensPart old begin made c ⊎ RenewedLeaves what at.place c
+RunLeaves (AddsNew begin made at reads what) old before c = OpensPart old begin made c ⊎ RenewedLeaves what at c
 RunLeaves (Filters what) old before c = IsLike old c
 RunLeaves (Tells text drawn) old before c = IsLike old c
 RunLeaves (Makes spec) old before c = IfTold before.draws (λ draws. Creates old (place_made spec draws) c)
@@ -276,7 +309,7 @@ RunLeaves Ends old before c = Destroys old c
 pub record HasCourse (c : Course) (old now : View) (after : Told) (result : Result Bool SessionHalt) : Type 0 where
   pub ended : (end : Ending) → ending c ≡ Some end → IfOk result (λ refused. RunEndsAs after.taken refused after.draws old now (end_opened end))
   pub stopped : OnErr result (IsStopped (Stops c) after.taken now)
-  pub rests : IfErr result (λ halt. SparesOutput halt → IsAtRest c after.taken now)
+  pub rests : IfErr result (λ halt. SparesOutput halt → IsAtRest (begun_at halt) c after.taken now)
   pub moments : LeavesOnly old now (Leaves c)
 
 -- What a load comes to over a database that is open at this place, where these moments come.
@@ -295,12 +328,12 @@ pub record HasWritten (what : Option Answer) (taken out : Option (List ℕ)) (re
   pub stopped : OnErr result (IsFront what taken out)
   pub rests : IfErr result (λ halt. SparesOutput halt → out ≡ taken)
 
--- What keys made anew and written come to, over a database that is open at this place.
-pub record HasRenewed (what : Option Renewal) (p : Place) (old now : View) (taken out : Option (List ℕ)) (draws : Option Draws) (result : Result Bool SessionHalt) : Type 0 where
+-- What keys made anew and written come to, over a database that is open at this place, whose rows show this state.
+pub record HasRenewed (what : Renewing) (at : Seen) (old now : View) (taken out : Option (List ℕ)) (draws : Option Draws) (result : Result Bool SessionHalt) : Type 0 where
   pub ended : (end : RunEnd) → renewed_end what taken ≡ Some end → IfOk result (λ refused. RunEndsAs out refused draws old now end)
-  pub stopped : OnErr result (RenewedStops what p taken out now)
-  pub rests : IfErr result (λ halt. SparesOutput halt → (out ≡ taken) × RecoversTo p now)
-  pub moments : LeavesOnly old now (RenewedLeaves what p)
+  pub stopped : OnErr result (RenewedStops what at.place taken out now)
+  pub rests : IfErr result (λ halt. SparesOutput halt → (out ≡ taken) × RecoversTo at.place now)
+  pub moments : LeavesOnly old now (RenewedLeaves what at)
 
 -- What a run comes to from its opening on: it went through, and says whether a refusal was written, or it was stopped.
 pub record HasRun (o : Opening) (old now : View) (before after : Told) (result : Result Bool SessionHalt) : Type 0 where
@@ -308,7 +341,7 @@ pub record HasRun (o : Opening) (old now : View) (before after : Told) (result :
   pub ended : (end : RunEnd) → run_end o before ≡ Some end → IfOk result (λ refused. RunEndsAs after.taken refused after.draws old now end)
   -- where it stopped early, and where it did so though neither the sink nor the disk failed
   pub stopped : OnErr result (RunStops o old before after.taken now)
-  pub rests : IfErr result (λ halt. SparesOutput halt → RunRests o old before after.taken now)
+  pub rests : IfErr result (λ halt. SparesOutput halt → RunRests (begun_at halt) o old before after.taken now)
   -- at any moment of it
   pub moments : LeavesOnly old now (RunLeaves o old before)
   -- an input that was opened for was read to its end

@@ -1,5 +1,7 @@
 -- The status of a run, and what it says of the outside.
-use Rattle.std.specs.Prelude.{ℕ, ◌≡◌, ◌≢◌, ◌≤◌, ◌⊎◌, Bool, true, false, Some, Result, Ok, Err, ⊤}
+use Rattle.std.specs.Prelude.{ℕ, ◌≡◌, ◌≢◌, ◌≤◌, ◌⊎◌, Bool, true, false, List, Some, Result, Ok, Err, ⊤}
+use Rattle.kadm_session.specs.Courses.{lines_begun, nothing_begun}
+use Rattle.kadm_session.specs.declared.intake.Asked.{Asked}
 use Rattle.session_base.specs.Halts.{Counts}
 use Rattle.session_base.specs.declared.halts.SessionHalt.{SessionHalt}
 use Rattle.session_base.specs.declared.halts.SessionHalt.TheVariants as session
@@ -11,6 +13,7 @@ use Rattle.kdb_base.specs.declared.outcomes.Status.{Status}
 use Rattle.kdb_base.specs.declared.outcomes.Status.TheVariants as status
 use Rattle.kdb_disk.specs.Moments.{LeavesOnly}
 use Rattle.kdb_disk.specs.View.{View}
+use Rattle.kdb_places.specs.Places.{Place}
 
 -- the source of random bytes is read too
 abbrev pub status_of : SessionHalt → Status
@@ -59,6 +62,11 @@ OnRest status.ReadFault P = P
 OnRest status.InputTooLong P = P
 OnRest _ P = ⊤
 
+-- what may be written of a next line, by the status
+abbrev pub begun_by : Status → List Asked → Place → List ℕ
+begun_by status.MemoryOut = lines_begun
+begun_by other = nothing_begun
+
 -- ---- the causes
 
 -- the counts of the faults of the source, the sink, the disk and the source of random bytes
@@ -98,8 +106,8 @@ pub record IsRun (o : Opening) (old now : View) (before after : Told) (result : 
   -- a byte was answered, or one that the next line makes, or no more was done than an opening does.
   pub stopped : OnStop result (RunStops o old before after.taken now)
   -- Where neither the sink nor the disk failed: the replies to so many lines are written in full, and a crash leaves the place after them, or of a
-  -- next line that rekeys many the place behind some of these.
-  pub rests : OnRest result (RunRests o old before after.taken now)
+  -- next line that rekeys many the place behind some of these. Where memory was short, a front of the dump may be written for which a next line asks.
+  pub rests : OnRest result (RunRests (begun_by result) o old before after.taken now)
   -- A crash at any moment of it leaves files like those that one would have left before it, or a place of the run, or no database while one is
   -- made or once its end has begun.
   pub moments : LeavesOnly old now (RunLeaves o old before)

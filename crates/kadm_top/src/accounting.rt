@@ -22,6 +22,7 @@ use kdb_ports::{Clock, Sink, write_whole};
 use kdb_store::Database;
 use session_base::SessionHalt;
 use std::alloc::Global;
+use store_files::laws::what_is_kept_is_recovered;
 use tab_reports::{ReportKind, report};
 use ulog_text::print_ulog;
 
@@ -136,10 +137,13 @@ pub(crate) fn tell<K: Sink, D: Disk, C: Clock>(
 {
     let moment = clock.now();
     match Database::recover(alloc, disk) {
-        Ok(database) => match say_account(alloc, account, &database, moment, sink) {
-            Ok(()) => Ok(false),
-            Err(halt) => Err(halt),
-        },
+        Ok(database) => {
+            what_is_kept_is_recovered(disk);
+            match say_account(alloc, account, &database, moment, sink) {
+                Ok(()) => Ok(false),
+                Err(halt) => Err(halt),
+            }
+        }
         Err(Stop::Refused(refusal)) => match refuse(alloc, sink, refusal) {
             Ok(()) => Ok(true),
             Err(halt) => Err(halt),

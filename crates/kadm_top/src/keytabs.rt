@@ -9,7 +9,7 @@ ghost use Rattle.kadm_keytabs.specs.declared.answers.Answer.{Answer};
 ghost use Rattle.session_base.specs.Draws.{Draws, told_draws};
 ghost use Rattle.session_base.specs.Halts.{Counts};
 ghost use Rattle.session_base.specs.Wholes.{IsReadWhole, WereTaken};
-ghost use Rattle.kadm_top.specs.Openings.{AddsBy, AnswersTold, HasAdding, HasAddition, HasAnswer, HasKeytab, Opening, ReadsInput, adds_for, keytab_for};
+ghost use Rattle.kadm_top.specs.Openings.{AddsBy, AnswersTold, HasAdding, HasAddition, HasAnswer, HasKeytab, Opening, OpensDatabase, ReadsInput, adds_for, keytab_for};
 ghost use Rattle.kadm_top.specs.Reads.{InputIsRead};
 ghost use Rattle.kadm_top.specs.Run.{HasRun, HasWritten, told};
 ghost use Rattle.kdb_disk.specs.Frames.{IsCall};
@@ -205,6 +205,9 @@ pub(crate) fn run_keytab<S: Source, K: Sink, D: Disk, C: Clock, E: Entropy>(
     ensures unread { D.tells → (o : Opening)
         → keytab_for words (S.left source.old) (found_in (D.view disk.old).seen) (told_draws (C.moments clock.old) (E.stream entropy.old)) o
         → (ReadsInput o → ⊥) → source.new ≡ source.old }
+    ensures no_database { (OpensDatabase words → ⊥) → disk.new ≡ disk.old }
+    ensures no_clock { (OpensDatabase words → ⊥) → clock.new ≡ clock.old }
+    ensures no_draws { (OpensDatabase words → ⊥) → entropy.new ≡ entropy.old }
     ensures call { IsCall D.Disk disk.old disk.new (result ≡ Err SessionHalt.DiskFault) }
     ensures reads { Counts (S.faults source.old) (S.faults source.new) (result ≡ Err SessionHalt.ReadFault) }
     ensures writes { Counts (K.faults sink.old) (K.faults sink.new) (result ≡ Err SessionHalt.WriteFault) }

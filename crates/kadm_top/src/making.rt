@@ -8,7 +8,7 @@ ghost use Rattle.kadm_replies.specs.Replies.{reply_text};
 ghost use Rattle.kadm_commands.specs.declared.replies.Reply.TheVariants.{Done};
 ghost use Rattle.first_rows.specs.Creation.{first_point};
 ghost use Rattle.kadm_top.specs.Openings.{ABlock, behind, create_of, destroy_of};
-ghost use Rattle.kadm_top.specs.Run.{AreDrawn, HasRun, ended_text, refusal_line, told};
+ghost use Rattle.kadm_top.specs.Run.{AreDrawn, HasRun, IsMade, ended_text, refusal_line, told};
 ghost use Rattle.kadm_top.specs.Statuses.{IsMakingHalt, IsSayHalt};
 ghost use Rattle.kdb_base.specs.Causes.{HasCause};
 ghost use Rattle.kdb_base.specs.declared.outcomes.Halt.TheVariants.{DiskFault, MemoryOut};
@@ -21,7 +21,7 @@ ghost use Rattle.kdb_disk.specs.Moments.{Keeps, LeavesOnly};
 ghost use Rattle.kdb_ports.specs.Parts.{SaidPart};
 ghost use Rattle.kdb_ports.specs.Told.{after_told};
 ghost use Rattle.primary_core.specs.Opening.{first_place};
-ghost use Rattle.store_files.specs.Recovery.{Creates, RecoversTo};
+ghost use Rattle.store_files.specs.Recovery.{Creates};
 ghost use Rattle.store_opening.specs.Made.{AnswersMade};
 
 use first_rows::CreateSpec;
@@ -70,7 +70,7 @@ fn make_files<D: Disk>(
 ) -> Result<(), Stop>
     requires { length random.now ≡ 2048 }
     ensures answer { D.tells → AnswersMade result (in_force ((D.view disk.old).seen 0)) }
-    ensures stands { D.tells → OnOk result (RecoversTo (first_place spec.now moment random.now) (D.view disk.new)) }
+    ensures made { D.tells → OnOk result (IsMade spec.now moment random.now (D.view disk.new)) }
     ensures moments { D.tells → LeavesOnly (D.view disk.old) (D.view disk.new) (Creates (D.view disk.old) (first_place spec.now moment random.now)) }
     ensures refused { D.tells → (refusal : WhyNot) → result ≡ Err (Refused refusal) → Keeps (D.view disk.old) (D.view disk.new) }
     ensures there { D.tells → in_force ((D.view disk.old).seen 0) ≢ Nothing → Keeps (D.view disk.old) (D.view disk.new) }

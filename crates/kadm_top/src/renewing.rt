@@ -1,10 +1,10 @@
 //! New keys of a principal, added to a keytab that is read from the input.
 
-ghost use Rattle.std.specs.Prelude.{◌≡◌, ◌≤◌, Bool, true, false, ℕ, length, Option, Some, Ok, Err, IfOk, OnOk};
+ghost use Rattle.std.specs.Prelude.{◌≡◌, ◌≤◌, Bool, true, false, ℕ, length, Some, Ok, Err, IfOk, OnOk};
 ghost use Rattle.kadm_commands.specs.Commands.{IsOwnName};
-ghost use Rattle.kadm_keytabs.specs.Renewals.{Renewal, wanted};
+ghost use Rattle.kadm_keytabs.specs.Renewals.{wanted};
 ghost use Rattle.kadm_session.specs.Steps.{local_client};
-ghost use Rattle.kadm_top.specs.Openings.{HasAddingNew, HasRenewal, HasRenewalBy, Opening, ReadsInput, RenewsBy, RenewsTold, adds_new_for};
+ghost use Rattle.kadm_top.specs.Openings.{HasAddingNew, HasRenewal, HasRenewalBy, Opening, ReadsInput, Renewing, RenewsBy, RenewsTold, adds_new_for};
 ghost use Rattle.kadm_top.specs.Reads.{InputIsRead};
 ghost use Rattle.kadm_top.specs.Run.{HasRenewed, HasRun, told};
 ghost use Rattle.kdb_disk.specs.Frames.{IsCall};
@@ -54,10 +54,10 @@ fn write_for<S: Source, K: Sink, D: Disk, C: Clock, E: Entropy>(
     requires on { D.tells → IsOnDisk primary.old.kept (D.view disk.old) }
     requires whole { primary.old.kept.broken ≡ false }
     requires stands { D.tells → RecoversTo (place_of primary.old) (D.view disk.old) }
-    ensures renewed { D.tells → (s : State) (draws : Draws) (what : Option Renewal) → HasState primary.old s
+    ensures renewed { D.tells → (s : State) (draws : Draws) (what : Renewing) → HasState primary.old s
         → told_draws (C.moments clock.old) (E.stream entropy.old) ≡ Some draws
         → RenewsTold (wanted client.now name.now etypes.now) (S.left source.old) draws (seen (place_of primary.old) s) what
-        → HasRenewed what (place_of primary.old) (D.view disk.old) (D.view disk.new) (K.taken sink.old) (K.taken sink.new) (told_draws (C.moments clock.new) (E.stream entropy.new)) result }
+        → HasRenewed what (seen (place_of primary.old) s) (D.view disk.old) (D.view disk.new) (K.taken sink.old) (K.taken sink.new) (told_draws (C.moments clock.new) (E.stream entropy.new)) result }
     ensures renewal { (s : State) (draws : Draws) → HasState primary.old s → told_draws (C.moments clock.old) (E.stream entropy.old) ≡ Some draws
         → OnOk result (HasRenewal (wanted client.now name.now etypes.now) (S.left source.old) draws (seen (place_of primary.old) s)) }
     ensures read { OnOk result (IsReadWhole (S.left source.old) (S.left source.new)) }
@@ -90,10 +90,10 @@ fn write_renewed<S: Source, K: Sink, D: Disk, C: Clock, E: Entropy>(
     requires types { AreTypes etypes.now }
     requires on { D.tells → IsOnDisk primary.old.kept (D.view disk.old) }
     requires whole { primary.old.kept.broken ≡ false }
-    ensures renewed { D.tells → (s : State) (draws : Draws) (what : Option Renewal) → HasState primary.old s
+    ensures renewed { D.tells → (s : State) (draws : Draws) (what : Renewing) → HasState primary.old s
         → told_draws (C.moments clock.old) (E.stream entropy.old) ≡ Some draws
         → RenewsTold (wanted (local_client primary.old.kept.realm) name.now etypes.now) (S.left source.old) draws (seen (place_of primary.old) s) what
-        → HasRenewed what (place_of primary.old) (D.view disk.old) (D.view disk.new) (K.taken sink.old) (K.taken sink.new) (told_draws (C.moments clock.new) (E.stream entropy.new)) result }
+        → HasRenewed what (seen (place_of primary.old) s) (D.view disk.old) (D.view disk.new) (K.taken sink.old) (K.taken sink.new) (told_draws (C.moments clock.new) (E.stream entropy.new)) result }
     ensures renewal { (s : State) (draws : Draws) → HasState primary.old s → told_draws (C.moments clock.old) (E.stream entropy.old) ≡ Some draws
         → OnOk result (HasRenewal (wanted (local_client primary.old.kept.realm) name.now etypes.now) (S.left source.old) draws (seen (place_of primary.old) s)) }
     ensures read { OnOk result (IsReadWhole (S.left source.old) (S.left source.new)) }
@@ -128,10 +128,10 @@ fn renew_named<S: Source, K: Sink, D: Disk, C: Clock, E: Entropy>(
     requires types { AreTypes etypes.now }
     requires on { D.tells → IsOnDisk primary.old.kept (D.view disk.old) }
     requires whole { primary.old.kept.broken ≡ false }
-    ensures renewed { D.tells → (s : State) (draws : Draws) (reads : Bool) (what : Option Renewal) → HasState primary.old s
+    ensures renewed { D.tells → (s : State) (draws : Draws) (reads : Bool) (what : Renewing) → HasState primary.old s
         → told_draws (C.moments clock.old) (E.stream entropy.old) ≡ Some draws
         → RenewsBy name.now etypes.now (S.left source.old) draws (seen (place_of primary.old) s) reads what
-        → HasRenewed what (place_of primary.old) (D.view disk.old) (D.view disk.new) (K.taken sink.old) (K.taken sink.new) (told_draws (C.moments clock.new) (E.stream entropy.new)) result }
+        → HasRenewed what (seen (place_of primary.old) s) (D.view disk.old) (D.view disk.new) (K.taken sink.old) (K.taken sink.new) (told_draws (C.moments clock.new) (E.stream entropy.new)) result }
     ensures renewal { (s : State) (draws : Draws) → HasState primary.old s → told_draws (C.moments clock.old) (E.stream entropy.old) ≡ Some draws
         → OnOk result (HasRenewalBy name.now etypes.now (S.left source.old) draws (seen (place_of primary.old) s)) }
     ensures read { (name_is : NameParts) → name.now ≡ Ok name_is → OnOk result (IsReadWhole (S.left source.old) (S.left source.new)) }
@@ -170,10 +170,10 @@ fn renew_opened<S: Source, K: Sink, D: Disk, C: Clock, E: Entropy>(
     requires types { AreTypes etypes.now }
     requires on { D.tells → IsOnDisk opened.kept (D.view disk.old) }
     requires whole { opened.kept.broken ≡ false }
-    ensures renewed { D.tells → (s : State) (draws : Draws) (reads : Bool) (what : Option Renewal) → HasState opened s
+    ensures renewed { D.tells → (s : State) (draws : Draws) (reads : Bool) (what : Renewing) → HasState opened s
         → told_draws (C.moments clock.old) (E.stream entropy.old) ≡ Some draws
         → RenewsBy (own_name_in word.now opened.kept.realm) etypes.now (S.left source.old) draws (seen (place_of opened) s) reads what
-        → HasRenewed what (place_of opened) (D.view disk.old) (D.view disk.new) (K.taken sink.old) (K.taken sink.new) (told_draws (C.moments clock.new) (E.stream entropy.new)) result }
+        → HasRenewed what (seen (place_of opened) s) (D.view disk.old) (D.view disk.new) (K.taken sink.old) (K.taken sink.new) (told_draws (C.moments clock.new) (E.stream entropy.new)) result }
     ensures renewal { (s : State) (draws : Draws) → HasState opened s → told_draws (C.moments clock.old) (E.stream entropy.old) ≡ Some draws
         → OnOk result (HasRenewalBy (own_name_in word.now opened.kept.realm) etypes.now (S.left source.old) draws (seen (place_of opened) s)) }
     ensures read { (name : NameParts) → own_name_in word.now opened.kept.realm ≡ Ok name → OnOk result (IsReadWhole (S.left source.old) (S.left source.new)) }

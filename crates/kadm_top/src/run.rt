@@ -5,7 +5,7 @@ ghost use Rattle.session_base.specs.Wholes.{IsReadWhole, WereTaken};
 ghost use Rattle.session_base.specs.Draws.{Draws, told_draws};
 ghost use Rattle.session_base.specs.Halts.{Counts, IsAnswerHalt};
 ghost use Rattle.kadm_session.specs.Input.{IsAsked, asked_by};
-ghost use Rattle.kadm_top.specs.Openings.{AsksInput, HasOpening, HasOpeningFor, IsOpening, Opening, ReadsInput, WantsInput, asked_of, opens_for};
+ghost use Rattle.kadm_top.specs.Openings.{AsksInput, HasOpening, HasOpeningFor, IsOpening, NeedsDatabase, Opening, ReadsInput, WantsInput, asked_of, opens_for};
 ghost use Rattle.kadm_top.specs.Reads.{InputIsRead, fresh};
 ghost use Rattle.kadm_top.specs.Run.{HasCourse, HasRun, course_from, told};
 ghost use Rattle.kadm_top.specs.Statuses.{HasCauses, IsRun, OnEnd, StatusHasCauses, faults};
@@ -281,6 +281,9 @@ fn run_words<S: Source, K: Sink, D: Disk, C: Clock, E: Entropy>(
         → (ReadsInput o → ⊥) → source.new ≡ source.old }
     ensures other_words { (WantsInput words → ⊥) → source.new ≡ source.old }
     ensures no_words { (refusal : WhyNot) → words ≡ Err refusal → disk.new ≡ disk.old }
+    ensures no_database { (NeedsDatabase words → ⊥) → disk.new ≡ disk.old }
+    ensures no_clock { (NeedsDatabase words → ⊥) → clock.new ≡ clock.old }
+    ensures no_draws { (NeedsDatabase words → ⊥) → entropy.new ≡ entropy.old }
     ensures causes { HasCauses (faults (S.faults source.old) (K.faults sink.old) (D.faults disk.old) (E.faults entropy.old)) (faults (S.faults source.new) (K.faults sink.new) (D.faults disk.new) (E.faults entropy.new)) result }
 {
     match words {
@@ -351,8 +354,12 @@ pub fn run_local<S: Source, K: Sink, D: Disk, C: Clock, E: Entropy>(
         → (ReadsInput o → ⊥) → source.new ≡ source.old }
     ensures other_words { (WantsInput (words_in (map (λ word. word.items) words.now)) → ⊥) → source.new ≡ source.old }
 
-    // Words that are refused touch no file.
+    // Words that are refused touch no file. Neither do those that make a script or take entries out of a keytab, and nothing is drawn for
+    // either.
     ensures no_words { (refusal : WhyNot) → words_in (map (λ word. word.items) words.now) ≡ Err refusal → disk.new ≡ disk.old }
+    ensures no_database { (NeedsDatabase (words_in (map (λ word. word.items) words.now)) → ⊥) → disk.new ≡ disk.old }
+    ensures no_clock { (NeedsDatabase (words_in (map (λ word. word.items) words.now)) → ⊥) → clock.new ≡ clock.old }
+    ensures no_draws { (NeedsDatabase (words_in (map (λ word. word.items) words.now)) → ⊥) → entropy.new ≡ entropy.old }
 
     // The causes.
     ensures causes { StatusHasCauses (faults (S.faults source.old) (K.faults sink.old) (D.faults disk.old) (E.faults entropy.old)) (faults (S.faults source.new) (K.faults sink.new) (D.faults disk.new) (E.faults entropy.new)) result }

@@ -156,10 +156,7 @@ fn size_given(options: &[Given]) -> Option<u32>
     ensures within { IfSome result (λ n. (2 ≤ n) × (n ≤ 10000)) }
 {
     match find_word(OptionName::UlogSize, options) {
-        Some(word) => match read_within(2, 10_000, word) {
-            Some(size) => Some(u32::from(size)),
-            None => None,
-        },
+        Some(word) => read_within(2, 10_000, word),
         None => None,
     }
 }

@@ -9,8 +9,6 @@ pub mod options;
 pub mod policies;
 pub mod princs;
 pub mod readings;
-#[cfg(test)]
-mod tests;
 pub mod values;
 pub mod verbs;
 

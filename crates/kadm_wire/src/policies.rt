@@ -4,9 +4,10 @@ ghost use Rattle.std.specs.Prelude.{◌≡◌, ◌≤◌, Some, unwrap_or, IfOk,
 ghost use Rattle.kadm_wire.specs.Commands.{chosen_policy, number_given, policy_by, policy_command, rules_changed, rules_given};
 ghost use Rattle.policy_rules.specs.Names.{is_policy_name};
 
+use crate::values::read_short;
 use crate::verbs::PolicyVerb;
 use kadm_commands::{Command, ModPolicy, PolicyChoice};
-use kadm_options::{Given, OptionName, find_seconds, find_word, is_given, read_within};
+use kadm_options::{Given, OptionName, find_seconds, find_word, is_given};
 use kdb_base::{Blob, MemoryOut};
 use policy_rules::{Policy, is_policy_name};
 use std::alloc::Global;
@@ -48,7 +49,7 @@ pub(crate) fn number_given(
     ensures { result ≡ number_given option least most options.now }
 {
     match find_word(option, options) {
-        Some(word) => read_within(least, most, word),
+        Some(word) => read_short(least, most, word),
         None => None,
     }
 }

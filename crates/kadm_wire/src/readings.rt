@@ -15,10 +15,10 @@ ghost use Rattle.tagged_data.specs.Strings.{is_string_key, is_string_value};
 use crate::commands::{lone_command, names_command};
 use crate::policies::policy_command;
 use crate::princs::princ_command;
-use crate::values::{is_glob_word, read_activation, read_name, whole_glob};
+use crate::values::{is_glob_word, read_activation, read_name, read_short, whole_glob};
 use crate::verbs::{LoneVerb, NamesVerb, PolicyVerb, PrincVerb, Verb};
 use kadm_commands::{Command, DelString, RenPrinc, SetString, UseMaster};
-use kadm_options::{Given, first_bad, read_within};
+use kadm_options::{Given, first_bad};
 use kdb_base::{Blob, Field, MemoryOut, Refusal};
 use policy_rules::is_policy_name;
 use princ_name::Name;
@@ -230,7 +230,7 @@ fn use_master(version: u16, secs: Option<u32>) -> Reading
 fn read_use(word: &[u8]) -> Reading
     ensures { result ≡ use_reading word.now }
 {
-    match read_within(1, 65_535, word) {
+    match read_short(1, 65_535, word) {
         Some(version) => use_master(version, None),
         None => bad_value(Field::Mkvno),
     }
@@ -249,7 +249,7 @@ fn use_from(version: u16, time: &[u8]) -> Reading
 fn read_use_from(word: &[u8], time: &[u8]) -> Reading
     ensures { result ≡ use_from_reading word.now time.now }
 {
-    match read_within(1, 65_535, word) {
+    match read_short(1, 65_535, word) {
         Some(version) => use_from(version, time),
         None => bad_value(Field::Mkvno),
     }

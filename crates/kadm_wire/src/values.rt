@@ -2,9 +2,11 @@
 
 ghost use Rattle.std.specs.Prelude.{◌≡◌, ◌==◌, ◌≤◌, IfOk, length};
 ghost use Rattle.std.specs.List.{list_any};
+ghost use Rattle.kadm_options.specs.OptionValues.{number_within};
 ghost use Rattle.kadm_wire.specs.Reads.{activation_in, is_glob_word, whole_glob};
 ghost use Rattle.princ_name.specs.Readings.{own_name_in};
 
+use kadm_options::read_within;
 use kadm_values::read_time;
 use kdb_base::{Blob, MemoryOut};
 use princ_name::{Name, NameFault, parse_own_name};
@@ -61,6 +63,16 @@ pub(crate) fn read_activation(word: &[u8]) -> Option<u32>
 {
     match read_time(word) {
         Some(secs) => { if secs == 0 { None } else { Some(secs) } }
+        None => None,
+    }
+}
+
+/// The number of a word, where it is one from the least to the greatest.
+pub(crate) fn read_short(least: u16, most: u16, word: &[u8]) -> Option<u16>
+    ensures { result ≡ number_within least most word.now }
+{
+    match read_within(u32::from(least), u32::from(most), word) {
+        Some(number) => Some(number as u16),
         None => None,
     }
 }

@@ -6,7 +6,7 @@ use Rattle.kadm_session.specs.Rekeying.{Progress as Rekeyings, begun, one_more a
 use Rattle.kadm_session.specs.Renewing.{is_at_time_end, renewed}
 use Rattle.kadm_session.specs.Steps.{ask_of, said, seen_after}
 use Rattle.kadm_session.specs.declared.intake.Asked.{Asked}
-use Rattle.kadm_session.specs.declared.intake.Asked.TheVariants.{Nothing, Refused, Does, Rekeys, ResetsLog}
+use Rattle.kadm_session.specs.declared.intake.Asked.TheVariants.{Nothing, Refused, Does, Rekeys, ResetsLog, WritesDump}
 use Rattle.kdb_base.specs.Moment.{Moment}
 use Rattle.kdb_base.specs.declared.outcomes.Refusal.{Refusal}
 use Rattle.kdb_histories.specs.Asks.{Ask, clock_of}
@@ -61,6 +61,7 @@ line_keeps (Refused refusal) draws at = refl
 line_keeps (Does command) draws at = ask_keeps (ask_of command draws at) at
 line_keeps (Rekeys glob) draws at = rekeyed_keeps _ (moment_in draws) (begun at draws.stream)
 line_keeps ResetsLog draws at = reset_keeps (moment_in draws) at (is_at_time_end at)
+line_keeps WritesDump draws at = refl
 
 -- ---- a script
 

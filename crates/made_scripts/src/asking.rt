@@ -18,13 +18,14 @@ fn is_event(command: &Command) -> bool
     !matches!(command, Command::RekeyPrincs(_) | Command::Dump)
 }
 
-// A rekeying of many is an event for each of them; another command that is not one event is no line of the program.
+// A rekeying of many is an event for each of them, and a dump is none; each other command is one event.
 fn asked_else(command: Command) -> Asked
     ensures value { result ≡ asked_else command }
     ensures valid { (realm : List ℕ) → IsAsked realm result }
 {
     match command {
         Command::RekeyPrincs(glob) => Asked::Rekeys(glob),
+        Command::Dump => Asked::WritesDump,
         _ => Asked::Refused(Refusal::BadLine),
     }
 }

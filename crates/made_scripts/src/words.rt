@@ -1,10 +1,9 @@
 //! What the words of a script to be made say.
 
 ghost use Rattle.std.specs.Prelude.{◌≡◌};
-ghost use Rattle.made_scripts.specs.Words.{count_in, script_by, script_in, seed_in};
+ghost use Rattle.made_scripts.specs.Words.{script_by, script_in};
 
 use kadm_options::{is_dashes, read_within};
-use kadm_values::read_number;
 use kdb_base::{Blob, Field, Refusal};
 
 /// A script to be made.
@@ -16,44 +15,14 @@ pub struct Script {
     pub count: u32,
 }
 
-/// The greatest seed.
-const LAST_SEED: u64 = 4_294_967_295;
-
-/// The seed of a word, where it is one.
-#[tactic(auto, unfolding(kadm_options::specs::OptionValues::number_within))]
-fn read_seed(word: &[u8]) -> Option<u32>
-    ensures { result ≡ seed_in word.now }
-{
-    match read_number(word) {
-        Some(number) => {
-            if number <= LAST_SEED {
-                Some(number as u32)
-            } else {
-                None
-            }
-        }
-        None => None,
-    }
-}
-
-/// The number of lines of a word, where it is one.
-fn read_count(word: &[u8]) -> Option<u32>
-    ensures { result ≡ count_in word.now }
-{
-    match read_within(1, 1000, word) {
-        Some(count) => Some(u32::from(count)),
-        None => None,
-    }
-}
-
 /// The script of a seed and a number of lines. The seed is judged first.
 fn script_by(seed: &[u8], count: &[u8]) -> Result<Script, Refusal>
     ensures { result ≡ script_by seed.now count.now }
 {
-    let Some(seed) = read_seed(seed) else {
+    let Some(seed) = read_within(0, u32::MAX, seed) else {
         return Err(Refusal::BadValue { field: Field::Seed });
     };
-    match read_count(count) {
+    match read_within(1, 1000, count) {
         Some(count) => Ok(Script { seed, count }),
         None => Err(Refusal::BadValue {
             field: Field::Count,

@@ -2,8 +2,6 @@
 #![tactic(auto)]
 
 mod entries;
-#[cfg(test)]
-mod tests;
 pub mod ulogs;
 
 pub use ulogs::print_ulog;

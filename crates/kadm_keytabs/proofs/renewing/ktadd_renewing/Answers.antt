@@ -1,3 +1,4 @@
+use Rattle.std.proofs.Common.{inl, refl}
 use Rattle.kdb_histories.specs.Seen.{seen}
 use Rattle.primary_core.specs.Opened.{place_of}
 use Rattle.session_base.specs.Draws.{told_draws}
@@ -40,3 +41,6 @@ pub returns-in-Ok-renew_input-clause-moments : goal.returns-in-Ok-renew_input-cl
 returns-in-Ok-renew_input-clause-moments g c = λ tells s has.
     leaves_safe g.D.Disk c.args.disk.now c.renew_input.new.disk (wanted c.args.client.now c.args.name.now c.args.etypes.now) (g.S.Source.left c.args.source.now) (told_draws (g.C.Clock.moments c.args.clock.now) (g.E.Entropy.stream c.args.entropy.now)) (seen (place_of c.args.primary.now) s) c.in-Ok.kept c.as_slice-kept.result.now
     c.in-Ok.ensures.kept c.as_slice-kept.ensures (c.renew_input.ensures.safe s has) tells
+
+pub returns-in-Err-clause-done : goal.returns-in-Err-clause-done
+returns-in-Err-clause-done g c = λ s draws has told. inl refl

@@ -1,4 +1,4 @@
-use Rattle.std.proofs.Common.{Err, ap, refl, sym, ◌∙◌}
+use Rattle.std.proofs.Common.{Err, ap, inl, refl, sym, ◌∙◌}
 use Rattle.kdb_histories.specs.Seen.{seen}
 use Rattle.primary_core.specs.Opened.{place_of}
 use Rattle.session_base.specs.Draws.{told_draws}
@@ -31,3 +31,9 @@ pub returns-in-Err-MemoryOut-clause-safe : goal.returns-in-Err-MemoryOut-clause-
 returns-in-Err-MemoryOut-clause-safe g c = λ s has.
     run_still g.D.Disk c.args.disk.now c.args.disk.now (wanted c.args.client.now c.args.name.now c.args.etypes.now) (told_draws (g.C.Clock.moments c.args.clock.now) (g.E.Entropy.stream c.args.entropy.now)) (seen (place_of c.args.primary.now) s) c.args.kept.now refl
     (λ told. c.what_is_kept_is_recovered.ensures c.args.primary.now.kept (c.requires.on told))
+
+pub returns-in-Err-BadKeytab-clause-done : goal.returns-in-Err-BadKeytab-clause-done
+returns-in-Err-BadKeytab-clause-done g c = λ s draws has told. inl refl
+
+pub returns-in-Err-MemoryOut-clause-done : goal.returns-in-Err-MemoryOut-clause-done
+returns-in-Err-MemoryOut-clause-done g c = λ s draws has told. inl refl

@@ -1,4 +1,4 @@
-use Rattle.std.proofs.Common.{[], ◌∙◌, ◌∷◌, ◌+◌, drop, refl, ap, arith, Ok, Err}
+use Rattle.std.proofs.Common.{[], ◌∙◌, ◌∷◌, ◌+◌, drop, refl, sym, ap, arith, Ok, Err}
 use Rattle.std.proofs.lemmas.List.{drop_all}
 use Rattle.kdb_histories.specs.Seen.{seen}
 use Rattle.primary_core.specs.Opened.{Opened, place_of}
@@ -18,6 +18,7 @@ loop-name-init g c = record {
   on = λ told. c.requires.on told;
   whole = c.requires.whole;
   realm = refl;
+  masters = refl;
   same = refl;
   disk = omega arith;
   entropy = omega arith;
@@ -26,6 +27,9 @@ loop-name-init g c = record {
 pub rekey_one-requires-clause-printed : goal.rekey_one-requires-clause-printed
 rekey_one-requires-clause-printed g c =
     word_has IsPrinted c.args.names.now c.loop-name.name-index c.name-item.result c.as_slice.result.now c.requires.printed c.loop-name-test.true c.name-item.is c.as_slice.ensures
+
+pub rekey_one-requires-clause-ring : goal.rekey_one-requires-clause-ring
+rekey_one-requires-clause-ring g c = c.requires.ring ∙ sym c.loop-name.invariant.masters
 
 pub rekey_one-requires-clause-few : goal.rekey_one-requires-clause-few
 rekey_one-requires-clause-few g c = omega (arith, c.loop-name.invariant.few, c.loop-name-test.true, c.requires.few)
@@ -50,6 +54,7 @@ loop-name-preserved g c =
       on = λ told. one.on told;
       whole = one.whole;
       realm = one.realm ∙ was.realm;
+      masters = one.masters ∙ was.masters;
       same = one.call.same ∙ was.same;
       disk = omega (arith, was.disk, one.call.later);
       entropy = omega (arith, was.entropy, one.faults.later);

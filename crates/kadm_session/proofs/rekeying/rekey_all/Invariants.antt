@@ -15,6 +15,7 @@ invariant-loop-name g l = record {
   on : g.D.Disk.tells → IsOnDisk l.primary.kept (g.D.Disk.view l.disk);
   whole : l.primary.kept.broken ≡ false;
   realm : l.primary.kept.realm ≡ l.fn.primary.kept.realm;
+  masters : l.primary.masters ≡ l.fn.primary.masters;
   same : g.D.Disk.loans l.disk ≡ g.D.Disk.loans l.fn.disk;
   disk : g.D.Disk.faults l.fn.disk ≤ g.D.Disk.faults l.disk;
   entropy : g.E.Entropy.faults l.fn.entropy ≤ g.E.Entropy.faults l.entropy;

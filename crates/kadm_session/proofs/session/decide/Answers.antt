@@ -2,7 +2,7 @@ use Rattle.std.proofs.Common.{refl}
 use Rattle.kdb_histories.specs.Seen.{seen}
 use Rattle.primary_core.specs.Opened.{place_of}
 use Rattle.session_base.specs.Draws.{told_draws}
-use Rattle.kadm_session.proofs.Going.{decides_nothing, decides_refused}
+use Rattle.kadm_session.proofs.Going.{decides_dump, decides_nothing, decides_refused}
 use Rattle.session_base.specs.declared.halts.SessionHalt.TheVariants.{MemoryOut, DrawFault}
 use Rattle.kadm_session.specs.declared.intake.Asked.TheVariants.{Rekeys}
 use Rattle.kadm_session.proofs.Lines.{halfway_as, halfway_still}
@@ -64,4 +64,28 @@ pub returns-in-Err-renew-clause-memory : goal.returns-in-Err-renew-clause-memory
 returns-in-Err-renew-clause-memory g c = λ s has is.
     let same = c.renew.ensures.memory (err_on c.renew.result _ _ c.in-Err-renew.halt MemoryOut c.in-Err-renew.is refl refl is) in
     halfway_still g.D.Disk c.args.disk.now c.renew.new.disk c.args.asked.now (told_draws (g.C.Clock.moments c.args.clock.now) (g.E.Entropy.stream c.args.entropy.now)) (seen (place_of c.args.primary.now) s) same.0
+    (λ told. c.what_is_kept_is_recovered.ensures c.args.primary.now.kept (c.requires.on told))
+
+pub returns-in-Ok-take_draws-clause-decided : goal.returns-in-Ok-take_draws-clause-decided
+returns-in-Ok-take_draws-clause-decided g c = λ s has.
+    decides_dump c.args.asked.now (told_draws (g.C.Clock.moments c.args.clock.now) (g.E.Entropy.stream c.args.entropy.now)) _ c.args.primary.now s c.in-WritesDump.is c.in-Ok-take_draws.ensures.taken has
+
+pub returns-in-Ok-take_draws-clause-safe : goal.returns-in-Ok-take_draws-clause-safe
+returns-in-Ok-take_draws-clause-safe g c = λ s has.
+    safe_still g.D.Disk c.args.disk.now c.args.disk.now c.args.asked.now (told_draws (g.C.Clock.moments c.args.clock.now) (g.E.Entropy.stream c.args.entropy.now)) (seen (place_of c.args.primary.now) s) refl
+    (λ told. c.what_is_kept_is_recovered.ensures c.args.primary.now.kept (c.requires.on told))
+
+pub returns-in-Err-take_draws-clause-safe : goal.returns-in-Err-take_draws-clause-safe
+returns-in-Err-take_draws-clause-safe g c = λ s has.
+    safe_still g.D.Disk c.args.disk.now c.args.disk.now c.args.asked.now (told_draws (g.C.Clock.moments c.args.clock.now) (g.E.Entropy.stream c.args.entropy.now)) (seen (place_of c.args.primary.now) s) refl
+    (λ told. c.what_is_kept_is_recovered.ensures c.args.primary.now.kept (c.requires.on told))
+
+pub returns-in-Err-take_draws-clause-memory : goal.returns-in-Err-take_draws-clause-memory
+returns-in-Err-take_draws-clause-memory g c = λ s has is.
+    halfway_still g.D.Disk c.args.disk.now c.args.disk.now c.args.asked.now (told_draws (g.C.Clock.moments c.args.clock.now) (g.E.Entropy.stream c.args.entropy.now)) (seen (place_of c.args.primary.now) s) refl
+    (λ told. c.what_is_kept_is_recovered.ensures c.args.primary.now.kept (c.requires.on told))
+
+pub returns-in-Err-take_draws-clause-drawn : goal.returns-in-Err-take_draws-clause-drawn
+returns-in-Err-take_draws-clause-drawn g c = λ s has is.
+    halfway_still g.D.Disk c.args.disk.now c.args.disk.now c.args.asked.now (told_draws (g.C.Clock.moments c.args.clock.now) (g.E.Entropy.stream c.args.entropy.now)) (seen (place_of c.args.primary.now) s) refl
     (λ told. c.what_is_kept_is_recovered.ensures c.args.primary.now.kept (c.requires.on told))

@@ -97,13 +97,13 @@ returns-in-Err-clause-stopped g c = λ told s has.
 pub returns-in-Err-clause-memory : goal.returns-in-Err-clause-memory
 returns-in-Err-clause-memory g c = λ told s has is.
     let before = c.loop-now_refused.invariant.goes s has in
-    rests_on _ _ _ _ _ _ _ _ before
+    rests_on _ _ _ _ _ _ _ _ _ before
     (c.turn.ensures.memory told before.state c.loop-now_refused.refused before.has (err_on c.turn.result _ _ c.in-Err.halt MemoryOut c.in-Err.is refl refl is))
 
 pub returns-in-Err-clause-drawn : goal.returns-in-Err-clause-drawn
 returns-in-Err-clause-drawn g c = λ told s has is.
     let before = c.loop-now_refused.invariant.goes s has in
-    rests_on _ _ _ _ _ _ _ _ before
+    rests_on _ _ _ _ _ _ _ _ _ before
     (c.turn.ensures.drawn told before.state c.loop-now_refused.refused before.has (err_on c.turn.result _ _ c.in-Err.halt DrawFault c.in-Err.is refl refl is))
 
 pub returns-in-Err-clause-read : goal.returns-in-Err-clause-read

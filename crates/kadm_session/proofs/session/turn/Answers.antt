@@ -34,13 +34,13 @@ returns-clause-stopped g c = λ told s refused has.
 
 pub returns-clause-memory : goal.returns-clause-memory
 returns-clause-memory g c = λ told s refused has is.
-    rests_all c.in-Ok-Line.asked _ _ _ refused _ _ _ _
+    rests_all _ c.in-Ok-Line.asked _ _ _ refused _ _ _ _
     (comes_first _ _ _ _ _ _ _ _ _ c.in-Ok-Line.field-0-is (c.as_slice-realm.ensures.value ∙ c.realm.ensures) refl c.in-Ok-Line.ensures.next) (λ more. c.answer.ensures.memory told s refused more has (err_on c.answer.result _ _ c.in-Err-answer.halt MemoryOut c.in-Err-answer.is refl refl is))
 
 pub returns-clause-drawn : goal.returns-clause-drawn
 returns-clause-drawn g c = λ told s refused has is.
-    rests_all c.in-Ok-Line.asked _ _ _ refused _ _ _ _
+    rests_all _ c.in-Ok-Line.asked _ _ _ refused _ _ _ _
     (comes_first _ _ _ _ _ _ _ _ _ c.in-Ok-Line.field-0-is (c.as_slice-realm.ensures.value ∙ c.realm.ensures) refl c.in-Ok-Line.ensures.next) (λ more. c.answer.ensures.drawn told s refused more has (err_on c.answer.result _ _ c.in-Err-answer.halt DrawFault c.in-Err-answer.is refl refl is))
 
 pub returns-in-Err-clause-memory : goal.returns-in-Err-clause-memory
-returns-in-Err-clause-memory g c = λ told s refused has is. rests_from _ _ _ refused _ _ _ (goes_first _ refused _ _ _ s has) (c.what_is_kept_is_recovered.ensures c.args.primary.now.kept (c.requires.on told))
+returns-in-Err-clause-memory g c = λ told s refused has is. rests_from _ _ _ _ refused _ _ _ (goes_first _ refused _ _ _ s has) (c.what_is_kept_is_recovered.ensures c.args.primary.now.kept (c.requires.on told))

@@ -28,6 +28,7 @@ returns-in-Ok-clause-run g c = λ tells stream o adds.
       complete = c.recover.ensures.complete tells;
       moments = c.recover.ensures.moments tells;
       refusals = c.recover.ensures.refusals tells;
+      stays = c.recover.ensures.refused_stays tells;
     } in
     let gone = (λ i. told_draws (c.now-moment.ensures.others i) stream) ∙ behind_clock moments stream in
     add_opened_run c.args.word.now clock o c.in-Ok.opened (λ d e. clock_gave moments stream d clock e c.now-moment.ensures.first) adds
@@ -48,6 +49,7 @@ returns-in-Ok-clause-unread g c = λ tells stream o adds not.
       complete = c.recover.ensures.complete tells;
       moments = c.recover.ensures.moments tells;
       refusals = c.recover.ensures.refusals tells;
+      stays = c.recover.ensures.refused_stays tells;
     } in
     add_unread c.args.word.now (g.S.Source.left c.args.source.now) (told_draws moments stream) clock o c.in-Ok.opened _ (λ d e. clock_gave moments stream d clock e c.now-moment.ensures.first) adds
     (subst (λ (r : Result Opened Stop). Answers found None clock r old mid) c.in-Ok.is answers) not c.add_opened.ensures.unread
@@ -66,6 +68,7 @@ returns-in-Ok-refuse-clause-run g c = λ tells stream o adds.
       complete = c.recover.ensures.complete tells;
       moments = c.recover.ensures.moments tells;
       refusals = c.recover.ensures.refusals tells;
+      stays = c.recover.ensures.refused_stays tells;
     } in
     add_refused c.args.word.now clock o c.in-Err-Refused.refusal (λ d e. clock_gave moments stream d clock e c.now-moment.ensures.first) adds
     (subst (λ (r : Result Opened Stop). Answers found None clock r old mid) is answers)
@@ -85,6 +88,7 @@ returns-in-Err-clause-run g c = λ tells stream o adds.
       complete = c.recover.ensures.complete tells;
       moments = c.recover.ensures.moments tells;
       refusals = c.recover.ensures.refusals tells;
+      stays = c.recover.ensures.refused_stays tells;
     } in
     let part : SaidPart (refusal_line c.in-Err-Refused.refusal) (g.K.Sink.taken c.args.sink.now) (g.K.Sink.taken c.refuse.new.sink) =
     subst (λ (r : Refusal). SaidPart (refusal_line r) (g.K.Sink.taken c.args.sink.now) (g.K.Sink.taken c.refuse.new.sink)) c.in-Err-Refused.refusal-is c.in-Err.ensures.err in
@@ -103,6 +107,7 @@ returns-in-Err-Halt-clause-run g c = λ tells stream o adds.
       complete = c.recover.ensures.complete tells;
       moments = c.recover.ensures.moments tells;
       refusals = c.recover.ensures.refusals tells;
+      stays = c.recover.ensures.refused_stays tells;
     } in
     add_halted c.args.word.now clock o c.recover.result _ (λ d e. clock_gave moments stream d clock e c.now-moment.ensures.first) adds answers refl
 

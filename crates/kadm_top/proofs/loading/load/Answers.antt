@@ -27,6 +27,7 @@ returns-in-Ok-clause-run g c = λ tells stream o loads.
       complete = c.recover.ensures.complete tells;
       moments = c.recover.ensures.moments tells;
       refusals = c.recover.ensures.refusals tells;
+      stays = c.recover.ensures.refused_stays tells;
     } in
     let gone = (λ i. told_draws (c.now-moment.ensures.others i) stream) ∙ behind_clock moments stream in
     load_opened_run clock o c.in-Ok.opened (λ d e. clock_gave moments stream d clock e c.now-moment.ensures.first) loads
@@ -47,6 +48,7 @@ returns-in-Ok-clause-unread g c = λ tells stream o loads not.
       complete = c.recover.ensures.complete tells;
       moments = c.recover.ensures.moments tells;
       refusals = c.recover.ensures.refusals tells;
+      stays = c.recover.ensures.refused_stays tells;
     } in
     absurd (not (load_reads (g.S.Source.left c.args.source.now) (told_draws moments stream) clock o c.in-Ok.opened loads (subst (λ (r : Result Opened Stop). Answers found None clock r old mid) c.in-Ok.is answers)))
 
@@ -64,6 +66,7 @@ returns-in-Ok-refuse-clause-run g c = λ tells stream o loads.
       complete = c.recover.ensures.complete tells;
       moments = c.recover.ensures.moments tells;
       refusals = c.recover.ensures.refusals tells;
+      stays = c.recover.ensures.refused_stays tells;
     } in
     load_refused clock o c.in-Err-Refused.refusal (λ d e. clock_gave moments stream d clock e c.now-moment.ensures.first) loads
     (subst (λ (r : Result Opened Stop). Answers found None clock r old mid) is answers)
@@ -83,6 +86,7 @@ returns-in-Err-clause-run g c = λ tells stream o loads.
       complete = c.recover.ensures.complete tells;
       moments = c.recover.ensures.moments tells;
       refusals = c.recover.ensures.refusals tells;
+      stays = c.recover.ensures.refused_stays tells;
     } in
     load_cut clock o c.in-Err-Refused.refusal _ (λ d e. clock_gave moments stream d clock e c.now-moment.ensures.first) loads
     (subst (λ (r : Result Opened Stop). Answers found None clock r old mid) is answers)
@@ -99,6 +103,7 @@ returns-in-Err-Halt-clause-run g c = λ tells stream o loads.
       complete = c.recover.ensures.complete tells;
       moments = c.recover.ensures.moments tells;
       refusals = c.recover.ensures.refusals tells;
+      stays = c.recover.ensures.refused_stays tells;
     } in
     load_halted clock o c.recover.result _ (λ d e. clock_gave moments stream d clock e c.now-moment.ensures.first) loads answers refl
 

@@ -15,13 +15,13 @@ use Rattle.kdb_ports.specs.Told.{after_told}
 pub returns-in-Ok-write_whole-clause-run : goal.returns-in-Ok-write_whole-clause-run
 returns-in-Ok-write_whole-clause-run g c = λ told left draws drawn.
     create_made c.args.spec.now (in_force ((g.D.Disk.view c.args.disk.now).seen 0)) c.args.moment c.args.random.now drawn (c.in-Ok.ensures.answer told)
-    (c.make_files.ensures.moments told) (c.in-Ok.ensures.stands told)
+    (c.make_files.ensures.moments told) (c.in-Ok.ensures.made told)
     (c.in-Ok-write_whole.ensures.ok ∙ ap (after_told (g.K.Sink.taken c.args.sink.now)) c.requires.text) refl
 
 pub returns-in-Err-clause-run : goal.returns-in-Err-clause-run
 returns-in-Err-clause-run g c = λ told left draws drawn.
     create_cut c.args.spec.now (in_force ((g.D.Disk.view c.args.disk.now).seen 0)) c.args.moment c.args.random.now _ drawn (c.in-Ok.ensures.answer told)
-    (c.make_files.ensures.moments told) (c.in-Ok.ensures.stands told)
+    (c.make_files.ensures.moments told) (c.in-Ok.ensures.made told)
     (subst (λ (text : List ℕ). SaidPart text (g.K.Sink.taken c.args.sink.now) (g.K.Sink.taken c.write_whole.new.sink)) c.requires.text c.in-Err.ensures.err)
     (λ no. no)
 

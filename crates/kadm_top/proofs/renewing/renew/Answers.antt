@@ -29,6 +29,7 @@ returns-in-Ok-clause-run g c = λ tells o adds.
       complete = c.recover.ensures.complete tells;
       moments = c.recover.ensures.moments tells;
       refusals = c.recover.ensures.refusals tells;
+      stays = c.recover.ensures.refused_stays tells;
     } in
     let gone = (λ i. told_draws (c.now-moment.ensures.others i) stream) ∙ behind_clock moments stream in
     renew_opened_run c.args.word.now c.args.etypes.now clock o c.in-Ok.opened (λ d e. clock_gave moments stream d clock e c.now-moment.ensures.first) adds
@@ -50,6 +51,7 @@ returns-in-Ok-clause-unread g c = λ tells o adds not.
       complete = c.recover.ensures.complete tells;
       moments = c.recover.ensures.moments tells;
       refusals = c.recover.ensures.refusals tells;
+      stays = c.recover.ensures.refused_stays tells;
     } in
     renew_unread c.args.word.now c.args.etypes.now (g.S.Source.left c.args.source.now) (told_draws moments stream) clock o c.in-Ok.opened _ (λ d e. clock_gave moments stream d clock e c.now-moment.ensures.first) adds
     (subst (λ (r : Result Opened Stop). Answers found None clock r old mid) c.in-Ok.is answers) not c.renew_opened.ensures.unread
@@ -69,6 +71,7 @@ returns-in-Ok-refuse-clause-run g c = λ tells o adds.
       complete = c.recover.ensures.complete tells;
       moments = c.recover.ensures.moments tells;
       refusals = c.recover.ensures.refusals tells;
+      stays = c.recover.ensures.refused_stays tells;
     } in
     renew_refused c.args.word.now c.args.etypes.now clock o c.in-Err-Refused.refusal (λ d e. clock_gave moments stream d clock e c.now-moment.ensures.first) adds
     (subst (λ (r : Result Opened Stop). Answers found None clock r old mid) is answers)
@@ -89,6 +92,7 @@ returns-in-Err-clause-run g c = λ tells o adds.
       complete = c.recover.ensures.complete tells;
       moments = c.recover.ensures.moments tells;
       refusals = c.recover.ensures.refusals tells;
+      stays = c.recover.ensures.refused_stays tells;
     } in
     let part : SaidPart (refusal_line c.in-Err-Refused.refusal) (g.K.Sink.taken c.args.sink.now) (g.K.Sink.taken c.refuse.new.sink) =
     subst (λ (r : Refusal). SaidPart (refusal_line r) (g.K.Sink.taken c.args.sink.now) (g.K.Sink.taken c.refuse.new.sink)) c.in-Err-Refused.refusal-is c.in-Err.ensures.err in
@@ -108,6 +112,7 @@ returns-in-Err-Halt-clause-run g c = λ tells o adds.
       complete = c.recover.ensures.complete tells;
       moments = c.recover.ensures.moments tells;
       refusals = c.recover.ensures.refusals tells;
+      stays = c.recover.ensures.refused_stays tells;
     } in
     renew_halted c.args.word.now c.args.etypes.now clock o c.recover.result _ (λ d e. clock_gave moments stream d clock e c.now-moment.ensures.first) adds answers refl
 

@@ -1,8 +1,8 @@
-use Rattle.std.proofs.Common.{true, Option, ap}
+use Rattle.std.proofs.Common.{true, ap}
 use Rattle.std.specs.Prelude.{Ok, Err}
-use Rattle.kadm_keytabs.specs.Renewals.{Renewal}
 use Rattle.kadm_top.proofs.RenewalRuns.{has_named, has_refused, refusal_renewed, refusal_renewed_cut, renewal_named, renewal_refused}
 use Rattle.kadm_top.proofs.renewing.renew_named.Goals as goal
+use Rattle.kadm_top.specs.Openings.{Renewing}
 use Rattle.kadm_top.specs.Run.{HasRenewed}
 use Rattle.kdb_base.specs.declared.outcomes.Refusal.TheVariants.{BadName}
 use Rattle.kdb_histories.specs.Seen.{seen}
@@ -26,7 +26,7 @@ returns-in-Ok-refuse-clause-renewed g c = λ tells s draws reads what has told i
     let taken = g.K.Sink.taken c.args.sink.now in
     let later = told_draws (g.C.Clock.moments c.args.clock.now) (g.E.Entropy.stream c.args.entropy.now) in
     renewal_refused c.args.name.now c.args.etypes.now (g.S.Source.left c.args.source.now) draws at reads what
-    (λ (w : Option Renewal). HasRenewed w (place_of c.args.primary.now) view view taken (g.K.Sink.taken c.refuse.new.sink) later (Ok true)) is c.in-Err.offset c.in-Err.is
+    (λ (w : Renewing). HasRenewed w at view view taken (g.K.Sink.taken c.refuse.new.sink) later (Ok true)) is c.in-Err.offset c.in-Err.is
     (refusal_renewed (BadName c.in-Err.offset) draws at view taken (g.K.Sink.taken c.refuse.new.sink) later
     (c.what_is_kept_is_recovered.ensures c.args.primary.now.kept (c.requires.on tells)) has.shows c.in-Ok-refuse.ensures.ok told)
 
@@ -37,7 +37,7 @@ returns-in-Err-refuse-clause-renewed g c = λ tells s draws reads what has told 
     let taken = g.K.Sink.taken c.args.sink.now in
     let later = told_draws (g.C.Clock.moments c.args.clock.now) (g.E.Entropy.stream c.args.entropy.now) in
     renewal_refused c.args.name.now c.args.etypes.now (g.S.Source.left c.args.source.now) draws at reads what
-    (λ (w : Option Renewal). HasRenewed w (place_of c.args.primary.now) view view taken (g.K.Sink.taken c.refuse.new.sink) later (Err c.in-Err-refuse.halt)) is c.in-Err.offset c.in-Err.is
+    (λ (w : Renewing). HasRenewed w at view view taken (g.K.Sink.taken c.refuse.new.sink) later (Err c.in-Err-refuse.halt)) is c.in-Err.offset c.in-Err.is
     (refusal_renewed_cut (BadName c.in-Err.offset) draws at view taken (g.K.Sink.taken c.refuse.new.sink) later c.in-Err-refuse.halt
     (c.what_is_kept_is_recovered.ensures c.args.primary.now.kept (c.requires.on tells)) c.in-Err-refuse.ensures.err (λ spares. ap g.K.Sink.taken (c.in-Err-refuse.ensures.rests spares)))
 

@@ -19,5 +19,5 @@ returns-clause-renewed g c = λ tells s draws reads what has told is.
 
 pub returns-in-Err-clause-renewed : goal.returns-in-Err-clause-renewed
 returns-in-Err-clause-renewed g c = λ tells s draws reads what has told is.
-    nothing_renewed what (place_of c.args.opened) (g.D.Disk.view c.args.disk.now) (g.K.Sink.taken c.args.sink.now) (told_draws (g.C.Clock.moments c.args.clock.now) (g.E.Entropy.stream c.args.entropy.now))
+    nothing_renewed what (seen (place_of c.args.opened) s) (g.D.Disk.view c.args.disk.now) (g.K.Sink.taken c.args.sink.now) (told_draws (g.C.Clock.moments c.args.clock.now) (g.E.Entropy.stream c.args.entropy.now))
     (c.what_is_kept_is_recovered.ensures c.args.opened.kept (c.requires.on tells))

@@ -1,11 +1,11 @@
 use Rattle.std.proofs.Common.{◌≡◌}
 use Rattle.std.proofs.lemmas.Result.{on_ok_weaker}
-use Rattle.kadm_keytabs.specs.Renewals.{wanted}
-use Rattle.kadm_top.proofs.RenewalRuns.{Says, are_etypes, has_renewal, renewed, rests_same, stopped_told, moments_told, unread_disk}
+use Rattle.kadm_keytabs.specs.Renewals.{IsAsked, ask_for, wanted}
+use Rattle.kadm_top.proofs.RenewalRuns.{Says, are_etypes, has_renewal, renewed, rests_same, stopped_told, moments_told, unread_disk, untouched_or}
 use Rattle.kadm_top.proofs.renewing.write_for.Goals as goal
 use Rattle.kdb_histories.specs.Seen.{seen}
 use Rattle.primary_core.specs.Opened.{place_of}
-use Rattle.session_base.specs.Draws.{told_draws}
+use Rattle.session_base.specs.Draws.{block_in, moment_in, told_draws}
 
 pub ktadd_renewing-answered-requires-clause-etypes : goal.ktadd_renewing-answered-requires-clause-etypes
 ktadd_renewing-answered-requires-clause-etypes g c = are_etypes c.args.etypes.now c.requires.types
@@ -28,6 +28,8 @@ returns-clause-renewed g c = λ tells s draws what has told is.
       rests = rests_same g.D.Disk.view g.K.Sink.taken c.args.disk.now c.ktadd_renewing-answered.new.disk c.args.sink.now c.ktadd_renewing-answered.new.sink at.place r (c.requires.stands tells)
           c.ktadd_renewing-answered.ensures.unwritten (λ e. (c.ktadd_renewing-answered.ensures.memory e).0) (λ e. (c.ktadd_renewing-answered.ensures.drawn e).0) (unread_disk r (c.ktadd_renewing-answered.new.disk ≡ c.args.disk.now) (c.ktadd_renewing-answered.new.primary ≡ c.args.primary.now) (c.ktadd_renewing-answered.new.clock ≡ c.args.clock.now) (c.ktadd_renewing-answered.new.entropy ≡ c.args.entropy.now) c.ktadd_renewing-answered.ensures.unread);
       stands = on_ok_weaker r (λ on. c.what_is_kept_is_recovered.ensures c.ktadd_renewing-answered.new.primary.kept on) (c.ktadd_renewing-answered.ensures.on tells);
+      done = untouched_or g.D.Disk.view c.args.disk.now c.ktadd_renewing-answered.new.disk at.place (IsAsked (ask_for w (moment_in draws) (block_in draws)) at) (c.requires.stands tells)
+          (c.ktadd_renewing-answered.ensures.done s draws has told);
     } in
     renewed w left draws at old now taken out c.ktadd_renewing-answered.new.primary later r what says is
 

@@ -22,7 +22,7 @@ returns-clause-course g c = λ tells s has.
     (λ end e. c.serve-answered.ensures.ended s end has e)
     (on_ok_weaker c.serve-answered.result (c.what_is_kept_is_recovered.ensures _) (c.serve-answered.ensures.on tells))
     (c.serve-answered.ensures.stopped tells s has) (c.serve-answered.ensures.memory tells s has) (c.serve-answered.ensures.drawn tells s has)
-    (λ is. between_rests _ _ _ (c.serve-answered.ensures.read tells s has is)) (λ is. between_rests _ _ _ (c.serve-answered.ensures.at_limit tells s has is))
+    (λ is. between_rests _ _ _ _ (c.serve-answered.ensures.read tells s has is)) (λ is. between_rests _ _ _ _ (c.serve-answered.ensures.at_limit tells s has is))
     (c.serve-answered.ensures.moments tells s has))
 
 pub returns-clause-read : goal.returns-clause-read

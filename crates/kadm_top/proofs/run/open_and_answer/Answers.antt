@@ -26,6 +26,7 @@ returns-in-Ok-clause-run g c = λ tells o opens.
       complete = c.recover.ensures.complete tells;
       moments = c.recover.ensures.moments tells;
       refusals = c.recover.ensures.refusals tells;
+      stays = c.recover.ensures.refused_stays tells;
     } in
     admin_opened c.args.asking.now clock o c.in-Ok.opened (λ d e. clock_gave moments stream d clock e c.now-moment.ensures.first) opens
     (subst (λ (r : Result Opened Stop). Answers found c.args.size clock r old mid) c.in-Ok.is answers)
@@ -46,6 +47,7 @@ returns-in-Ok-clause-unread g c = λ tells o opens not.
       complete = c.recover.ensures.complete tells;
       moments = c.recover.ensures.moments tells;
       refusals = c.recover.ensures.refusals tells;
+      stays = c.recover.ensures.refused_stays tells;
     } in
     c.session.ensures.unread (λ input. not (opened_reads c.args.asking.now (told_draws moments stream) clock o c.in-Ok.opened opens (subst (λ (r : Result Opened Stop). Answers found c.args.size clock r old mid) c.in-Ok.is answers) input))
 
@@ -64,6 +66,7 @@ returns-in-Ok-refuse-clause-run g c = λ tells o opens.
       complete = c.recover.ensures.complete tells;
       moments = c.recover.ensures.moments tells;
       refusals = c.recover.ensures.refusals tells;
+      stays = c.recover.ensures.refused_stays tells;
     } in
     admin_refused c.args.asking.now clock o c.in-Err-Refused.refusal (λ d e. clock_gave moments stream d clock e c.now-moment.ensures.first) opens
     (subst (λ (r : Result Opened Stop). Answers found c.args.size clock r old mid) is answers)
@@ -84,6 +87,7 @@ returns-in-Err-clause-run g c = λ tells o opens.
       complete = c.recover.ensures.complete tells;
       moments = c.recover.ensures.moments tells;
       refusals = c.recover.ensures.refusals tells;
+      stays = c.recover.ensures.refused_stays tells;
     } in
     admin_cut c.args.asking.now clock o c.in-Err-Refused.refusal _ (λ d e. clock_gave moments stream d clock e c.now-moment.ensures.first) opens
     (subst (λ (r : Result Opened Stop). Answers found c.args.size clock r old mid) is answers)
@@ -101,6 +105,7 @@ returns-in-Err-Halt-clause-run g c = λ tells o opens.
       complete = c.recover.ensures.complete tells;
       moments = c.recover.ensures.moments tells;
       refusals = c.recover.ensures.refusals tells;
+      stays = c.recover.ensures.refused_stays tells;
     } in
     admin_halted c.args.asking.now clock o c.recover.result _ (λ d e. clock_gave moments stream d clock e c.now-moment.ensures.first) opens answers refl
 
