@@ -1,6 +1,7 @@
-//! What is told of a database with no change: its log as lines, and reports.
+//! What is told of a database: its log as lines, also where it is begun anew, and reports.
 
-use crate::runs::{Turn, check_turns, check_words, created, fails};
+use crate::runs::{NO_FAULTS, Turn, check, check_turns, check_words, created, fails, run_at};
+use kdb_base::{Status, Time};
 use kdb_disk::MemoryDisk;
 use std::process::Abort;
 use std::test::Fail;
@@ -32,7 +33,7 @@ fn the_log_as_lines(rt: HostRuntime) -> Result<(), Fail> {
 const MASTERS: &[u8] = b"version\tenctype\tactivation\tactive\tprotects\tcause\n\
 1\taes256-cts-hmac-sha1-96\t1700000000\tyes\t2\tprotects\n";
 
-const KEYS: &[u8] = b"name\tindex\tkvno\tenctype\tsalt\twrapped\n\
+pub(crate) const KEYS: &[u8] = b"name\tindex\tkvno\tenctype\tsalt\twrapped\n\
 K/M@EXAMPLE.ORG\t0\t1\taes256-cts-hmac-sha1-96\tnormal\t62\n\
 kadmin/history@EXAMPLE.ORG\t0\t1\taes256-cts-hmac-sha1-96\tnormal\t62\n\
 krbtgt/EXAMPLE.ORG@EXAMPLE.ORG\t0\t1\taes256-cts-hmac-sha1-96\tnormal\t62\n\
@@ -84,3 +85,38 @@ fn the_log_begun_anew(rt: HostRuntime) -> Result<(), Fail> {
 
 const ANEW: &[u8] = b"- first 1 1700000000.000001\n- last 1 1700000000.000001\n\
 - size 1000 block 2048\n- 1 1700000000.000001 base\nok\n";
+
+#[test]
+fn the_log_begun_anew_by_a_clock_that_went_back(rt: HostRuntime) -> Result<(), Fail> {
+    let alloc = rt.alloc();
+    let mut disk = created(alloc, &[])?;
+    let an_hour_before = Time::new(1_699_996_400, 0);
+    let anew = run_at(
+        alloc,
+        &mut disk,
+        "kproplog -R",
+        b"",
+        &NO_FAULTS,
+        an_hour_before,
+    )?;
+    check(&rt, &anew, Status::Done, b"ok 1 1700000000.000001\n");
+    check_words(&rt, alloc, &mut disk, "kproplog", ANEW)
+}
+
+/// Keys under a master key whose tags have 24 bytes.
+const LONGER_KEYS: &[u8] = b"name\tindex\tkvno\tenctype\tsalt\twrapped\n\
+K/M@EXAMPLE.ORG\t0\t1\taes256-cts-hmac-sha384-192\tnormal\t74\n\
+kadmin/history@EXAMPLE.ORG\t0\t1\taes256-cts-hmac-sha1-96\tnormal\t74\n\
+krbtgt/EXAMPLE.ORG@EXAMPLE.ORG\t0\t1\taes256-cts-hmac-sha1-96\tnormal\t74\n\
+krbtgt/EXAMPLE.ORG@EXAMPLE.ORG\t1\t1\taes128-cts-hmac-sha1-96\tnormal\t58\n";
+
+#[test]
+fn keys_under_another_type_of_master_key(rt: HostRuntime) -> Result<(), Fail> {
+    let alloc = rt.alloc();
+    let mut disk = MemoryDisk::new(alloc, fails(alloc, &[])?)?;
+    let words = "create EXAMPLE.ORG -P masterpw -e aes256-sha2";
+    check_words(&rt, alloc, &mut disk, words, b"ok 1 1700000000.000000\n")?;
+    check_words(&rt, alloc, &mut disk, "report keys", LONGER_KEYS)?;
+    assert_eq!(rt; disk.bytes(5).len(), 76);
+    Ok(())
+}

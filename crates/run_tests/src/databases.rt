@@ -1,7 +1,7 @@
 //! Databases made, opened and ended.
 
 use crate::runs::{
-    NO_FAULTS, Turn, check, check_turns, check_words, created, fails, run, run_at, words_of,
+    NO_FAULTS, Turn, check, check_reading, check_turns, check_words, created, fails, run_at,
 };
 use kdb_base::{Status, Time};
 use kdb_disk::{MemoryDisk, replace_file};
@@ -66,7 +66,23 @@ fn a_database_is_made_changed_and_ended(rt: HostRuntime) -> Result<(), Fail> {
         later,
     )?;
     check(&rt, &again, Status::Done, b"ok 1 1700000001.000000\n");
-    Ok(())
+    check_words(
+        &rt,
+        rt.alloc(),
+        &mut disk,
+        "create EXAMPLE.ORG",
+        b"err 21 AlreadyThere\n",
+    )
+}
+
+// The last change, which an opening does again, leaves the files as they are too.
+#[test]
+fn no_lines_change_no_file(rt: HostRuntime) -> Result<(), Fail> {
+    let mut disk = created(rt.alloc(), &[])?;
+    check_reading(&rt, rt.alloc(), &mut disk, "admin", b"")?;
+    let line: [Turn; 1] = [("addprinc -nokey alice", "ok 2 1700000000.000000")];
+    check_turns(&rt, rt.alloc(), &mut disk, "admin", &line)?;
+    check_reading(&rt, rt.alloc(), &mut disk, "admin", b"")
 }
 
 /// Words, and the reply to them on an empty disk.

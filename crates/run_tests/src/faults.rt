@@ -1,8 +1,12 @@
 //! Faults of the source, the sink, the source of random bytes and the disk, and crashes.
 
-use crate::runs::{Faults, NO_FAULTS, Outcome, check, created, fails, run};
-use kdb_base::Status;
-use kdb_disk::{MemoryDisk, Pick};
+use crate::keys::versions;
+use crate::masters::ROLLED;
+use crate::runs::{
+    Faults, NO_FAULTS, Outcome, SECS, check, check_turns, created, fails, run, run_at,
+};
+use kdb_base::{Status, Time};
+use kdb_disk::{FILES, MemoryDisk, Pick, replace_file};
 use std::alloc::Global;
 use std::process::Abort;
 use std::test::Fail;
@@ -161,4 +165,275 @@ fn a_crash_leaves_the_old_keys_or_the_new_ones(rt: HostRuntime) -> Result<(), Fa
     let found = run(alloc, &mut disk, "admin", b"extract alice\n", &NO_FAULTS)?;
     check(&rt, &found, Status::Done, NEW_KEY);
     Ok(())
+}
+
+// ---- each call of each device
+
+/// What fails.
+#[derive(Clone, Copy)]
+enum Device {
+    Source,
+    Sink,
+    Entropy,
+    Disk,
+}
+
+const DEVICES: [Device; 4] = [Device::Source, Device::Sink, Device::Entropy, Device::Disk];
+
+fn status_of(device: Device) -> Status {
+    match device {
+        Device::Source | Device::Entropy => Status::ReadFault,
+        Device::Sink => Status::WriteFault,
+        Device::Disk => Status::DiskFault,
+    }
+}
+
+/// Those of these calls that are the disk's.
+fn disk_calls<'a>(device: Device, calls: &'a [u64]) -> &'a [u64] {
+    match device {
+        Device::Disk => calls,
+        _ => &[],
+    }
+}
+
+/// Those that are another device's.
+fn faults_of<'a>(device: Device, calls: &'a [u64]) -> Faults<'a> {
+    match device {
+        Device::Source => Faults {
+            source: calls,
+            sink: &[],
+            draws: &[],
+        },
+        Device::Sink => Faults {
+            source: &[],
+            sink: calls,
+            draws: &[],
+        },
+        Device::Entropy => Faults {
+            source: &[],
+            sink: &[],
+            draws: calls,
+        },
+        Device::Disk => NO_FAULTS,
+    }
+}
+
+/// A run that is repeated over the same files, each time with a fault at another call.
+#[derive(Clone, Copy)]
+struct Case<'a> {
+    words: &'a str,
+    input: &'a [u8],
+    /// The second at which the clock stands.
+    secs: u32,
+    /// The lines by which a next run of `admin` looks at what was done.
+    look: &'a [u8],
+    /// What they may be answered: how many of the input's lines are done then, and the replies.
+    states: &'a [(u32, &'a [u8])],
+}
+
+/// The same files on a disk of their own, of which these calls are to fail.
+fn copied(alloc: Global, disk: &MemoryDisk, calls: &[u64]) -> Result<MemoryDisk, Fail> {
+    let mut copy = MemoryDisk::new(alloc, fails(alloc, calls)?)?;
+    for file in 0..FILES {
+        replace_file(&mut copy, file, disk.bytes(file))?;
+    }
+    Ok(copy)
+}
+
+/// How many lines were answered.
+fn count_answers(replies: &[u8]) -> u32 {
+    let mut count = 0u32;
+    for line in replies.split(|byte| *byte == b'\n') {
+        if line.starts_with(b"ok") || line.starts_with(b"err") {
+            count = count.saturating_add(1);
+        }
+    }
+    count
+}
+
+fn run_case(
+    alloc: Global,
+    disk: &mut MemoryDisk,
+    case: &Case,
+    faults: &Faults,
+) -> Result<Outcome, Fail> {
+    let now = Time::new(case.secs, 0);
+    run_at(alloc, disk, case.words, case.input, faults, now)
+}
+
+/// Whether a next run without faults finds so many lines done, or more.
+fn are_done(alloc: Global, disk: &mut MemoryDisk, case: &Case, count: u32) -> Result<bool, Fail> {
+    let now = Time::new(case.secs, 0);
+    let found = run_at(alloc, disk, "admin", case.look, &NO_FAULTS, now)?;
+    for (done, replies) in case.states.iter() {
+        if *done >= count && found.replies.as_slice() == *replies {
+            return Ok(true);
+        }
+    }
+    Ok(false)
+}
+
+/// The run with a fault at this call of the device. Its replies are a front of those of the run without faults, and
+/// what was answered is done. Answers whether there was such a call.
+fn fails_at(
+    rt: &impl Abort,
+    alloc: Global,
+    base: &MemoryDisk,
+    case: &Case,
+    device: Device,
+    call: u64,
+    whole: &Outcome,
+) -> Result<bool, Fail> {
+    let calls = [call];
+    let mut disk = copied(alloc, base, disk_calls(device, &calls))?;
+    let outcome = run_case(alloc, &mut disk, case, &faults_of(device, &calls))?;
+    let failed = outcome.status == status_of(device);
+    if !failed {
+        check(rt, &outcome, whole.status, &whole.replies);
+    }
+    assert!(rt; whole.replies.starts_with(&outcome.replies));
+    let count = count_answers(&outcome.replies);
+    // The next run has a disk of its own: where this one went through, the fault would be the next run's.
+    let mut later = copied(alloc, &disk, &[])?;
+    assert!(rt; are_done(alloc, &mut later, case, count)?);
+    Ok(failed)
+}
+
+/// Each call of the device fails in turn, until the run goes through.
+fn check_device(
+    rt: &impl Abort,
+    alloc: Global,
+    base: &MemoryDisk,
+    case: &Case,
+    device: Device,
+) -> Result<(), Fail> {
+    let mut disk = copied(alloc, base, &[])?;
+    let first = match device {
+        Device::Disk => disk.calls(),
+        _ => 0,
+    };
+    let whole = run_case(alloc, &mut disk, case, &NO_FAULTS)?;
+    for call in first..first.saturating_add(1000) {
+        if !fails_at(rt, alloc, base, case, device, call, &whole)? {
+            return Ok(());
+        }
+    }
+    Err(Fail::from("a run that goes through"))
+}
+
+fn check_devices(
+    rt: &impl Abort,
+    alloc: Global,
+    base: &MemoryDisk,
+    case: &Case,
+) -> Result<(), Fail> {
+    for device in DEVICES {
+        check_device(rt, alloc, base, case, device)?;
+    }
+    Ok(())
+}
+
+const ADDED: Case<'static> = Case {
+    words: "admin",
+    input: b"addprinc -pw s3cret alice\ngetprinc alice\n",
+    secs: SECS,
+    look: b"getprinc alice\n",
+    states: &[
+        (0, b"err 4 UnknownPrincipal\n"),
+        (
+            2,
+            b"- principal alice@EXAMPLE.ORG\n- expires never\n- pwexpires never\n\
+- pwchanged 2023-11-14T22:13:20Z\n- maxlife 0\n- maxrenewlife 0\n\
+- modified 2023-11-14T22:13:20Z admin/local@EXAMPLE.ORG\n- mkvno 1\n- flags none\n- policy -\n\
+- key 1 aes256-cts-hmac-sha1-96 normal\n- key 1 aes128-cts-hmac-sha1-96 normal\nok\n",
+        ),
+    ],
+};
+
+#[test]
+fn faults_while_a_principal_is_added_and_shown(rt: HostRuntime) -> Result<(), Fail> {
+    let base = created(rt.alloc(), &[])?;
+    check_devices(&rt, rt.alloc(), &base, &ADDED)
+}
+
+/// The first line begins the log anew for its long entry, and for the second there is no room in the record.
+const LENGTHENED: Case<'static> = Case {
+    words: "admin",
+    input: b"cpw -randkey -keepold svc\ncpw -randkey -keepold svc\n",
+    secs: SECS,
+    look: b"cpw -randkey -keepold svc\n",
+    states: &[(0, b"ok 2 1700000000.000001\n"), (2, b"err 28 KeysFull\n")],
+};
+
+#[test]
+fn faults_while_the_log_is_begun_anew(rt: HostRuntime) -> Result<(), Fail> {
+    let alloc = rt.alloc();
+    let mut base = created(alloc, &[])?;
+    let lines = versions(alloc, b"svc", 15)?;
+    let made = run(alloc, &mut base, "admin", &lines, &NO_FAULTS)?;
+    assert!(rt; made.replies.ends_with(b"\nok 16 1700000000.000000\n"));
+    check_devices(&rt, alloc, &base, &LENGTHENED)
+}
+
+/// The three principals are rekeyed one by one, and what none of them needs any more is deleted.
+const REKEYED: Case<'static> = Case {
+    words: "admin",
+    input: b"update_princ_encryption\nstash\npurge_mkeys\nlist_mkeys\n",
+    secs: 1_700_003_600,
+    look: b"update_princ_encryption\nuse_mkey 2\n",
+    states: &[
+        (
+            0,
+            b"ok 3 principals processed: 3 updated, 0 already current, 0 gone\n\
+ok 9 1700003600.000000 mkvno 2 from 2023-11-14T23:13:20Z\n",
+        ),
+        (
+            0,
+            b"ok 3 principals processed: 2 updated, 1 already current, 0 gone\n\
+ok 9 1700003600.000000 mkvno 2 from 2023-11-14T23:13:20Z\n",
+        ),
+        (
+            0,
+            b"ok 3 principals processed: 1 updated, 2 already current, 0 gone\n\
+ok 9 1700003600.000000 mkvno 2 from 2023-11-14T23:13:20Z\n",
+        ),
+        (
+            2,
+            b"ok 3 principals processed: 0 updated, 3 already current, 0 gone\n\
+ok 9 1700003600.000000 mkvno 2 from 2023-11-14T23:13:20Z\n",
+        ),
+        (
+            4,
+            b"ok 3 principals processed: 0 updated, 3 already current, 0 gone\n\
+err 16 UnknownMaster 2\n",
+        ),
+    ],
+};
+
+#[test]
+fn faults_while_master_keys_are_replaced(rt: HostRuntime) -> Result<(), Fail> {
+    let alloc = rt.alloc();
+    let mut base = created(alloc, &[])?;
+    check_turns(&rt, alloc, &mut base, "admin", &ROLLED)?;
+    check_devices(&rt, alloc, &base, &REKEYED)
+}
+
+/// Whether the row of alice is there.
+const LOADED: [(u32, &[u8]); 2] = [(0, b"ok 2 1700000000.000000\n"), (1, b"err 3 Duplicate\n")];
+
+#[test]
+fn faults_while_rows_are_loaded(rt: HostRuntime) -> Result<(), Fail> {
+    let alloc = rt.alloc();
+    let base = created(alloc, &[])?;
+    let mut other = created(alloc, &[])?;
+    run(alloc, &mut other, "admin", ONE_LINE, &NO_FAULTS)?;
+    let dump = run(alloc, &mut other, "dump", b"", &NO_FAULTS)?.replies;
+    let loading = Case {
+        words: "load",
+        input: &dump,
+        secs: SECS,
+        look: ONE_LINE,
+        states: &LOADED,
+    };
+    check_devices(&rt, alloc, &base, &loading)
 }

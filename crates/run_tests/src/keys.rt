@@ -1,6 +1,6 @@
 //! Keys: what is made, shown, kept, remembered and taken away.
 
-use crate::runs::{Turn, check_last, check_session, repeated};
+use crate::runs::{Turn, check_last_and_log, check_session, repeated};
 use std::alloc::Global;
 use std::test::Fail;
 
@@ -133,7 +133,7 @@ fn keys_are_made_shown_kept_and_taken_away(rt: HostRuntime) -> Result<(), Fail> 
 }
 
 /// Lines that give a principal of this name one version of random keys after another.
-fn versions(alloc: Global, name: &[u8], count: usize) -> Result<Vec<u8>, Fail> {
+pub(crate) fn versions(alloc: Global, name: &[u8], count: usize) -> Result<Vec<u8>, Fail> {
     let mut input = b"addprinc -randkey ".as_slice().to_vec(alloc)?;
     input.extend_from_slice(name)?;
     for _ in 1..count {
@@ -144,17 +144,26 @@ fn versions(alloc: Global, name: &[u8], count: usize) -> Result<Vec<u8>, Fail> {
     Ok(input)
 }
 
+/// The log of one entry behind its beginning, in blocks that are longer than that entry.
+const OF_KEYS: &[u8] = b"- first 1 1700000000.000001\n- last 2 1700000000.000001\n\
+- size 1000 block 4096\n- 1 1700000000.000001 base\n\
+- 2 1700000000.000001 put svc@EXAMPLE.ORG\nok\n";
+
+const OF_A_NEW_NAME: &[u8] = b"- first 1 1700000000.000002\n- last 2 1700000000.000002\n\
+- size 1000 block 10240\n- 1 1700000000.000002 base\n- 2 1700000000.000002 rename nnn";
+
 #[test]
 fn a_long_entry_begins_the_log_anew(rt: HostRuntime) -> Result<(), Fail> {
     let alloc = rt.alloc();
     let input = versions(alloc, b"svc", 17)?;
     let last = b"ok 16 1700000000.000000\nok 2 1700000000.000001\nerr 28 KeysFull\n";
-    check_last(&rt, alloc, &input, last)?;
+    check_last_and_log(&rt, alloc, &input, last, OF_KEYS)?;
     // The salts of a new name make the entry longer.
     let name = repeated(alloc, b'n', 200)?;
     let mut input = versions(alloc, &name, 16)?;
     input.extend_from_slice(b"renprinc ")?;
     input.extend_from_slice(&name)?;
     input.extend_from_slice(b" b\n")?;
-    check_last(&rt, alloc, &input, b"\nok 2 1700000000.000002\n")
+    let last = b"\nok 2 1700000000.000002\n";
+    check_last_and_log(&rt, alloc, &input, last, OF_A_NEW_NAME)
 }

@@ -1,6 +1,9 @@
-//! Master keys: added, made active, listed, stashed and deleted, by lines and by words.
+//! Master keys: added, made active, listed, stashed and deleted, and principals moved under them, by lines and words.
 
-use crate::runs::{NO_FAULTS, Turn, check, check_turns, check_words, created, run, run_at};
+use crate::keys::versions;
+use crate::runs::{
+    NO_FAULTS, Turn, check, check_turns, check_words, created, repeated, run, run_at,
+};
 use kdb_base::{Status, Time};
 use kdb_disk::MemoryDisk;
 use std::alloc::Global;
@@ -8,7 +11,7 @@ use std::process::Abort;
 use std::test::Fail;
 
 /// One hour before the third key becomes active.
-const ROLLED: [Turn; 8] = [
+pub(crate) const ROLLED: [Turn; 8] = [
     ("addprinc -randkey alice", "ok 2 1700000000.000000"),
     ("add_mkey", "ok 3 1700000000.000000 mkvno 2"),
     ("add_mkey", "ok 4 1700000000.000000 mkvno 3"),
@@ -35,8 +38,12 @@ ok",
 ];
 
 /// An hour later new keys go under the third key. The second one serves nothing.
-const LATER: [Turn; 6] = [
+const LATER: [Turn; 7] = [
     ("cpw -randkey alice", "ok 6 1700003600.000000"),
+    (
+        "update_princ_encryption alice",
+        "ok 1 principals processed: 0 updated, 1 already current, 0 gone",
+    ),
     ("stash", "ok"),
     (
         "purge_mkeys",
@@ -121,6 +128,93 @@ fn all_principals_are_rekeyed(rt: HostRuntime) -> Result<(), Fail> {
     check_later(&rt, alloc, &mut disk, &REOPENED)
 }
 
+/// The same, but the third key is not put into the stash.
+const UNSTASHED: [Turn; 2] = [
+    (
+        "update_princ_encryption",
+        "ok 3 principals processed: 3 updated, 0 already current, 0 gone",
+    ),
+    (
+        "purge_mkeys",
+        "- purged 1\n- purged 2\n- kept 3 protects 3\nok 9 1700003600.000000 2 purged",
+    ),
+];
+
+// The stash has the first key alone, which is deleted, so nothing that needs it opens any more.
+#[test]
+fn without_a_stash_of_the_new_key_nothing_opens(rt: HostRuntime) -> Result<(), Fail> {
+    let alloc = rt.alloc();
+    let mut disk = created(alloc, &[])?;
+    check_turns(&rt, alloc, &mut disk, "admin", &ROLLED)?;
+    check_later(&rt, alloc, &mut disk, &UNSTASHED)?;
+    for words in ["list_mkeys", "admin", "load", "stash"] {
+        check_words(&rt, alloc, &mut disk, words, b"err 16 UnknownMaster 1\n")?;
+    }
+    Ok(())
+}
+
+/// A master key of another type, which is active at once by the tie, and a principal whose key is
+/// of a third type.
+const OF_THREE_TYPES: [Turn; 5] = [
+    ("add_mkey -e aes128-sha2", "ok 2 1700000000.000000 mkvno 2"),
+    (
+        "list_mkeys",
+        "- 1 aes256-cts-hmac-sha1-96 2023-11-14T22:13:20Z *\n\
+- 2 aes128-cts-hmac-sha256-128 -\n\
+ok",
+    ),
+    (
+        "use_mkey 2",
+        "ok 3 1700000000.000000 mkvno 2 from 2023-11-14T22:13:20Z",
+    ),
+    (
+        "addprinc -pw s3cret -e aes256-sha2 bob",
+        "ok 4 1700000000.000000",
+    ),
+    (
+        "getprinc bob",
+        "- principal bob@EXAMPLE.ORG\n- expires never\n- pwexpires never\n\
+- pwchanged 2023-11-14T22:13:20Z\n- maxlife 0\n- maxrenewlife 0\n\
+- modified 2023-11-14T22:13:20Z admin/local@EXAMPLE.ORG\n- mkvno 2\n- flags none\n- policy -\n\
+- key 1 aes256-cts-hmac-sha384-192 normal\nok",
+    ),
+];
+
+/// In a session of its own, which the stash opens by the first master key. The key of s3cret with
+/// the salt EXAMPLE.ORGbob was made by the rules of RFC 8009 with Python's hashlib.
+const BY_THE_FIRST: [Turn; 2] = [
+    (
+        "list_mkeys",
+        "- 1 aes256-cts-hmac-sha1-96 2023-11-14T22:13:20Z\n\
+- 2 aes128-cts-hmac-sha256-128 2023-11-14T22:13:20Z *\n\
+ok",
+    ),
+    (
+        "extract bob",
+        "- key 1 aes256-cts-hmac-sha384-192 b4d173d43e061d405b1846e1a475a050d692d13d514d227e559015fa5ca39518\n\
+ok",
+    ),
+];
+
+/// A wrapped key is 18 bytes and a tag longer than the key: 16 bytes of tag under the second master
+/// key, which protects K/M and bob, and 12 under the first.
+const WRAPPED: &[u8] = b"name\tindex\tkvno\tenctype\tsalt\twrapped\n\
+K/M@EXAMPLE.ORG\t0\t2\taes128-cts-hmac-sha256-128\tnormal\t50\n\
+K/M@EXAMPLE.ORG\t1\t1\taes256-cts-hmac-sha1-96\tnormal\t66\n\
+bob@EXAMPLE.ORG\t0\t1\taes256-cts-hmac-sha384-192\tnormal\t66\n\
+kadmin/history@EXAMPLE.ORG\t0\t1\taes256-cts-hmac-sha1-96\tnormal\t62\n\
+krbtgt/EXAMPLE.ORG@EXAMPLE.ORG\t0\t1\taes256-cts-hmac-sha1-96\tnormal\t62\n\
+krbtgt/EXAMPLE.ORG@EXAMPLE.ORG\t1\t1\taes128-cts-hmac-sha1-96\tnormal\t46\n";
+
+#[test]
+fn a_master_key_of_another_type(rt: HostRuntime) -> Result<(), Fail> {
+    let alloc = rt.alloc();
+    let mut disk = created(alloc, &[])?;
+    check_turns(&rt, alloc, &mut disk, "admin", &OF_THREE_TYPES)?;
+    check_turns(&rt, alloc, &mut disk, "admin", &BY_THE_FIRST)?;
+    check_words(&rt, alloc, &mut disk, "report keys", WRAPPED)
+}
+
 /// Words that are lines of master keys, and words that look like them.
 const WORDS: [(&str, &[u8]); 12] = [
     (
@@ -176,16 +270,140 @@ fn lines(alloc: Global, line: &[u8], count: usize) -> Result<Vec<u8>, Fail> {
     Ok(input)
 }
 
+/// How many master keys are added in one run, the last of the replies, and the log behind them.
+type Stage = (usize, &'static [u8], &'static [u8]);
+
+/// The fourteenth key makes the entry longer than a block, and the twenty-eighth does so again.
+const STAGES: [Stage; 3] = [
+    (
+        14,
+        b"\nok 14 1700000000.000000 mkvno 14\nok 2 1700000000.000001 mkvno 15\n",
+        b"- first 1 1700000000.000001\n- last 2 1700000000.000001\n- size 1000 block 4096\n\
+- 1 1700000000.000001 base\n- 2 1700000000.000001 put K/M@EXAMPLE.ORG\nok\n",
+    ),
+    (
+        14,
+        b"\nok 15 1700000000.000001 mkvno 28\nok 2 1700000000.000002 mkvno 29\n",
+        b"- first 1 1700000000.000002\n- last 2 1700000000.000002\n- size 1000 block 6144\n\
+- 1 1700000000.000002 base\n- 2 1700000000.000002 put K/M@EXAMPLE.ORG\nok\n",
+    ),
+    (
+        3,
+        b"\nok 5 1700000000.000002 mkvno 32\n",
+        b"- first 1 1700000000.000002\n- last 5 1700000000.000002\n- size 1000 block 6144\n\
+- 1 1700000000.000002 base\n- 2 1700000000.000002 put K/M@EXAMPLE.ORG\n\
+- 3 1700000000.000002 put K/M@EXAMPLE.ORG\n- 4 1700000000.000002 put K/M@EXAMPLE.ORG\n\
+- 5 1700000000.000002 put K/M@EXAMPLE.ORG\nok\n",
+    ),
+];
+
+/// The same of keys whose wrapping takes more bytes: the twelfth and the twenty-fourth begin the log anew.
+const LONGER_STAGES: [Stage; 3] = [
+    (
+        12,
+        b"\nok 12 1700000000.000000 mkvno 12\nok 2 1700000000.000001 mkvno 13\n",
+        b"- first 1 1700000000.000001\n- last 2 1700000000.000001\n- size 1000 block 4096\n\
+- 1 1700000000.000001 base\n- 2 1700000000.000001 put K/M@EXAMPLE.ORG\nok\n",
+    ),
+    (
+        12,
+        b"\nok 13 1700000000.000001 mkvno 24\nok 2 1700000000.000002 mkvno 25\n",
+        b"- first 1 1700000000.000002\n- last 2 1700000000.000002\n- size 1000 block 6144\n\
+- 1 1700000000.000002 base\n- 2 1700000000.000002 put K/M@EXAMPLE.ORG\nok\n",
+    ),
+    (
+        3,
+        b"\nok 5 1700000000.000002 mkvno 28\n",
+        b"- first 1 1700000000.000002\n- last 5 1700000000.000002\n- size 1000 block 6144\n\
+- 1 1700000000.000002 base\n- 2 1700000000.000002 put K/M@EXAMPLE.ORG\n\
+- 3 1700000000.000002 put K/M@EXAMPLE.ORG\n- 4 1700000000.000002 put K/M@EXAMPLE.ORG\n\
+- 5 1700000000.000002 put K/M@EXAMPLE.ORG\nok\n",
+    ),
+];
+
+/// The line so many times in a run of its own, stage by stage.
+fn check_stages(
+    rt: &impl Abort,
+    alloc: Global,
+    disk: &mut MemoryDisk,
+    line: &[u8],
+    stages: &[Stage],
+) -> Result<(), Fail> {
+    for (count, last, log) in stages.iter() {
+        let input = lines(alloc, line, *count)?;
+        let added = run(alloc, disk, "admin", &input, &NO_FAULTS)?;
+        assert!(rt; added.replies.ends_with(last));
+        check_words(rt, alloc, disk, "kproplog", log)?;
+    }
+    Ok(())
+}
+
 #[test]
 fn thirty_two_master_keys_are_the_most(rt: HostRuntime) -> Result<(), Fail> {
     let alloc = rt.alloc();
     let mut disk = created(alloc, &[])?;
-    let input = lines(alloc, b"add_mkey\n", 32)?;
+    check_stages(&rt, alloc, &mut disk, b"add_mkey\n", &STAGES)?;
+    let one_more = b"err 15 TooManyMasters 32\n";
+    check_words(&rt, alloc, &mut disk, "add_mkey", one_more)
+}
+
+#[test]
+fn master_keys_with_longer_tags(rt: HostRuntime) -> Result<(), Fail> {
+    let alloc = rt.alloc();
+    let mut disk = created(alloc, &[])?;
+    let line = b"add_mkey -e aes256-sha2\n";
+    check_stages(&rt, alloc, &mut disk, line, &LONGER_STAGES)?;
+    let input = lines(alloc, line, 5)?;
     let outcome = run(alloc, &mut disk, "admin", &input, &NO_FAULTS)?;
-    assert_eq!(rt; outcome.status, Status::Refused);
-    let last = b"\nok 5 1700000000.000002 mkvno 32\nerr 15 TooManyMasters 32\n";
+    let last = b"\nok 9 1700000000.000002 mkvno 32\nerr 15 TooManyMasters 32\n";
     assert!(rt; outcome.replies.ends_with(last));
     Ok(())
+}
+
+/// A line at the end of others: its front, and its last word.
+fn push_line(out: &mut Vec<u8>, front: &str, last: &[u8]) -> Result<(), Fail> {
+    out.extend_from_slice(front.as_bytes())?;
+    out.extend_from_slice(last)?;
+    out.push(b'\n')?;
+    Ok(())
+}
+
+/// Lines that give bob 16 versions of keys and 14 attributes, so that the row has 15990 bytes.
+fn filled(alloc: Global) -> Result<Vec<u8>, Fail> {
+    let mut input = versions(alloc, b"bob", 16)?;
+    let value = repeated(alloc, b'x', 1024)?;
+    for number in 0..13 {
+        let front = format!(in alloc; "setstr bob s{number} ")?;
+        push_line(&mut input, front.as_str(), &value)?;
+    }
+    let value = repeated(alloc, b'x', 477)?;
+    push_line(&mut input, "setstr bob z ", &value)?;
+    Ok(input)
+}
+
+/// Keys of types with tags of 24 bytes in place of 12.
+const TO_LONGER_TAGS: &[u8] = b"add_mkey -e aes256-sha2\nuse_mkey 2\nupdate_princ_encryption\n";
+
+/// Principals behind it: K/M names the newest master key, and all others the one that their keys are under.
+const STAYED: &[u8] =
+    b"name\tattributes\tmaxlife\tmaxrenewlife\texpire\tpwexpire\tpolicy\tmodified\tmodifier\tmkvno\tstrings\n\
+K/M@EXAMPLE.ORG\t00000000\t0\t0\t0\t0\t\t1700000000\tadmin/local@EXAMPLE.ORG\t2\t0\n\
+bob@EXAMPLE.ORG\t00000000\t0\t0\t0\t0\t\t1700000000\tadmin/local@EXAMPLE.ORG\t1\t14\n\
+kadmin/history@EXAMPLE.ORG\t00000000\t0\t0\t0\t0\t\t1700000000\tadmin/local@EXAMPLE.ORG\t1\t0\n\
+krbtgt/EXAMPLE.ORG@EXAMPLE.ORG\t00000000\t0\t0\t0\t0\t\t1700000000\tadmin/local@EXAMPLE.ORG\t1\t0\n";
+
+// The row of bob, who comes first, would be longer than 16000 bytes under the second master key.
+#[test]
+fn a_row_too_long_to_be_rekeyed_stays(rt: HostRuntime) -> Result<(), Fail> {
+    let alloc = rt.alloc();
+    let mut disk = created(alloc, &[])?;
+    let mut input = filled(alloc)?;
+    input.extend_from_slice(TO_LONGER_TAGS)?;
+    let outcome = run(alloc, &mut disk, "admin", &input, &NO_FAULTS)?;
+    assert_eq!(rt; outcome.status, Status::Refused);
+    let last = b" mkvno 2 from 2023-11-14T22:13:20Z\nerr 14 RecordTooLarge 16374\n";
+    assert!(rt; outcome.replies.ends_with(last));
+    check_words(&rt, alloc, &mut disk, "report principals", STAYED)
 }
 
 #[test]

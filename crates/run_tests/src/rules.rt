@@ -1,6 +1,6 @@
 //! Policies, string attributes, and what protects a principal.
 
-use crate::runs::{Turn, check_last, check_session, repeated};
+use crate::runs::{Turn, check_last, check_last_and_log, check_session, repeated};
 use std::alloc::Global;
 use std::test::Fail;
 
@@ -116,6 +116,11 @@ fn policies_attributes_and_locks_go_by_their_rules(rt: HostRuntime) -> Result<()
     check_session(&rt, rt.alloc(), &PROTECTED)
 }
 
+/// The log of two entries behind its beginning, in blocks that are longer than each of them.
+const OF_ATTRIBUTES: &[u8] = b"- first 1 1700000000.000007\n- last 3 1700000000.000007\n\
+- size 1000 block 16384\n- 1 1700000000.000007 base\n\
+- 2 1700000000.000007 put bob@EXAMPLE.ORG\n- 3 1700000000.000007 put bob@EXAMPLE.ORG\nok\n";
+
 #[test]
 fn a_record_has_sixteen_attributes_and_16000_bytes(rt: HostRuntime) -> Result<(), Fail> {
     let alloc = rt.alloc();
@@ -125,5 +130,5 @@ fn a_record_has_sixteen_attributes_and_16000_bytes(rt: HostRuntime) -> Result<()
     let value = repeated(alloc, b'x', 1024)?;
     let input = attributes(alloc, b"abcdefghijklmnop", &value)?;
     let last = b"\nok 3 1700000000.000007\nerr 14 RecordTooLarge 16535\n";
-    check_last(&rt, alloc, &input, last)
+    check_last_and_log(&rt, alloc, &input, last, OF_ATTRIBUTES)
 }

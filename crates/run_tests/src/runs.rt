@@ -2,7 +2,7 @@
 
 use kadm_top::run_local;
 use kdb_base::{Blob, Fails, Status, Time};
-use kdb_disk::MemoryDisk;
+use kdb_disk::{FILES, MemoryDisk};
 use kdb_ports::{ChaChaEntropy, MemoryClock, MemorySink, MemorySource};
 use std::alloc::Global;
 use std::process::Abort;
@@ -30,7 +30,7 @@ pub(crate) const NO_FAULTS: Faults<'static> = Faults {
 };
 
 /// The second at which the clock of these runs stands, 2023-11-14T22:13:20Z.
-const SECS: u32 = 1_700_000_000;
+pub(crate) const SECS: u32 = 1_700_000_000;
 
 pub(crate) fn fails(alloc: Global, calls: &[u64]) -> Result<Fails, Fail> {
     Ok(Fails::from_vec(calls.to_vec(alloc)?))
@@ -91,6 +91,25 @@ pub(crate) fn check(rt: &impl Abort, outcome: &Outcome, status: Status, replies:
     assert_eq!(rt; outcome.replies.as_slice(), replies);
 }
 
+/// Runs with this input, and compares the reply.
+pub(crate) fn check_run(
+    rt: &impl Abort,
+    alloc: Global,
+    disk: &mut MemoryDisk,
+    words: &str,
+    input: &[u8],
+    reply: &[u8],
+) -> Result<(), Fail> {
+    let outcome = run(alloc, disk, words, input, &NO_FAULTS)?;
+    let status = if reply.starts_with(b"err") {
+        Status::Refused
+    } else {
+        Status::Done
+    };
+    check(rt, &outcome, status, reply);
+    Ok(())
+}
+
 /// Runs without input, and compares the reply.
 pub(crate) fn check_words(
     rt: &impl Abort,
@@ -99,14 +118,7 @@ pub(crate) fn check_words(
     words: &str,
     reply: &[u8],
 ) -> Result<(), Fail> {
-    let outcome = run(alloc, disk, words, b"", &NO_FAULTS)?;
-    let status = if reply.starts_with(b"err") {
-        Status::Refused
-    } else {
-        Status::Done
-    };
-    check(rt, &outcome, status, reply);
-    Ok(())
+    check_run(rt, alloc, disk, words, b"", reply)
 }
 
 /// A line of `admin`, and what is answered to it, without its last line feed; nothing for a line without a
@@ -144,6 +156,42 @@ pub(crate) fn check_turns(
     Ok(())
 }
 
+/// All that the files of a disk hold, each file behind its number and its length.
+pub(crate) fn all_files(alloc: Global, disk: &MemoryDisk) -> Result<Vec<u8>, Fail> {
+    let mut all = Vec::new(alloc);
+    for file in 0..FILES {
+        let bytes = disk.bytes(file);
+        let head = format!(in alloc; "{file} {}\n", bytes.len())?;
+        all.extend_from_slice(head.as_bytes())?;
+        all.extend_from_slice(bytes)?;
+    }
+    Ok(all)
+}
+
+/// Runs without input, and compares the reply, and all files with what they were.
+pub(crate) fn check_reading(
+    rt: &impl Abort,
+    alloc: Global,
+    disk: &mut MemoryDisk,
+    words: &str,
+    reply: &[u8],
+) -> Result<(), Fail> {
+    let before = all_files(alloc, disk)?;
+    check_words(rt, alloc, disk, words, reply)?;
+    let after = all_files(alloc, disk)?;
+    assert!(rt; after.as_slice() == before.as_slice(), "{words}");
+    Ok(())
+}
+
+/// The same bytes with another one at this place.
+pub(crate) fn with_byte(alloc: Global, bytes: &[u8], at: usize, byte: u8) -> Result<Vec<u8>, Fail> {
+    let mut changed = bytes.to_vec(alloc)?;
+    if let Some(place) = changed.get_mut(at) {
+        *place = byte;
+    }
+    Ok(changed)
+}
+
 /// So many times the same byte.
 pub(crate) fn repeated(alloc: Global, byte: u8, count: usize) -> Result<Vec<u8>, Fail> {
     Ok(vec![in alloc; byte; count]?)
@@ -165,6 +213,22 @@ pub(crate) fn check_last(
     let mut disk = created(alloc, &[])?;
     let outcome = run(alloc, &mut disk, "admin", input, &NO_FAULTS)?;
     assert!(rt; outcome.replies.ends_with(last));
+    Ok(())
+}
+
+/// The same, and compares the front of the log's lines, which has its size and its block.
+pub(crate) fn check_last_and_log(
+    rt: &impl Abort,
+    alloc: Global,
+    input: &[u8],
+    last: &[u8],
+    log: &[u8],
+) -> Result<(), Fail> {
+    let mut disk = created(alloc, &[])?;
+    let outcome = run(alloc, &mut disk, "admin", input, &NO_FAULTS)?;
+    assert!(rt; outcome.replies.ends_with(last));
+    let lines = run(alloc, &mut disk, "kproplog", b"", &NO_FAULTS)?;
+    assert!(rt; lines.replies.starts_with(log));
     Ok(())
 }
 

@@ -1,6 +1,10 @@
 //! What stands in the files: rows in their units, the size of the log, and files of format 1.
 
-use crate::runs::{NO_FAULTS, Turn, check, check_turns, check_words, created, fails, run_at};
+use crate::accounts::KEYS;
+use crate::runs::{
+    NO_FAULTS, Turn, all_files, check, check_run, check_turns, check_words, created, fails, run,
+    run_at, with_byte,
+};
 use kdb_base::{Status, Time};
 use kdb_disk::{MemoryDisk, replace_file};
 use std::alloc::Global;
@@ -127,19 +131,17 @@ fn no_log_is_begun_behind_the_last_moment(rt: HostRuntime) -> Result<(), Fail> {
         "admin -ulogsize 5",
         b"err 23 TimeEnd\n",
     )?;
+    check_words(
+        &rt,
+        rt.alloc(),
+        &mut disk,
+        "kproplog -R",
+        b"err 23 TimeEnd\n",
+    )?;
     // Time never goes back.
     let bob: [Turn; 1] = [("addprinc -nokey bob", "ok 2 4294967295.999999")];
     check_turns(&rt, rt.alloc(), &mut disk, "admin", &bob)?;
     Ok(())
-}
-
-/// The same bytes with another one at this place.
-fn with_byte(alloc: Global, bytes: &[u8], at: usize, byte: u8) -> Result<Vec<u8>, Fail> {
-    let mut changed = bytes.to_vec(alloc)?;
-    if let Some(place) = changed.get_mut(at) {
-        *place = byte;
-    }
-    Ok(changed)
 }
 
 /// The rows of a file of format 2 in units of 8192 bytes, as format 1 has them.
@@ -152,13 +154,31 @@ fn short_units(alloc: Global, bytes: &[u8]) -> Result<Vec<u8>, Fail> {
     with_byte(alloc, &short, 5, 1)
 }
 
-/// A database of format 1: the files of a creation, with 1 for its format and units of 8192 bytes.
-fn created_format1(alloc: Global) -> Result<MemoryDisk, Fail> {
-    let mut disk = created(alloc, &[])?;
+/// Gives a database format 1: 1 for its format, and units of 8192 bytes.
+fn make_format1(alloc: Global, disk: &mut MemoryDisk) -> Result<(), Fail> {
     let rows = short_units(alloc, disk.bytes(1))?;
     let control = with_byte(alloc, disk.bytes(0), 6, 1)?;
-    replace_file(&mut disk, 1, &rows)?;
-    replace_file(&mut disk, 0, &control)?;
+    replace_file(disk, 1, &rows)?;
+    replace_file(disk, 0, &control)?;
+    Ok(())
+}
+
+/// Gives the base point of a creation the serial 2: the control file, the rows and the log have it.
+fn move_base(alloc: Global, disk: &mut MemoryDisk) -> Result<(), Fail> {
+    let control = with_byte(alloc, disk.bytes(0), 22, 2)?;
+    let rows = with_byte(alloc, disk.bytes(1), 22, 2)?;
+    let log = with_byte(alloc, disk.bytes(3), 4, 2)?;
+    replace_file(disk, 0, &control)?;
+    replace_file(disk, 1, &rows)?;
+    replace_file(disk, 3, &log)?;
+    Ok(())
+}
+
+/// A database of format 1 at 2 1700000000.000000.
+fn created_format1(alloc: Global) -> Result<MemoryDisk, Fail> {
+    let mut disk = created(alloc, &[])?;
+    make_format1(alloc, &mut disk)?;
+    move_base(alloc, &mut disk)?;
     Ok(disk)
 }
 
@@ -179,4 +199,99 @@ fn files_of_format_1_become_format_2(rt: HostRuntime) -> Result<(), Fail> {
     assert_eq!(rt; disk.bytes(2).len(), 81920);
     check_turns(&rt, rt.alloc(), &mut disk, "admin", &NAMES)?;
     Ok(())
+}
+
+/// Tells of a database at 2 1700000000.000000 without keys of others than its own, and compares all files.
+fn check_told(
+    rt: &impl Abort,
+    alloc: Global,
+    disk: &mut MemoryDisk,
+    log: &[u8],
+) -> Result<(), Fail> {
+    let before = all_files(alloc, disk)?;
+    check_words(rt, alloc, disk, "kproplog", log)?;
+    check_words(rt, alloc, disk, "report keys", KEYS)?;
+    let dump = run(alloc, disk, "dump", b"", &NO_FAULTS)?;
+    let front = b"kdb dump 2\nrealm EXAMPLE.ORG\npoint 2 1700000000.000000\nprinc ";
+    assert!(rt; dump.replies.starts_with(front));
+    let after = all_files(alloc, disk)?;
+    assert!(rt; after.as_slice() == before.as_slice());
+    Ok(())
+}
+
+const LOG: &[u8] = b"- first 2 1700000000.000000\n- last 2 1700000000.000000\n\
+- size 1000 block 2048\n- 2 1700000000.000000 base\nok\n";
+
+const LOG_WITH_BOB: &[u8] = b"- first 1 1700000000.000000\n- last 2 1700000000.000000\n\
+- size 1000 block 2048\n- 1 1700000000.000000 base\n- 2 1700000000.000000 put bob@EXAMPLE.ORG\nok\n";
+
+// The last change, which an opening does again, leaves the files as they are too.
+#[test]
+fn what_is_told_leaves_format_1(rt: HostRuntime) -> Result<(), Fail> {
+    let alloc = rt.alloc();
+    let mut disk = created_format1(alloc)?;
+    check_told(&rt, alloc, &mut disk, LOG)?;
+    let mut disk = created(alloc, &[])?;
+    let bob = b"addprinc -nokey bob\n";
+    let added = b"ok 2 1700000000.000000\n";
+    check_run(&rt, alloc, &mut disk, "admin", bob, added)?;
+    make_format1(alloc, &mut disk)?;
+    check_told(&rt, alloc, &mut disk, LOG_WITH_BOB)
+}
+
+/// A log begun anew by the opening, one of five entries, and one begun anew once more.
+const ANEW: &[u8] = b"- first 1 1700000000.000001\n- last 1 1700000000.000001\n\
+- size 1000 block 2048\n- 1 1700000000.000001 base\nok\n";
+
+const ANEW_OF_FIVE: &[u8] = b"- first 1 1700000000.000001\n- last 1 1700000000.000001\n\
+- size 5 block 2048\n- 1 1700000000.000001 base\nok\n";
+
+const ANEW_TWICE: &[u8] = b"- first 1 1700000000.000002\n- last 1 1700000000.000002\n\
+- size 1000 block 2048\n- 1 1700000000.000002 base\nok\n";
+
+/// Words that open a database of format 1, the input, the reply, and the log behind them.
+const OPENED: [(&str, &[u8], &[u8], &[u8]); 5] = [
+    (
+        "admin",
+        b"getprinc nobody\n",
+        b"err 4 UnknownPrincipal\n",
+        ANEW,
+    ),
+    (
+        "list_mkeys",
+        b"",
+        b"- 1 aes256-cts-hmac-sha1-96 2023-11-14T22:13:20Z *\nok\n",
+        ANEW,
+    ),
+    ("ktadd a@OTHER", b"", b"err 2 BadName 2\n", ANEW),
+    ("admin -ulogsize 5", b"", b"", ANEW_OF_FIVE),
+    ("kproplog -R", b"", b"ok 1 1700000000.000002\n", ANEW_TWICE),
+];
+
+fn check_opened(
+    rt: &impl Abort,
+    alloc: Global,
+    words: &str,
+    input: &[u8],
+    reply: &[u8],
+    log: &[u8],
+) -> Result<(), Fail> {
+    let mut disk = created_format1(alloc)?;
+    check_run(rt, alloc, &mut disk, words, input, reply)?;
+    // Slot 1: format 2, turn 1, image file 2, log file 4.
+    let slot = disk.bytes(0).get(64..).unwrap_or(&[]);
+    assert!(rt; slot.starts_with(b"\xa5KDBP\0\x02\x01\x02\x04\x05"));
+    check_words(rt, alloc, &mut disk, "kproplog", log)
+}
+
+#[test]
+fn an_opening_makes_format_2(rt: HostRuntime) -> Result<(), Fail> {
+    let alloc = rt.alloc();
+    for (words, input, reply, log) in OPENED {
+        check_opened(&rt, alloc, words, input, reply, log)?;
+    }
+    let mut disk = created_format1(alloc)?;
+    let dump = run(alloc, &mut disk, "dump", b"", &NO_FAULTS)?.replies;
+    let loaded = b"ok 1 1700000000.000002\n";
+    check_opened(&rt, alloc, "load", &dump, loaded, ANEW_TWICE)
 }
