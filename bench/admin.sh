@@ -1,17 +1,27 @@
 #!/bin/sh
-# Lines a second of kdb_tool over a real folder: additions and new keys in databases of 100 and 10000
-# principals, getprinc and listprincs over 1000 and 10000, and the opening of 10000 rows. Each figure is the
-# time by the clock of a whole run, with the opening, and the best of three. A file of 10000 rows has 160 MB.
+# Lines a second of kdb_tool over a real folder: additions in databases of 1000, 10000 and 99000 principals,
+# new keys, getprinc and listprincs, and the opening of the greatest of them, beside reading its file. Each
+# figure is what a line takes, the best of three runs: of changes by the clock from the first reply to the last, else by
+# that of the whole run, of which that of a run over no lines is taken off (so of all lines of MIT's programs).
+# A file of 10000 rows has 160 MB.
+# Where MIT's kadmin.local and kdb5_util are installed, they do the same lines over a realm of their own with
+# an update log, in turn with kdb_tool, and a ratio above 1 says that kdb_tool was the faster one.
+# Usage: bench/admin.sh [PRINCIPALS]   (10000 unless given; no database has more, and additions want room below 100000).
 set -eu
-root=$(CDPATH= cd -- "$(dirname -- "$0")/.." && pwd)
+root=$(CDPATH='' cd -- "$(dirname -- "$0")/.." && pwd)
 program=${KDB_TOOL:-$root/crates/kdb_tool/out/kdb_tool}
 [ -x "$program" ] || { echo "build $program first: ./kdb_tool" >&2; exit 1; }
-exec python3 - "$program" <<'END'
+exec python3 -B - "$program" "$root/bench" "${1:-10000}" <<'END'
 import os, struct, subprocess, sys, tempfile, time
 
-program = sys.argv[1]
-REALM = b"EXAMPLE.ORG"
+program, most = os.path.abspath(sys.argv[1]), int(sys.argv[3])
+sys.path.insert(0, sys.argv[2])
+import mit_realm
+
+REALM = mit_realm.REALM.encode()
 MOMENT = 1700000000
+TURNS = 3
+beside = mit_realm.is_installed()
 
 
 def counted(text):
@@ -34,38 +44,106 @@ def database(folder, count):
             rows.write((b"\1" + counted(row)).ljust(16384, b"\0"))
 
 
-def run(folder, lines):
+def spoken(folder, lines):
     text = "".join(line + "\n" for line in lines).encode()
-    start = time.monotonic()
     done = subprocess.run([program, "admin"], cwd=folder, input=text, stdout=subprocess.PIPE)
-    taken = time.monotonic() - start
     if done.returncode != 0:
         sys.exit("status %d: %r" % (done.returncode, done.stdout[-200:]))
-    return taken
+    return done.stdout
 
 
-def figure(name, rows, lines):
-    best = None
-    for _ in range(3):
-        with tempfile.TemporaryDirectory() as folder:
-            database(folder, rows)
-            taken = run(folder, lines)
-            best = taken if best is None else min(best, taken)
-    if lines:
-        print("%-40s %10.0f lines a second" % (name, len(lines) / best))
+def run(folder, lines):
+    start = time.monotonic()
+    spoken(folder, lines)
+    return time.monotonic() - start
+
+
+def changed(folder, lines):
+    """The seconds from the first to the last of the changes, by the times that their replies have."""
+    replies = spoken(folder, lines)
+    times = [float(line.split()[2]) for line in replies.splitlines() if line.startswith(b"ok ")]
+    if len(times) != len(lines):
+        sys.exit("%d of %d changes: %r" % (len(times), len(lines), replies[-200:]))
+    return (times[-1] - times[0]) / (len(times) - 1) * len(times)
+
+
+def best(turns):
+    return min(turns)
+
+
+def per_line(turn, count):
+    """The seconds of each of so many lines, without those of a run over none."""
+    return (best(turn(number) for number in range(TURNS)) - best(turn(None) for _ in range(TURNS))) / count
+
+
+def tell(name, ours, theirs):
+    if theirs is None:
+        print("%-40s %10.0f lines a second" % (name, 1 / ours))
     else:
-        print("%-40s %10.3f seconds" % (name, best))
+        print("%-40s %10.0f lines a second, MIT %8.0f, ratio %6.2f" % (name, 1 / ours, 1 / theirs, theirs / ours))
+    sys.stdout.flush()
 
 
-added = ["addprinc -nokey m%d" % number for number in range(200)]
-random = ["addprinc -randkey m%d" % number for number in range(200)]
-figure("addprinc -nokey at 100 principals", 100, added)
-figure("addprinc -nokey at 10000 principals", 10000, added)
-figure("addprinc -randkey at 100 principals", 100, random)
-figure("cpw -pw at 100 principals", 100, ["cpw -pw secret%d n%06d" % (number, number) for number in range(50)])
-figure("getprinc at 1000 principals", 1000, ["getprinc n%06d" % (number % 1000) for number in range(20000)])
-figure("getprinc at 10000 principals", 10000, ["getprinc n%06d" % (number * 5 % 10000) for number in range(20000)])
-figure("listprincs of 1000 names", 1000, ["listprincs"] * 100)
-figure("listprincs *7@* of 10000 names", 10000, ["listprincs *7@*"] * 50)
-figure("opening of 10000 rows", 10000, [])
+def figure(name, rows, lines_of, mark, are_changes=False):
+    """A line of figures: `lines_of` gives the lines of a turn, and each answer of MIT's to one has `mark` once. Gives the
+    seconds of a line."""
+    count = len(lines_of(0))
+    with tempfile.TemporaryDirectory() as folder:
+        here = os.path.join(folder, "ours")
+        os.mkdir(here)
+        database(here, rows)
+        if are_changes:
+            ours = best(changed(here, lines_of(number)) for number in range(TURNS)) / count
+        else:
+            ours = per_line(lambda number: run(here, [] if number is None else lines_of(number)), count)
+        theirs = None
+        if beside:
+            there = os.path.join(folder, "theirs")
+            os.mkdir(there)
+            realm = mit_realm.Realm(there)
+            realm.fill("-nokey", rows)
+            theirs = per_line(lambda number: realm.admin([] if number is None else lines_of(number), mark), count)
+    tell(name, ours, theirs)
+    return ours
+
+
+def opening(rows):
+    """The opening of so many rows by the clock, and reading their file in pieces of 64 KB; and its greatest memory."""
+    with tempfile.TemporaryDirectory() as folder:
+        database(folder, rows)
+        taken = best(run(folder, []) for _ in range(TURNS))
+        reading = []
+        for _ in range(TURNS):
+            start = time.monotonic()
+            with open(os.path.join(folder, "image.0"), "rb", buffering=0) as file:
+                while file.read(65536):
+                    pass
+            reading.append(time.monotonic() - start)
+        child = subprocess.Popen([program, "admin"], cwd=folder, stdin=subprocess.DEVNULL, stdout=subprocess.DEVNULL)
+        most_memory = os.wait4(child.pid, 0)[2].ru_maxrss
+    print("%-40s %10.3f seconds, reading %.3f, ratio %.2f, at most %d MB" % ("opening of %d rows" % rows, taken, best(reading), taken / best(reading), most_memory // 1024))
+    sys.stdout.flush()
+
+
+def added(option, count=300):
+    return lambda turn: ["addprinc %s m%d_%d" % (option, turn, number) for number in range(count)]
+
+
+def asked(rows, lines):
+    return lambda turn: ["getprinc n%06d" % (number * 7 % rows) for number in range(lines)]
+
+
+few, middle = min(100, most), min(1000, most)
+for option in ("-nokey", "-randkey"):
+    taken = [figure("addprinc %s at %d principals" % (option, rows), rows, added(option), "created.", True)
+             for rows in (1000, 10000, 99000) if rows <= most]
+    if len(taken) > 1:
+        print("%-40s %10.2f" % ("  a line at the most, by one at the fewest", taken[-1] / taken[0]))
+figure("addprinc -pw at %d principals" % few, few, added("-pw secret", 50), "created.", True)
+figure("cpw -pw at %d principals" % few, few, lambda turn: ["cpw -pw secret%d_%d n%06d" % (turn, number, number % few) for number in range(50)], "changed.", True)
+figure("getprinc at %d principals" % middle, middle, asked(middle, 20000), "Principal: ")
+figure("getprinc at %d principals" % most, most, asked(most, 20000), "Principal: ")
+figure("listprincs of %d names" % middle, middle, lambda turn: ["listprincs"] * 100, "K/M@")
+figure("listprincs *7@* of %d names" % most, most, lambda turn: ["listprincs *7@*"] * 50, "n000007@")
+opening(most)
 END

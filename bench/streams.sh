@@ -1,8 +1,8 @@
 #!/bin/sh
 # Runs kdb_tool with its standard streams closed, in all seven ways, on create, admin and destroy, and looks
 # at the status, the files and the database afterwards. It also looks at the files' permissions, at a folder
-# without a database, at two creations at once, and, where strace is there, at the descriptors in use and
-# at the syncs of a creation.
+# without a database, at two creations at once, and, where strace is there, at the descriptors in use, at
+# the syncs of a creation, and at the writes and syncs of a change.
 # Usage: bench/streams.sh. Prints a line for each of these; status 1 where one is wrong.
 set -eu
 root=$(CDPATH='' cd -- "$(dirname -- "$0")/.." && pwd)
@@ -61,9 +61,11 @@ for way in WAYS:
         tell(f"{word}, {closed} closed", (told.returncode, text in told.stdout), (72, False) if 1 in way else (0, True))
 
 clear()
-for words in (["admin"], ["destroy"], ["frob"], ["create", "EXAMPLE_ORG"], ["--help"], []):
-    run(words, b"addprinc -nokey a\n")
-    tell(f"files after {' '.join(words) or 'no words'}", os.listdir(work), [])
+for words in ("admin", "destroy", "frob", "create EXAMPLE_ORG", "--help", "", "dump", "load", "kproplog", "kproplog -R",
+              "report keys", "ktadd a", "ktadd -norandkey a", "ktremove a all", "generate 1 2", "add_mkey", "use_mkey 1",
+              "list_mkeys", "purge_mkeys -f", "stash", "update_princ_encryption -f"):
+    run(words.split(), b"addprinc -nokey a\n")
+    tell(f"files after {words or 'no words'}", os.listdir(work), [])
 
 os.umask(0)
 made()
@@ -98,6 +100,14 @@ if shutil.which("strace"):
         if not way:
             calls = [re.search(r"\b([a-z0-9]+)\(", line)[1] for line in open(traced) if re.search(r"\b(pwrite64|fdatasync|fsync)\(", line)]
             tell("a sync after the last write of a change", calls[-1] if calls else "no call", "fdatasync")
+    # Over a new database an empty input makes so many calls; each change makes four writes and four syncs more.
+    counts = []
+    for text in (b"", b"addprinc -nokey c\n", b"addprinc -nokey c\naddprinc -nokey d\n"):
+        made()
+        subprocess.run([*before, program, "admin"], cwd=work, input=text, capture_output=True)
+        calls = [re.search(r"\b([a-z0-9]+)\(", line)[1] for line in open(traced) if re.search(r"\b(pwrite64|fdatasync)\(\d+<" + re.escape(os.path.realpath(work)), line)]
+        counts.append((calls.count("pwrite64"), calls.count("fdatasync")))
+    tell("writes and syncs of a change, and of the next", [(a[0] - b[0], a[1] - b[1]) for a, b in zip(counts[1:], counts)], [(4, 4), (4, 4)])
     clear()
     subprocess.run([*before, program, "create", "EXAMPLE.ORG"], cwd=work, capture_output=True)
     found = (re.search(r"\b(pwrite64|fdatasync|fsync)\(\d+<([^>]+)>", line) for line in open(traced))

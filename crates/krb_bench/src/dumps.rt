@@ -7,7 +7,7 @@ use dump_text::{Dump, DumpReader, write_dump};
 use kdb_ports::WriterSink;
 use princ_record::encode;
 use std::alloc::Global;
-use std::io::Write;
+use std::io::{Read, Write};
 use std::time::CpuClock;
 
 /// Rows of the dump.
@@ -74,5 +74,24 @@ pub fn report<R: CpuClock + Print>(rt: &R, alloc: Global) -> Result<()> {
     if sink.into_writer() != text {
         println!(rt; "  what was written is not what was read")?;
     }
+    Ok(())
+}
+
+/// Reads a dump from the input, and prints how many rows are then in memory. A run takes the memory of these rows, the
+/// piece that was read last, and little else.
+pub fn hold(rt: &HostRuntime, alloc: Global) -> Result<()> {
+    let mut input = rt.stdin();
+    let mut reader = DumpReader::new(alloc)?;
+    let mut piece = [0u8; PIECE];
+    for _ in 0..u32::MAX {
+        let count = input.read(&mut piece)?;
+        if count == 0 {
+            break;
+        }
+        reader.feed(piece.get(..count).unwrap_or_default())?;
+    }
+    let dump = reader.finish()?;
+    let rows = dump.rows.princs().len();
+    println!(rt; "rows {rows}")?;
     Ok(())
 }

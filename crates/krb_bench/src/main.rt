@@ -3,6 +3,7 @@
 #![tactic(auto)]
 
 mod ciphers;
+mod digests;
 mod dumps;
 mod kept;
 mod masters;
@@ -14,23 +15,27 @@ use anyhow::Result;
 use std::env;
 
 const USAGE: &str =
-    "usage: krb_bench run    measures for some seconds, and prints a line for each figure";
+    "usage: krb_bench run    measures for some seconds, and prints a line for each figure
+       krb_bench rows   reads a dump from the input, and prints how many rows are then in memory";
 
 fn main(rt: HostRuntime) -> Result<()> {
     let mut words = env::args(&rt)?;
     words.next();
-    let run = match words.next() {
-        Some(word) => word.as_str() == "run",
-        None => false,
-    };
-    if !run {
-        println!(rt; "{USAGE}")?;
-        return Ok(());
+    match words.next() {
+        Some(word) if word.as_str() == "run" => report(&rt),
+        Some(word) if word.as_str() == "rows" => dumps::hold(&rt, rt.alloc()),
+        _ => {
+            println!(rt; "{USAGE}")?;
+            Ok(())
+        }
     }
-    ciphers::report(&rt)?;
-    profile::report(&rt, rt.alloc())?;
-    masters::report(&rt, rt.alloc())?;
-    records::report(&rt, rt.alloc())?;
-    dumps::report(&rt, rt.alloc())?;
-    Ok(())
+}
+
+fn report(rt: &HostRuntime) -> Result<()> {
+    ciphers::report(rt)?;
+    digests::report(rt)?;
+    profile::report(rt, rt.alloc())?;
+    masters::report(rt, rt.alloc())?;
+    records::report(rt, rt.alloc())?;
+    dumps::report(rt, rt.alloc())
 }

@@ -1,6 +1,7 @@
 // The speed of keys under master keys: one key wrapped, a record wrapped anew, a chain of three opened.
 
 ghost use Rattle.std.specs.Prelude.{◌≡◌, ◌+◌, ◌<◌, ◌≤◌, IfOk, length};
+ghost use Rattle.kdb_base.specs.Limits.{most_keys};
 ghost use Rattle.master_keys.specs.Chain.{IsChain};
 ghost use Rattle.master_keys.specs.Versions.{last_version};
 
@@ -8,7 +9,7 @@ use crate::records;
 use crate::timing::{print_time, seconds_since};
 use anyhow::Result;
 use kdb_base::{Etype, Masters, MemoryOut, PlainKey, Salt};
-use master_keys::{MasterKey, add, new_chain, open_with, rewrap};
+use master_keys::{MasterKey, add, new_chain, open_with, rewrap, rewrap_by};
 use princ_record::{KeyItem, Keys, Princ};
 use std::alloc::Global;
 use std::time::CpuClock;
@@ -42,7 +43,7 @@ fn wrapped_item(alloc: Global, master: &MasterKey, etype: Etype) -> Result<KeyIt
 
 /// A record with two keys under this master key.
 fn record_under(alloc: Global, master: &MasterKey) -> Result<Princ, MemoryOut>
-    ensures { IfOk result (λ p. length p.keys ≤ 32) }
+    ensures { IfOk result (λ p. length p.keys ≤ most_keys) }
 {
     let mut princ = records::sample(alloc)?;
     let mut keys = Vec::new(alloc);
@@ -98,7 +99,7 @@ fn wrap_again(alloc: Global, master: &MasterKey, key: &PlainKey, turns: u32) {
 }
 
 fn rewrap_again(alloc: Global, princ: &Princ, old: &PlainKey, fresh: &PlainKey, turns: u32)
-    requires { length princ.now.keys ≤ 32 }
+    requires { length princ.now.keys ≤ most_keys }
 {
     let random = confounders();
     for _ in 0..turns {
@@ -106,10 +107,42 @@ fn rewrap_again(alloc: Global, princ: &Princ, old: &PlainKey, fresh: &PlainKey, 
     }
 }
 
+/// The same by master keys that are ready, as those who go through many records have them.
+fn rewrap_ready(alloc: Global, princ: &Princ, old: &MasterKey, fresh: &MasterKey, turns: u32)
+    requires { length princ.now.keys ≤ most_keys }
+{
+    let random = confounders();
+    for _ in 0..turns {
+        let _ = rewrap_by(alloc, princ, old, 2, fresh, &random);
+    }
+}
+
 fn open_again(alloc: Global, entry: &Princ, key: &PlainKey, turns: u32) {
     for _ in 0..turns {
         let _ = open_with(alloc, entry, 1, key);
     }
+}
+
+/// Prints the time of a record wrapped anew, by master keys of which nothing is derived yet, and by ready ones.
+fn report_rewraps<R: CpuClock + Print>(
+    rt: &R,
+    alloc: Global,
+    old: &PlainKey,
+    master: &MasterKey,
+) -> Result<()> {
+    let princ = record_under(alloc, master)?;
+    let fresh = key_of(Etype::Aes256, 3);
+    let start = rt.process_cpu_time()?;
+    rewrap_again(alloc, &princ, old, &fresh, RECORDS);
+    let took = seconds_since(rt, start)?;
+    print_time(rt, "  wrap a record of two keys anew", RECORDS, took)?;
+    let fresh = MasterKey::new(&fresh);
+    let start = rt.process_cpu_time()?;
+    rewrap_ready(alloc, &princ, master, &fresh, RECORDS);
+    let took = seconds_since(rt, start)?;
+    let name = "  wrap a record of two keys anew, kept master keys";
+    print_time(rt, name, RECORDS, took)?;
+    Ok(())
 }
 
 /// Prints all figures of master keys.
@@ -125,15 +158,7 @@ pub fn report<R: CpuClock + Print>(rt: &R, alloc: Global) -> Result<()> {
         WRAPS,
         seconds_since(rt, start)?,
     )?;
-    let princ = record_under(alloc, &master)?;
-    let start = rt.process_cpu_time()?;
-    rewrap_again(alloc, &princ, &old, &key_of(Etype::Aes256, 3), RECORDS);
-    print_time(
-        rt,
-        "  wrap a record of two keys anew",
-        RECORDS,
-        seconds_since(rt, start)?,
-    )?;
+    report_rewraps(rt, alloc, &old, &master)?;
     let entry = chain_of_three(alloc, &old)?;
     let start = rt.process_cpu_time()?;
     open_again(alloc, &entry, &old, CHAINS);
