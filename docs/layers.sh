@@ -13,8 +13,8 @@ draw() {
     awk '
     # the way from what a call says to what holds of a world
     BEGIN {
-        split("primary_core primary_rekeying primary_loading replica_core primary_events replica_events " \
-            "replica_steps kdb_histories kdb_worlds world_laws", names, " ")
+        split("kdb_places iprop_truths replica_steps kdb_histories kdb_worlds world_laws performed_plans primary_core " \
+            "primary_rekeying primary_loading primary_worlds primary_events replica_core replica_events kadm_top run_events", names, " ")
         for (i in names) on_way[names[i]] = 1
     }
     # the headings of the other document, in their order
