@@ -28,7 +28,8 @@ applies client target line = pattern_matches line.client client && target_fits l
 
 abbrev pub decided_by : ℕ → Option AclLine → Decision
 decided_by letter None = record { line = 0; allowed = false; limits = None }
-decided_by letter (Some line) = record { line = line.number; allowed = grants line.letters letter; limits = line.limits }
+decided_by letter (Some line) =
+    record { line = line.number; allowed = grants line.letters letter; limits = line.limits }
 
 -- the first line that is about them decides, and where there is none nothing is allowed
 unfoldable pub decision : List AclLine → NameParts → ℕ → Option NameParts → Decision

@@ -1,5 +1,5 @@
--- The letters of operations (kadm5.acl of MIT Kerberos): a add, d delete, m modify, c change password, i inquire, l list,
--- s set key, p propagate, e extract; x and * stand for all but e, and a capital letter takes away.
+-- The letters of operations (kadm5.acl of MIT Kerberos): a add, d delete, m modify, c change password, i inquire, l
+-- list, s set key, p propagate, e extract; x and * stand for all but e, and a capital letter takes away.
 use Rattle.std.specs.Prelude.{ℕ, ◌+◌, ◌==◌, Bool, false, not, ◌||◌, ◌&&◌, nat_le, List, codes, fold, if◌then◌else◌}
 use Rattle.std.specs.List.{list_all, list_any}
 
@@ -29,4 +29,5 @@ are_letters word = list_all is_letter word
 
 -- from left to right: the last byte that counts for the operation decides
 unfoldable pub grants : List ℕ → ℕ → Bool
-grants letters operation = fold (λ granted byte. if counts_for operation byte then not (is_capital byte) else granted) false letters
+grants letters operation =
+    fold (λ granted byte. if counts_for operation byte then not (is_capital byte) else granted) false letters

@@ -1,5 +1,6 @@
 -- The targets of lines, and what patterns match.
-use Rattle.std.specs.Prelude.{ℕ, Bool, true, false, ◌||◌, ◌&&◌, nat_lt, List, [], ◌∷◌, length, map, slice_index_or, Option, Some, None, is_some, unwrap_or, option_map, option_and_then, if◌then◌else◌}
+use Rattle.std.specs.Prelude.{ℕ, Bool, true, false, ◌||◌, ◌&&◌, nat_lt, List, [], ◌∷◌, length, map, slice_index_or}
+use Rattle.std.specs.Prelude.{Option, Some, None, is_some, unwrap_or, option_map, option_and_then, if◌then◌else◌}
 use Rattle.std.specs.List.{list_all}
 use Rattle.std.specs.Str.{bytes_eq}
 use Rattle.princ_name.specs.Kinds.{is_any, kind_of}
@@ -37,7 +38,8 @@ are_known client (Parts parts realm) = list_all (λ part. is_known client (wildc
 
 -- the target pattern of a word, behind the client's
 unfoldable pub target_in : List ℕ → List ℕ → PatternShape → Option PatternShape
-target_in word given client = option_and_then (λ target. if are_known client target then Some target else None) (pattern_in word given)
+target_in word given client =
+    option_and_then (λ target. if are_known client target then Some target else None) (pattern_in word given)
 
 -- ---- what matches
 

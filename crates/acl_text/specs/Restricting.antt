@@ -1,5 +1,6 @@
 -- What restrictions make of the fields of a principal.
-use Rattle.std.specs.Prelude.{ℕ, ◌+◌, ◌==◌, Bool, false, Option, Some, None, min, is_some, option_map, unwrap_or, if◌then◌else◌, bit_and, bit_or, List}
+use Rattle.std.specs.Prelude.{ℕ, ◌+◌, ◌==◌, Bool, false, Option, Some, None, min, is_some}
+use Rattle.std.specs.Prelude.{option_map, unwrap_or, if◌then◌else◌, bit_and, bit_or, List}
 use Rattle.std.specs.Int.{bit_not}
 use Rattle.std.specs.Int.Width.{w32}
 use Rattle.acl_text.specs.declared.limits.Limits.{Limits}

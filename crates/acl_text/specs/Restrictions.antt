@@ -1,5 +1,6 @@
 -- The restrictions of a line: options of addprinc and modprinc that are put in force.
-use Rattle.std.specs.Prelude.{ℕ, Bool, true, ◌==◌, ◌&&◌, List, [], ◌∷◌, length, Option, Some, None, is_none, option_map, if◌then◌else◌}
+use Rattle.std.specs.Prelude.{ℕ, Bool, true, ◌==◌, ◌&&◌, List, [], ◌∷◌, length}
+use Rattle.std.specs.Prelude.{Option, Some, None, is_none, option_map, if◌then◌else◌}
 use Rattle.std.specs.Int.{bit_not}
 use Rattle.std.specs.Int.Width.{w32}
 use Rattle.std.specs.List.{filter_map}
@@ -33,8 +34,8 @@ are_restrictions options = are_single options && is_none (first_bad_in options)
 
 -- ---- what they put in force
 
--- the flags are those of a command, of which the last one on a bit counts: what they leave of no bits is forced on, and what they take of all
--- bits is forced off
+-- the flags are those of a command, of which the last one on a bit counts: what they leave of no bits is forced on, and
+-- what they take of all bits is forced off
 unfoldable pub limits_of : List Given → Limits
 limits_of options = record {
   set = with_flags 0 (filter_map flag_of options);

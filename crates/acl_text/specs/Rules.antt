@@ -1,5 +1,6 @@
 -- The rules of a text (kadm5.acl of the MIT Kerberos administration guide).
-use Rattle.std.specs.Prelude.{ℕ, Bool, List, [], ◌∷◌, find, Option, Some, None, is_none, option_and_then, Result, Ok, Err, if◌then◌else◌}
+use Rattle.std.specs.Prelude.{ℕ, Bool, List, [], ◌∷◌, find, Option, Some, None, is_none}
+use Rattle.std.specs.Prelude.{option_and_then, Result, Ok, Err, if◌then◌else◌}
 use Rattle.std.specs.List.{filter_map}
 use Rattle.princ_name.specs.PatternReadings.{pattern_in}
 use Rattle.princ_name.specs.Shape.{PatternShape}
@@ -49,7 +50,7 @@ unless_bad (Some line) rules = Err line.number
 unfoldable pub rules_of : List ℕ → List Line → Result (List AclLine) ℕ
 rules_of realm lines = unless_bad (find (is_bad realm) lines) (filter_map (rule_in realm) lines)
 
--- the rules of a text in a database of this realm, or the number of its first bad line; lines that are empty and comments
--- say nothing
+-- the rules of a text in a database of this realm, or the number of its first bad line; lines that are empty and
+-- comments say nothing
 unfoldable pub rules_in : List ℕ → List ℕ → Result (List AclLine) ℕ
 rules_in realm text = rules_of realm (said_lines (lines_of text))

@@ -1,5 +1,6 @@
 -- The lines of a text of rules, and the words of a line.
-use Rattle.std.specs.Prelude.{ℕ, ◌+◌, ◌-◌, ◌==◌, Bool, true, false, not, ◌||◌, List, [], ◌∷◌, ◌++◌, length, take, filter, slice_index, Option, Some, None, if◌then◌else◌}
+use Rattle.std.specs.Prelude.{ℕ, ◌+◌, ◌-◌, ◌==◌, Bool, true, false, not, ◌||◌, List, [], ◌∷◌, ◌++◌}
+use Rattle.std.specs.Prelude.{length, take, filter, slice_index, Option, Some, None, if◌then◌else◌}
 use Rattle.std.specs.List.{slice_split}
 use Rattle.acl_text.specs.declared.texts.Line.{Line}
 
@@ -29,7 +30,8 @@ before_lines number text (Some front) lines = onto_line number front lines
 unfoldable pub lines_from : ℕ → List (List ℕ) → List Line
 lines_from number [] = []
 lines_from number (text ∷ []) = record { number = number; text = text } ∷ []
-lines_from number (text ∷ next ∷ texts) = before_lines number text (carried text) (lines_from (number + 1) (next ∷ texts))
+lines_from number (text ∷ next ∷ texts) =
+    before_lines number text (carried text) (lines_from (number + 1) (next ∷ texts))
 
 unfoldable pub lines_of : List ℕ → List Line
 lines_of text = lines_from 1 (slice_split is_feed text)

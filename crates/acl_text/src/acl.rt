@@ -60,7 +60,8 @@ fn verdict_of(line: &AclLine, letter: u8) -> Verdict<'_>
 
 // The first line that is about a client and a target.
 fn find_line<'a>(lines: &'a [AclLine], client: &Name, target: Option<&Name>) -> Option<&'a AclLine>
-    ensures { option_map (λ l. l.now) result ≡ find (applies client.now (option_map (λ t. t.now) target.entry)) lines.now }
+    ensures { option_map (λ l. l.now) result
+        ≡ find (applies client.now (option_map (λ t. t.now) target.entry)) lines.now }
 {
     lines.iter().find(|line| applies(*line, client, target))
 }
@@ -91,9 +92,12 @@ impl Acl {
     #[tactic(auto, unfolding(crate::specs::Decisions::decision))]
     pub fn decide(&self, client: &Name, letter: u8, target: Option<&Name>) -> Verdict<'_>
         ensures line { result.line ≡ (decision self.now client.now letter (option_map (λ t. t.now) target.entry)).line }
-        ensures allowed { result.allowed ≡ (decision self.now client.now letter (option_map (λ t. t.now) target.entry)).allowed }
-        ensures limits { option_map (λ l. l.now) result.limits ≡ (decision self.now client.now letter (option_map (λ t. t.now) target.entry)).limits }
-        ensures fit { IfSome (decision self.now client.now letter (option_map (λ t. t.now) target.entry)).limits IsLimits }
+        ensures allowed { result.allowed
+            ≡ (decision self.now client.now letter (option_map (λ t. t.now) target.entry)).allowed }
+        ensures limits { option_map (λ l. l.now) result.limits
+            ≡ (decision self.now client.now letter (option_map (λ t. t.now) target.entry)).limits }
+        ensures fit { IfSome (decision self.now client.now letter (option_map (λ t. t.now) target.entry)).limits
+            IsLimits }
     {
         match find_line(&self.lines, client, target) {
             Some(line) => verdict_of(line, letter),

@@ -1,7 +1,8 @@
 //! The letters of operations.
 
 ghost use Rattle.std.specs.Prelude.{◌≡◌};
-ghost use Rattle.acl_text.specs.Letters.{are_letters, counts_for, grants, in_small, is_all, is_capital, is_letter, is_operation};
+ghost use Rattle.acl_text.specs.Letters.{are_letters, counts_for, grants, in_small};
+ghost use Rattle.acl_text.specs.Letters.{is_all, is_capital, is_letter, is_operation};
 
 fn is_capital(byte: u8) -> bool
     ensures { result ≡ is_capital byte }

@@ -177,7 +177,8 @@ fn copy_policy(alloc: Global, policy: &Option<Blob>) -> Result<Option<Blob>, Mem
 
 // Puts the policy in force.
 fn restrict_policy(alloc: Global, limits: &Limits, wanted: &mut Wanted) -> Result<(), MemoryOut>
-    ensures ok { OnOk result (wanted.new ≡ record wanted.old { policy = unwrap_or limits.now.policy wanted.old.policy }) }
+    ensures ok { OnOk result
+        (wanted.new ≡ record wanted.old { policy = unwrap_or limits.now.policy wanted.old.policy }) }
     ensures kept { OnErr result (wanted.new ≡ wanted.old) }
     ensures memory { OnErr result (names_policy limits.now.policy ≡ true) }
 {

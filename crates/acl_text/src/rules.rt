@@ -55,7 +55,13 @@ struct Front {
 
 impl Front {
     fn into_rule(self, target: Option<Pattern>, limits: Option<Limits>) -> AclLine
-        ensures { result ≡ record { number = self.number; client = self.client; letters = self.letters; target = target; limits = limits } }
+        ensures { result ≡ record {
+          number = self.number;
+          client = self.client;
+          letters = self.letters;
+          target = target;
+          limits = limits;
+        } }
     {
         AclLine {
             number: self.number,
@@ -192,7 +198,8 @@ pub(crate) fn read_rules(
 ) -> Result<Vec<AclLine>, AclFault>
     requires { All IsNumbered lines.now }
     ensures ok { IfOk result (λ rules. rules_of realm.now (said_lines lines.now) ≡ Ok rules.items) }
-    ensures bad { (number : ℕ) → result ≡ Err (AclFault.BadAcl number) → rules_of realm.now (said_lines lines.now) ≡ Err number }
+    ensures bad { (number : ℕ) → result ≡ Err (AclFault.BadAcl number)
+        → rules_of realm.now (said_lines lines.now) ≡ Err number }
 {
     let mut rules = Vec::new(alloc);
     for line in lines {

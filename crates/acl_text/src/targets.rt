@@ -3,7 +3,8 @@
 ghost use Rattle.std.specs.Prelude.{◌≡◌, ◌<◌, IfOk, IfSome, map};
 ghost use Rattle.std.specs.List.{list_all};
 ghost use Rattle.acl_text.specs.Decisions.{is_every};
-ghost use Rattle.acl_text.specs.Patterns.{are_known, is_known, matched_text, meant, meant_target, part_matches, parts_match, pattern_matches, target_in, text_at, wildcard_of};
+ghost use Rattle.acl_text.specs.Patterns.{are_known, is_known, matched_text, meant, meant_target, part_matches};
+ghost use Rattle.acl_text.specs.Patterns.{parts_match, pattern_matches, target_in, text_at, wildcard_of};
 ghost use Rattle.princ_name.specs.PatternReadings.{pattern_in};
 ghost use Rattle.princ_name.specs.Patterns.{hits_of};
 ghost use Rattle.princ_name.specs.Shape.{PatternShape};
@@ -53,7 +54,8 @@ fn is_known(part: &Part, hits: &Hits) -> bool
 }
 
 fn are_all_known(parts: &[Part], hits: &Hits) -> bool
-    ensures { (client : PatternShape) → hits.now.at ≡ hits_of client → result ≡ list_all (λ part. is_known client (wildcard_of part)) parts.now }
+    ensures { (client : PatternShape) → hits.now.at ≡ hits_of client
+        → result ≡ list_all (λ part. is_known client (wildcard_of part)) parts.now }
 {
     for part in parts {
         if !is_known(part, hits) {
@@ -87,7 +89,8 @@ fn text_at<'a>(name: &'a Name, place: usize) -> &'a [u8]
 // What the client's wildcard of this number matched.
 fn matched_text<'a>(hits: &Hits, client: &'a Name, number: usize) -> &'a [u8]
     requires { number < 9 }
-    ensures { (pattern : PatternShape) → hits.now.at ≡ hits_of pattern → result.now ≡ matched_text pattern client.now number }
+    ensures { (pattern : PatternShape) → hits.now.at ≡ hits_of pattern
+        → result.now ≡ matched_text pattern client.now number }
 {
     match hits.at[number] {
         Some(place) => text_at(client, usize::from(place)),
@@ -104,7 +107,8 @@ fn part_matches(part: &Part, text: &[u8]) -> bool
 // Whether a component matches, where the client's wildcards matched these places of its name.
 #[tactic(auto, unfolding(crate::specs::Patterns::meant, princ_name::specs::Kinds::is_any, princ_name::specs::Kinds::kind_of))]
 fn meant_matches(part: &Part, hits: &Hits, client: &Name, text: &[u8]) -> bool
-    ensures { (pattern : PatternShape) → hits.now.at ≡ hits_of pattern → result ≡ part_matches (meant pattern client.now part.now) text.now }
+    ensures { (pattern : PatternShape) → hits.now.at ≡ hits_of pattern
+        → result ≡ part_matches (meant pattern client.now part.now) text.now }
 {
     match wildcard_of(part) {
         Some(number) => is_same(matched_text(hits, client, number), text),
@@ -113,7 +117,8 @@ fn meant_matches(part: &Part, hits: &Hits, client: &Name, text: &[u8]) -> bool
 }
 
 fn parts_match(parts: &[Part], hits: &Hits, client: &Name, texts: &[Blob]) -> bool
-    ensures { (pattern : PatternShape) → hits.now.at ≡ hits_of pattern → result ≡ parts_match (map (meant pattern client.now) parts.now) texts.now }
+    ensures { (pattern : PatternShape) → hits.now.at ≡ hits_of pattern
+        → result ≡ parts_match (map (meant pattern client.now) parts.now) texts.now }
 {
     if parts.len() != texts.len() {
         return false;
@@ -135,7 +140,8 @@ pub(crate) fn is_every(target: &Pattern) -> bool
 
 /// Whether a target matches a name, where the client's wildcards stand at these places of the client.
 pub(crate) fn target_matches(target: &Pattern, hits: &Hits, client: &Name, name: &Name) -> bool
-    ensures { (pattern : PatternShape) → hits.now.at ≡ hits_of pattern → result ≡ pattern_matches (meant_target pattern client.now target.now) name.now }
+    ensures { (pattern : PatternShape) → hits.now.at ≡ hits_of pattern
+        → result ≡ pattern_matches (meant_target pattern client.now target.now) name.now }
 {
     match target.realm() {
         Some(realm) => match target.parts() {
@@ -156,7 +162,8 @@ pub(crate) fn read_target(
     given: &[u8],
     hits: &Hits,
 ) -> Result<Option<Pattern>, MemoryOut>
-    ensures { (client : PatternShape) → hits.now.at ≡ hits_of client → IfOk result (λ target. target ≡ target_in word.now given.now client) }
+    ensures { (client : PatternShape) → hits.now.at ≡ hits_of client
+        → IfOk result (λ target. target ≡ target_in word.now given.now client) }
 {
     match read_pattern(alloc, word, given)? {
         Some(target) => {

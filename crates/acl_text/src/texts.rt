@@ -1,6 +1,7 @@
 //! The lines of a text, and the words of a line.
 
-ghost use Rattle.std.specs.Prelude.{◌≡◌, ◌+◌, ◌<◌, ◌≤◌, ◌^◌, [], ◌∷◌, ◌++◌, IfOk, IfSome, None, OnOk, Some, filter, map, true};
+ghost use Rattle.std.specs.Prelude.{◌≡◌, ◌+◌, ◌<◌, ◌≤◌, ◌^◌, [], ◌∷◌, ◌++◌, IfOk};
+ghost use Rattle.std.specs.Prelude.{IfSome, None, OnOk, Some, filter, map, true};
 ghost use Rattle.std.specs.List.{slice_split};
 ghost use Rattle.acl_text.specs.Joining.{TakesPiece};
 ghost use Rattle.acl_text.specs.Texts.{carried, is_feed, is_gap, is_skipped, is_word, lines_from, lines_of, words_of};
@@ -63,7 +64,10 @@ impl Joiner {
     fn end_line(&mut self, alloc: Global, at: usize, piece: &[u8]) -> Result<(), MemoryOut>
         requires first { self.old.first ≤ at }
         requires room { at + 1 < 2 ^ 64 }
-        ensures lines { OnOk result (self.new.lines.items ≡ self.old.lines.items ++ record { number = self.old.first + 1; text = self.old.text.items ++ piece.now } ∷ []) }
+        ensures lines { OnOk result (self.new.lines.items ≡ self.old.lines.items ++ record {
+          number = self.old.first + 1;
+          text = self.old.text.items ++ piece.now;
+        } ∷ []) }
         ensures text { OnOk result (self.new.text.items ≡ []) }
         ensures first { OnOk result (self.new.first ≡ at + 1) }
     {

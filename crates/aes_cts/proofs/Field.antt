@@ -17,7 +17,11 @@ pub xor_four : (a b c d e f g h : ℕ)
     → bit_xor (bit_xor (bit_xor (bit_xor a e) (bit_xor b f)) (bit_xor c g)) (bit_xor d h)
     ≡ bit_xor (bit_xor (bit_xor (bit_xor a b) c) d) (bit_xor (bit_xor (bit_xor e f) g) h)
 xor_four a b c d e f g h =
-    rw (xor_inner a e b f, xor_inner (bit_xor a b) (bit_xor e f) c g, xor_inner (bit_xor (bit_xor a b) c) (bit_xor (bit_xor e f) g) d h) refl
+    rw (
+      xor_inner a e b f,
+      xor_inner (bit_xor a b) (bit_xor e f) c g,
+      xor_inner (bit_xor (bit_xor a b) c) (bit_xor (bit_xor e f) g) d h,
+    ) refl
 
 -- doubling without the bit that leaves, and the multiple of the rest of the modulus, are linear
 doubled : (a b : ℕ) → 2 * bit_xor a b % 256 ≡ bit_xor (2 * a % 256) (2 * b % 256)
@@ -54,7 +58,8 @@ unfolding times_power
 times_power-lt zero a lt = lt
 times_power-lt (suc n) a lt = times_x-lt _ (times_power-lt n a lt)
 
-times_power-xor : (n a b : ℕ) → a < 256 → b < 256 → times_power n (bit_xor a b) ≡ bit_xor (times_power n a) (times_power n b)
+times_power-xor : (n a b : ℕ) → a < 256 → b < 256
+    → times_power n (bit_xor a b) ≡ bit_xor (times_power n a) (times_power n b)
 unfolding times_power
 times_power-xor zero a b la lb = refl
 times_power-xor (suc n) a b la lb =
@@ -62,8 +67,10 @@ times_power-xor (suc n) a b la lb =
 
 -- a bit times a sum
 bit_times : (t a b : ℕ) → t < 2 → t * bit_xor a b ≡ bit_xor (t * a) (t * b)
-bit_times zero a b lt = let e : zero * bit_xor a b ≡ 0 = omega arith in let f : zero * a ≡ 0 = omega arith in let g : zero * b ≡ 0 = omega arith in rw (e, f, g) refl
-bit_times (suc zero) a b lt = let e : 1 * bit_xor a b ≡ bit_xor a b = omega arith in let f : 1 * a ≡ a = omega arith in let g : 1 * b ≡ b = omega arith in rw (e, f, g) refl
+bit_times zero a b lt = let e : zero * bit_xor a b ≡ 0 = omega arith in let f : zero * a ≡ 0 =
+    omega arith in let g : zero * b ≡ 0 = omega arith in rw (e, f, g) refl
+bit_times (suc zero) a b lt = let e : 1 * bit_xor a b ≡ bit_xor a b = omega arith in let f : 1 * a ≡ a =
+    omega arith in let g : 1 * b ≡ b = omega arith in rw (e, f, g) refl
 bit_times (suc (suc t)) a b lt = absurd (omega arith)
 
 bit_times-lt : (t a : ℕ) → t < 2 → a < 256 → t * a < 256
@@ -75,15 +82,18 @@ partial_product-lt : (n a b : ℕ) → b < 256 → partial_product n a b < 256
 unfolding partial_product
 partial_product-lt zero a b lt = lit< tt
 partial_product-lt (suc n) a b lt =
-    xor_of_8 _ _ (partial_product-lt n a b lt) (bit_times-lt (bit_at a n) (times_power n b) (bit_at-lt a n) (times_power-lt n b lt))
+    xor_of_8 _ _ (partial_product-lt n a b lt)
+    (bit_times-lt (bit_at a n) (times_power n b) (bit_at-lt a n) (times_power-lt n b lt))
 
 partial_product-xor : (n a b c : ℕ) → b < 256 → c < 256
     → partial_product n a (bit_xor b c) ≡ bit_xor (partial_product n a b) (partial_product n a c)
 unfolding partial_product
 partial_product-xor zero a b c lb lc = refl
 partial_product-xor (suc n) a b c lb lc =
-    ap₂ bit_xor (partial_product-xor n a b c lb lc) (ap (λ (x : ℕ). bit_at a n * x) (times_power-xor n b c lb lc) ∙ bit_times (bit_at a n) (times_power n b) (times_power n c) (bit_at-lt a n))
-    ∙ xor_inner (partial_product n a b) (partial_product n a c) (bit_at a n * times_power n b) (bit_at a n * times_power n c)
+    ap₂ bit_xor (partial_product-xor n a b c lb lc) (ap (λ (x : ℕ). bit_at a n * x) (times_power-xor n b c lb lc)
+    ∙ bit_times (bit_at a n) (times_power n b) (times_power n c) (bit_at-lt a n))
+    ∙ xor_inner (partial_product n a b) (partial_product n a c) (bit_at a n * times_power n b)
+    (bit_at a n * times_power n c)
 
 pub product-lt : (a b : ℕ) → b < 256 → product a b < 256
 unfolding product

@@ -24,25 +24,31 @@ one_cipher : (stride : ℕ) (keys undo : List (List ℕ)) (key : List ℕ) → 1
     → schedule_bytes (take stride keys) ≡ key → cipher_by (schedule_bytes keys) (4 * stride + 6) ≡ cipher key
 one_cipher stride keys undo key low held is = λ i b. cipher_of stride keys undo key b low held is i
 
-long_cipher : (stride : ℕ) (keys undo : List (List ℕ)) → AreSchedules stride keys undo → (b : List ℕ) → length (cipher_by (schedule_bytes keys) (4 * stride + 6) b) ≡ 16
+long_cipher : (stride : ℕ) (keys undo : List (List ℕ)) → AreSchedules stride keys undo → (b : List ℕ)
+    → length (cipher_by (schedule_bytes keys) (4 * stride + 6) b) ≡ 16
 long_cipher stride keys undo held b =
     let u = undone_of stride keys undo held in
     length-cipher (schedule_bytes keys) b (4 * stride + 6) (u.blocks (4 * stride + 6) (omega arith))
 
 pub cts_of : (stride : ℕ) (keys undo : List (List ℕ)) (key text : List ℕ) → 1 ≤ stride → AreSchedules stride keys undo
     → schedule_bytes (take stride keys) ≡ key → 16 ≤ length text
-    → steal (blocks_before_end (length text)) (cipher_by (schedule_bytes keys) (4 * stride + 6)) (replicate 16 0) text ≡ cts key text
+    → steal (blocks_before_end (length text)) (cipher_by (schedule_bytes keys) (4 * stride + 6)) (replicate 16 0) text
+    ≡ cts key text
 unfolding cts
 cts_of stride keys undo key text low held is long =
-    sym (stolen_pass (cipher_by (schedule_bytes keys) (4 * stride + 6)) (long_cipher stride keys undo held) (replicate 16 0) text long)
+    sym (stolen_pass (cipher_by (schedule_bytes keys) (4 * stride + 6)) (long_cipher stride keys undo held)
+    (replicate 16 0) text long)
     ∙ ap (λ (e : List ℕ → List ℕ). stolen e (replicate 16 0) text) (one_cipher stride keys undo key low held is)
 
-pub length-cts : (stride : ℕ) (keys undo : List (List ℕ)) (key text : List ℕ) → 1 ≤ stride → AreSchedules stride keys undo
+pub length-cts : (stride : ℕ) (keys undo : List (List ℕ)) (key text : List ℕ) → 1 ≤ stride
+    → AreSchedules stride keys undo
     → schedule_bytes (take stride keys) ≡ key → length (cts key text) ≡ length text
 unfolding cts
 length-cts stride keys undo key text low held is =
-    ap (λ (e : List ℕ → List ℕ). length (stolen e (replicate 16 0) text)) (sym (one_cipher stride keys undo key low held is))
-    ∙ length-stolen (cipher_by (schedule_bytes keys) (4 * stride + 6)) (long_cipher stride keys undo held) (replicate 16 0) text
+    ap (λ (e : List ℕ → List ℕ). length (stolen e (replicate 16 0) text))
+    (sym (one_cipher stride keys undo key low held is))
+    ∙ length-stolen (cipher_by (schedule_bytes keys) (4 * stride + 6)) (long_cipher stride keys undo held)
+    (replicate 16 0) text
 
 inverse_of : (stride : ℕ) (keys undo : List (List ℕ)) → AreSchedules stride keys undo
     → AreInverse (cipher_by (schedule_bytes keys) (4 * stride + 6)) (uncipher_by (schedule_bytes undo) (4 * stride + 6))
@@ -65,9 +71,11 @@ unfolding blocks_before_end
 before_high n = omega arith
 
 -- what decryption leaves is the one text whose cipher text was given
-pub returned_is : (stride : ℕ) (keys undo : List (List ℕ)) (key old new : List ℕ) → 1 ≤ stride → AreSchedules stride keys undo
+pub returned_is : (stride : ℕ) (keys undo : List (List ℕ)) (key old new : List ℕ) → 1 ≤ stride
+    → AreSchedules stride keys undo
     → schedule_bytes (take stride keys) ≡ key → AreBytes old → 16 ≤ length old → length new ≡ length old
-    → new ≡ return (blocks_before_end (length old)) (uncipher_by (schedule_bytes undo) (4 * stride + 6)) (replicate 16 0) old
+    → new ≡ return (blocks_before_end (length old)) (uncipher_by (schedule_bytes undo) (4 * stride + 6))
+    (replicate 16 0) old
     → cts key new ≡ old
 returned_is stride keys undo key old new low held is bytes long same e =
     let n = blocks_before_end (length old) in
@@ -75,12 +83,15 @@ returned_is stride keys undo key old new low held is bytes long same e =
     sym (cts_of stride keys undo key new low held is (omega arith))
     ∙ ap (λ (m : ℕ). steal (blocks_before_end m) c (replicate 16 0) new) same
     ∙ ap (steal n c (replicate 16 0)) e
-    ∙ steal_return c (uncipher_by (schedule_bytes undo) (4 * stride + 6)) (inverse_of stride keys undo held) n (replicate 16 0) old
+    ∙ steal_return c (uncipher_by (schedule_bytes undo) (4 * stride + 6)) (inverse_of stride keys undo held) n
+    (replicate 16 0) old
     block_of_zeros bytes (before_low (length old) long) (before_high (length old))
 
-pub returned_only : (stride : ℕ) (keys undo : List (List ℕ)) (key old new other : List ℕ) → 1 ≤ stride → AreSchedules stride keys undo
+pub returned_only : (stride : ℕ) (keys undo : List (List ℕ)) (key old new other : List ℕ) → 1 ≤ stride
+    → AreSchedules stride keys undo
     → schedule_bytes (take stride keys) ≡ key → 16 ≤ length old
-    → new ≡ return (blocks_before_end (length old)) (uncipher_by (schedule_bytes undo) (4 * stride + 6)) (replicate 16 0) old
+    → new ≡ return (blocks_before_end (length old)) (uncipher_by (schedule_bytes undo) (4 * stride + 6))
+    (replicate 16 0) old
     → AreBytes other → cts key other ≡ old → other ≡ new
 returned_only stride keys undo key old new other low held is long e bytes f =
     let n = blocks_before_end (length old) in

@@ -1,12 +1,14 @@
 -- Round keys as words and as bytes, and the steps of the loops over them.
-use Rattle.std.proofs.Common.{◌≡◌, ℕ, zero, suc, ◌+◌, ◌-◌, ◌*◌, ◌<◌, ◌≤◌, ◌∷◌, [], List, length, slice_index_or, refl, arith}
+use Rattle.std.proofs.Common.{◌≡◌, ℕ, zero, suc, ◌+◌, ◌-◌, ◌*◌, ◌<◌, ◌≤◌, ◌∷◌}
+use Rattle.std.proofs.Common.{[], List, length, slice_index_or, refl, arith}
 use Rattle.std.proofs.lemmas.List.{drop-drop}
 use Rattle.aes_cts.specs.Cipher.{add_bytes, sub_bytes, shift_rows, mix_columns, round_key, rounds, cipher_by}
 use Rattle.aes_cts.specs.Inverse.{unsub_bytes, unshift_rows, unmix_columns, unrounds, uncipher_by}
 use Rattle.aes_cts.specs.Words.{word_bytes, block_of, schedule_bytes}
 
 -- round key r of a schedule of words
-pub schedule_key : (keys : List (List ℕ)) (r : ℕ) (d : List ℕ) → r < length keys → round_key (schedule_bytes keys) r ≡ block_of (slice_index_or keys r d)
+pub schedule_key : (keys : List (List ℕ)) (r : ℕ) (d : List ℕ) → r < length keys
+    → round_key (schedule_bytes keys) r ≡ block_of (slice_index_or keys r d)
 unfolding round_key schedule_bytes block_of word_bytes
 schedule_key [] r d lt = absurd (omega arith)
 schedule_key (k ∷ ks) zero d lt = refl

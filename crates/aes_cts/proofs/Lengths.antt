@@ -1,9 +1,11 @@
 -- How long the cipher's values are, at every key of 16 or 32 bytes.
-use Rattle.std.proofs.Common.{◌≡◌, ℕ, zero, suc, ◌+◌, ◌-◌, ◌*◌, ◌/◌, ◌%◌, ◌≤◌, ◌⊎◌, List, nat_eq, nat_lt, ◌&&◌, length, take, drop, replicate, inl, inr, refl, sym, ◌∙◌, arith}
+use Rattle.std.proofs.Common.{◌≡◌, ℕ, zero, suc, ◌+◌, ◌-◌, ◌*◌, ◌/◌, ◌%◌, ◌≤◌, ◌⊎◌, List, nat_eq, nat_lt}
+use Rattle.std.proofs.Common.{◌&&◌, length, take, drop, replicate, inl, inr, refl, sym, ◌∙◌, arith}
 use Rattle.std.proofs.lemmas.Bool.{cond_both}
 use Rattle.std.proofs.lemmas.List.{length-append, length-drop, length-take-le, length-map}
 use Rattle.aes_cts.specs.Field.{sub_byte}
-use Rattle.aes_cts.specs.Cipher.{add_bytes, sub_bytes, below, shift_rows, rot_word, round_constant, turned, next_word, expand, rounds_of, expanded, round_key, cipher_by, cipher}
+use Rattle.aes_cts.specs.Cipher.{add_bytes, sub_bytes, below, shift_rows, rot_word, round_constant, turned}
+use Rattle.aes_cts.specs.Cipher.{next_word, expand, rounds_of, expanded, round_key, cipher_by, cipher}
 use Rattle.aes_cts.specs.Stealing.{cts}
 use Rattle.aes_cts.proofs.Sums.{length-add_bytes}
 use Rattle.aes_cts.proofs.Relation.{length-stolen}
@@ -44,7 +46,8 @@ length-next_word n bytes low le =
     let four = length-turned n (length bytes / 4) (drop (length bytes - 4) bytes) last in
     length-add_bytes _ (turned n (length bytes / 4) (drop (length bytes - 4) bytes)) (back ∙ sym four) ∙ four
 
-pub length-expand : (n : ℕ) (key : List ℕ) (more : ℕ) → 1 ≤ n → length key ≡ 4 * n → length (expand n key more) ≡ 4 * n + 4 * more
+pub length-expand : (n : ℕ) (key : List ℕ) (more : ℕ) → 1 ≤ n → length key ≡ 4 * n
+    → length (expand n key more) ≡ 4 * n + 4 * more
 unfolding expand
 length-expand n key zero low h = h ∙ omega arith
 length-expand n key (suc more) low h =
@@ -56,7 +59,8 @@ length-round_key : (keys : List ℕ) (r : ℕ) → 16 * r + 16 ≤ length keys �
 unfolding round_key
 length-round_key keys r le = length-take-le 16 (drop (16 * r) keys) (omega (arith, length-drop (16 * r) keys))
 
-length-last_key : (key : List ℕ) → ((length key ≡ 16) ⊎ (length key ≡ 32)) → length (round_key (expanded key) (rounds_of key)) ≡ 16
+length-last_key : (key : List ℕ) → ((length key ≡ 16) ⊎ (length key ≡ 32))
+    → length (round_key (expanded key) (rounds_of key)) ≡ 16
 unfolding expanded rounds_of
 length-last_key key h =
     let four : length key ≡ 4 * (length key / 4) = elim h [ inl e ↦ omega arith | inr e ↦ omega arith ] in

@@ -1,15 +1,19 @@
 -- A key's cipher has an inverse, at every key of 16 or 32 bytes, and so a cipher text is that of one text.
-use Rattle.std.proofs.Common.{◌≡◌, ℕ, zero, suc, ◌+◌, ◌-◌, ◌*◌, ◌/◌, ◌%◌, ◌<◌, ◌≤◌, ◌⊎◌, true, false, List, [], ◌++◌, nat_eq, nat_lt, ◌&&◌, length, take, drop, replicate, inl, inr, refl, ap, sym, ◌∙◌, lit<, arith}
+use Rattle.std.proofs.Common.{◌≡◌, ℕ, zero, suc, ◌+◌, ◌-◌, ◌*◌, ◌/◌, ◌%◌, ◌<◌, ◌≤◌, ◌⊎◌, true}
+use Rattle.std.proofs.Common.{false, List, [], ◌++◌, nat_eq, nat_lt, ◌&&◌, length, take, drop}
+use Rattle.std.proofs.Common.{replicate, inl, inr, refl, ap, sym, ◌∙◌, lit<, arith}
 use Rattle.std.specs.Prelude.{if◌then◌else◌}
 use Rattle.std.proofs.lemmas.Bool.{cond_both, ne_eqb, eq-eqb}
 use Rattle.std.proofs.lemmas.List.{take_at, drop_at, drop-drop, length-take-le, length-drop}
-use Rattle.aes_cts.specs.Cipher.{sub_bytes, rot_word, round_constant, turned, next_word, expand, rounds_of, expanded, round_key, cipher}
+use Rattle.aes_cts.specs.Cipher.{sub_bytes, rot_word, round_constant, turned, next_word}
+use Rattle.aes_cts.specs.Cipher.{expand, rounds_of, expanded, round_key, cipher}
 use Rattle.aes_cts.specs.Inverse.{unmix_columns, uncipher_by}
 use Rattle.aes_cts.specs.Stealing.{cts}
 use Rattle.aes_cts.specs.Steps.{blocks_before_end, steal, return}
 use Rattle.aes_cts.proofs.Field.{times_power-lt}
 use Rattle.aes_cts.proofs.Sums.{AreBytes, AreBytes-add, AreBytes-append, AreBytes-take, AreBytes-drop}
-use Rattle.aes_cts.proofs.Inversion.{IsBlock, IsUndone, sub-lt, block_unmix, block_cipher, block_uncipher, cipher_uncipher, uncipher_cipher}
+use Rattle.aes_cts.proofs.Inversion.{IsBlock, IsUndone, sub-lt, block_unmix, block_cipher}
+use Rattle.aes_cts.proofs.Inversion.{block_uncipher, cipher_uncipher, uncipher_cipher}
 use Rattle.aes_cts.proofs.Lengths.{length-expand, length-cipher_at, length-cts_at}
 use Rattle.aes_cts.proofs.Relation.{stolen_pass}
 use Rattle.aes_cts.proofs.Returning.{AreInverse, block_of_zeros, return_steal}
@@ -42,7 +46,8 @@ AreBytes-expand n key zero h = h
 AreBytes-expand n key (suc more) h =
     let before = AreBytes-expand n key more h in
     AreBytes-append _ _ before
-    (AreBytes-add _ _ (AreBytes-take 4 _ (AreBytes-drop _ (expand n key more) before)) (AreBytes-turned n _ _ (AreBytes-drop _ (expand n key more) before)))
+    (AreBytes-add _ _ (AreBytes-take 4 _ (AreBytes-drop _ (expand n key more) before))
+    (AreBytes-turned n _ _ (AreBytes-drop _ (expand n key more) before)))
 
 -- the round keys that undo others, and blocks one after another
 undoing : List ℕ → ℕ → ℕ → List ℕ
@@ -55,7 +60,8 @@ flat : (ℕ → List ℕ) → ℕ → ℕ → List ℕ
 flat f start zero = []
 flat f start (suc many) = f start ++ flat f (suc start) many
 
-flat_at : (f : ℕ → List ℕ) (start many r : ℕ) → ((k : ℕ) → k < start + many → length (f k) ≡ 16) → r < many → round_key (flat f start many) r ≡ f (start + r)
+flat_at : (f : ℕ → List ℕ) (start many r : ℕ) → ((k : ℕ) → k < start + many → length (f k) ≡ 16) → r < many
+    → round_key (flat f start many) r ≡ f (start + r)
 unfolding round_key flat
 flat_at f start zero r each lt = absurd (omega arith)
 flat_at f start (suc many) zero each lt =
@@ -68,7 +74,8 @@ flat_at f start (suc many) (suc r) each lt =
     let rest : drop (16 * suc r) all ≡ drop (16 * r) (flat f (suc start) many) =
     ap (λ (k : ℕ). drop k all) place ∙ sym (drop-drop (16 * r) 16 all)
     ∙ ap (drop (16 * r)) (drop_at (f start) (flat f (suc start) many) 16 (each start (omega arith))) in
-    ap (take 16) rest ∙ flat_at f (suc start) many r (λ k below. each k (omega (arith, below))) (omega arith) ∙ ap f next
+    ap (take 16) rest
+    ∙ flat_at f (suc start) many r (λ k below. each k (omega (arith, below))) (omega arith) ∙ ap f next
 
 module _ (keys : List ℕ) (n : ℕ) (some : 1 ≤ n) (blocks : (r : ℕ) → r ≤ n → IsBlock (round_key keys r)) where
   block_undoing : (r : ℕ) → r < 0 + (n + 1) → length (undoing keys n r) ≡ 16
@@ -152,7 +159,8 @@ module _ (key : List ℕ) (long : (length key ≡ 16) ⊎ (length key ≡ 32)) (
       stolen_pass (cipher key) (λ b. length-cipher_at key b long) (replicate 16 0) text low in
       ap (λ (m : ℕ). return (blocks_before_end m) undo (replicate 16 0) (cts key text)) same
       ∙ ap (return n undo (replicate 16 0)) steps
-      ∙ return_steal (cipher key) undo inverse n (replicate 16 0) text block_of_zeros h (before_low (length text) low) (before_high (length text))
+      ∙ return_steal (cipher key) undo inverse n (replicate 16 0) text block_of_zeros h (before_low (length text) low)
+      (before_high (length text))
 
   pub one_text : (a b : List ℕ) → AreBytes a → AreBytes b → 16 ≤ length a → cts key a ≡ cts key b → a ≡ b
   one_text a b ha hb low same =

@@ -1,12 +1,14 @@
 -- A state as one number of 128 bits.
-use Rattle.std.proofs.Common.{◌≡◌, ℕ, ◌+◌, ◌*◌, ◌/◌, ◌%◌, ◌<◌, ◌^◌, ◌++◌, List, slice_index, bit_or, ap, sym, ◌∙◌, arith}
+use Rattle.std.proofs.Common.{◌≡◌, ℕ, ◌+◌, ◌*◌, ◌/◌, ◌%◌, ◌<◌, ◌^◌, ◌++◌}
+use Rattle.std.proofs.Common.{List, slice_index, bit_or, ap, sym, ◌∙◌, arith}
 use Rattle.std.specs.Int.{w128, to_be_bytes}
 use Rattle.std.proofs.lemmas.Nat.{or_shifted}
 use Rattle.aes_cts.specs.Words.{word_bytes, block_of}
 use Rattle.aes_cts.proofs.Words.{four_joined}
 
 -- the four words of a number
-pub words_of_number : (x : ℕ) → word_bytes (x / 2 ^ 96) ++ (word_bytes (x / 2 ^ 64 % 2 ^ 32) ++ (word_bytes (x / 2 ^ 32 % 2 ^ 32) ++ word_bytes (x % 2 ^ 32))) ≡ to_be_bytes w128 x
+pub words_of_number : (x : ℕ) → word_bytes (x / 2 ^ 96) ++ (word_bytes (x / 2 ^ 64 % 2 ^ 32)
+    ++ (word_bytes (x / 2 ^ 32 % 2 ^ 32) ++ word_bytes (x % 2 ^ 32))) ≡ to_be_bytes w128 x
 unfolding word_bytes
 words_of_number x =
     let e0 : (x / 2 ^ 96) / 2 ^ 24 % 2 ^ 8 ≡ x / 2 ^ 120 % 2 ^ 8 = omega arith in

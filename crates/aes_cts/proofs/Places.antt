@@ -1,5 +1,6 @@
 -- A list of known length, place by place.
-use Rattle.std.proofs.Common.{◌≡◌, ℕ, zero, suc, ◌+◌, ◌≤◌, ◌∷◌, ◌++◌, [], List, length, take, drop, slice_index, refl, subst, ap, ◌∙◌, arith}
+use Rattle.std.proofs.Common.{◌≡◌, ℕ, zero, suc, ◌+◌, ◌≤◌, ◌∷◌, ◌++◌, [], List, length}
+use Rattle.std.proofs.Common.{take, drop, slice_index, refl, subst, ap, ◌∙◌, arith}
 use Rattle.std.proofs.lemmas.List.{take_more, take_all}
 use borrow.Rule.Slice.PartMut.{put_mid, post_of}
 use Rattle.aes_cts.specs.Words.{word_bytes, block_of}
@@ -14,7 +15,8 @@ unfolding reads
 reads-take zero b le = refl
 reads-take (suc n) b le =
     let e : suc n ≡ n + 1 = omega arith in
-    rw (e, take_more b n 0 (omega arith)) (ap (λ (l : List ℕ). l ++ slice_index b n ∷ []) (reads-take n b (omega arith)))
+    rw (e, take_more b n 0 (omega arith))
+    (ap (λ (l : List ℕ). l ++ slice_index b n ∷ []) (reads-take n b (omega arith)))
 
 reads_all : (n : ℕ) (b : List ℕ) → length b ≡ n → reads n b ≡ b
 reads_all n b h = reads-take n b (omega arith) ∙ take_all n b (omega arith)
@@ -35,7 +37,8 @@ sixteen_reads b h = reads_all 16 b h
 pub quarters : (b : List ℕ) → length b ≡ 16
     → take 4 b ++ (take 4 (drop 4 b) ++ (take 4 (drop 8 b) ++ take 4 (drop 12 b))) ≡ b
 quarters b h =
-    subst (λ (x : List ℕ). take 4 x ++ (take 4 (drop 4 x) ++ (take 4 (drop 8 x) ++ take 4 (drop 12 x))) ≡ x) (sixteen_reads b h) refl
+    subst (λ (x : List ℕ). take 4 x ++ (take 4 (drop 4 x) ++ (take 4 (drop 8 x) ++ take 4 (drop 12 x))) ≡ x)
+    (sixteen_reads b h) refl
 
 -- four words written over a block
 pub four_stored : (b w x y z s : List ℕ) → length b ≡ 16

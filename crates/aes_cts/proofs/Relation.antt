@@ -1,7 +1,9 @@
 -- The pass over a text gives the blocks of CBC with the last two exchanged.
-use Rattle.std.proofs.Common.{◌≡◌, ℕ, zero, suc, ◌+◌, ◌-◌, ◌*◌, ◌/◌, ◌%◌, ◌≤◌, ◌∷◌, ◌++◌, [], List, false, nat_eq, length, take, drop, replicate, inl, inr, refl, ap₂, ap, sym, ◌∙◌, arith}
+use Rattle.std.proofs.Common.{◌≡◌, ℕ, zero, suc, ◌+◌, ◌-◌, ◌*◌, ◌/◌, ◌%◌, ◌≤◌, ◌∷◌, ◌++◌, [], List, false}
+use Rattle.std.proofs.Common.{nat_eq, length, take, drop, replicate, inl, inr, refl, ap₂, ap, sym, ◌∙◌, arith}
 use Rattle.std.proofs.lemmas.Bool.{ne_eqb, cases_eq}
-use Rattle.std.proofs.lemmas.List.{append-nil, take_all, length-append, length-drop, length-take-le, length-replicate, take-append-le, drop-append-le}
+use Rattle.std.proofs.lemmas.List.{append-nil, take_all, length-append, length-drop, length-take-le}
+use Rattle.std.proofs.lemmas.List.{length-replicate, take-append-le, drop-append-le}
 use Rattle.aes_cts.specs.Cipher.{add_bytes}
 use Rattle.aes_cts.specs.Stealing.{padded, blocks, chained, exchanged, joined, stolen}
 use Rattle.aes_cts.specs.Steps.{blocks_before_end, steal_end, steal}
@@ -22,10 +24,17 @@ stolen_whole : (e : List ℕ → List ℕ) → ((b : List ℕ) → length (e b) 
     → stolen e vector text ≡ steal_end e vector text
 unfolding stolen padded blocks chained exchanged joined steal_end
 stolen_whole e long vector text len =
-    rw (len, append-nil text, take_all 16 text (omega arith), append-nil (e (add_bytes text vector)), take_all 16 (e (add_bytes text vector)) (omega (arith, long (add_bytes text vector)))) refl
+    rw (
+      len,
+      append-nil text,
+      take_all 16 text (omega arith),
+      append-nil (e (add_bytes text vector)),
+      take_all 16 (e (add_bytes text vector)) (omega (arith, long (add_bytes text vector))),
+    ) refl
 
 -- two blocks
-stolen_end : (e : List ℕ → List ℕ) → ((b : List ℕ) → length (e b) ≡ 16) → (vector text : List ℕ) → 17 ≤ length text → length text ≤ 32
+stolen_end : (e : List ℕ → List ℕ) → ((b : List ℕ) → length (e b) ≡ 16) → (vector text : List ℕ) → 17 ≤ length text
+    → length text ≤ 32
     → stolen e vector text ≡ steal_end e vector text
 unfolding stolen padded blocks chained exchanged joined steal_end
 stolen_end e long vector text low high =
@@ -37,8 +46,10 @@ stolen_end e long vector text low high =
     let front : take 16 (text ++ padding) ≡ take 16 text = take-append-le 16 text padding (omega arith) in
     let behind : drop 16 (text ++ padding) ≡ drop 16 text ++ padding = drop-append-le 16 text padding (omega arith) in
     let len : length (drop 16 text ++ padding) ≡ 16 =
-    length-append (drop 16 text) padding ∙ ap₂ (λ (x y : ℕ). x + y) (length-drop 16 text) (length-replicate (16 - (n - 16)) 0) ∙ omega arith in
-    let whole : take 16 (drop 16 text ++ padding) ≡ drop 16 text ++ padding = take_all 16 (drop 16 text ++ padding) (omega arith) in
+    length-append (drop 16 text) padding
+    ∙ ap₂ (λ (x y : ℕ). x + y) (length-drop 16 text) (length-replicate (16 - (n - 16)) 0) ∙ omega arith in
+    let whole : take 16 (drop 16 text ++ padding) ≡ drop 16 text ++ padding =
+    take_all 16 (drop 16 text ++ padding) (omega arith) in
     let held = e (add_bytes (take 16 text) vector) in
     let last = e (add_bytes (drop 16 text ++ padding) held) in
     rw (two, zeros, f, front, behind, whole, append-nil held) (take_past n last held (long _) (omega arith))
@@ -49,7 +60,8 @@ pass e vector n text = joined (exchanged (chained e vector (blocks n text)))
 
 -- the first of three blocks or more
 pass_first : (e : List ℕ → List ℕ) (vector text : List ℕ) (m : ℕ)
-    → pass e vector (suc (suc (suc m))) text ≡ e (add_bytes (take 16 text) vector) ++ pass e (e (add_bytes (take 16 text) vector)) (suc (suc m)) (drop 16 text)
+    → pass e vector (suc (suc (suc m))) text
+    ≡ e (add_bytes (take 16 text) vector) ++ pass e (e (add_bytes (take 16 text) vector)) (suc (suc m)) (drop 16 text)
 unfolding pass blocks chained exchanged joined
 pass_first e vector text m = refl
 
@@ -66,7 +78,8 @@ unfolding padded
 take-padded text low = take-append-le 16 text (replicate ((16 - length text % 16) % 16) 0) low
 
 stolen_step : (e : List ℕ → List ℕ) → ((b : List ℕ) → length (e b) ≡ 16) → (vector text : List ℕ) → 33 ≤ length text
-    → stolen e vector text ≡ e (add_bytes (take 16 text) vector) ++ stolen e (e (add_bytes (take 16 text) vector)) (drop 16 text)
+    → stolen e vector text ≡ e (add_bytes (take 16 text) vector)
+    ++ stolen e (e (add_bytes (take 16 text) vector)) (drop 16 text)
 unfolding stolen pass
 stolen_step e long vector text low =
     let n = length text in
@@ -84,7 +97,8 @@ stolen_step e long vector text low =
     ∙ take_past n c (pass e c (suc (suc m)) q) (long (add_bytes (take 16 p) vector)) (omega arith)
     ∙ ap (λ (x : List ℕ). x ++ take (n - 16) (pass e x (suc (suc m)) q)) first
     ∙ ap (λ (k : ℕ). d ++ take (n - 16) (pass e d k q)) two
-    ∙ ap (λ (x : List ℕ). d ++ take (n - 16) (pass e d ((length (drop 16 text) + 15) / 16) x)) (drop-padded text (omega arith))
+    ∙ ap (λ (x : List ℕ). d ++ take (n - 16) (pass e d ((length (drop 16 text) + 15) / 16) x))
+    (drop-padded text (omega arith))
     ∙ ap (λ (k : ℕ). d ++ take k (pass e d ((length (drop 16 text) + 15) / 16) (padded (drop 16 text)))) (sym len)
 
 stolen_is : (e : List ℕ → List ℕ) → ((b : List ℕ) → length (e b) ≡ 16) → (n : ℕ) (vector text : List ℕ)
@@ -116,7 +130,8 @@ Whole : List (List ℕ) → Type 0
 Whole [] = Unit {0}
 Whole (b ∷ bs) = (length b ≡ 16) × Whole bs
 
-chained_whole : (e : List ℕ → List ℕ) → ((b : List ℕ) → length (e b) ≡ 16) → (vector : List ℕ) (bs : List (List ℕ)) → Whole (chained e vector bs)
+chained_whole : (e : List ℕ → List ℕ) → ((b : List ℕ) → length (e b) ≡ 16) → (vector : List ℕ) (bs : List (List ℕ))
+    → Whole (chained e vector bs)
 unfolding chained Whole
 chained_whole e long vector [] = tt
 chained_whole e long vector (b ∷ bs) = (long (add_bytes b vector), chained_whole e long (e (add_bytes b vector)) bs)
@@ -130,11 +145,14 @@ length_exchanged : (bs : List (List ℕ)) → Whole bs → length (joined (excha
 unfolding exchanged joined Whole
 length_exchanged [] w = refl
 length_exchanged (a ∷ []) w = length-append a [] ∙ omega (arith, w.0)
-length_exchanged (a ∷ b ∷ []) w = length-append b (a ++ []) ∙ ap (λ (x : ℕ). length b + x) (length-append a []) ∙ omega (arith, w.0, w.1.0)
+length_exchanged (a ∷ b ∷ []) w =
+    length-append b (a ++ []) ∙ ap (λ (x : ℕ). length b + x) (length-append a []) ∙ omega (arith, w.0, w.1.0)
 length_exchanged (a ∷ b ∷ c ∷ bs) w =
-    length-append a (joined (exchanged (b ∷ c ∷ bs))) ∙ ap (λ (x : ℕ). length a + x) (length_exchanged (b ∷ c ∷ bs) w.1) ∙ omega (arith, w.0)
+    length-append a (joined (exchanged (b ∷ c ∷ bs))) ∙ ap (λ (x : ℕ). length a + x) (length_exchanged (b ∷ c ∷ bs) w.1)
+    ∙ omega (arith, w.0)
 
-pub length-stolen : (e : List ℕ → List ℕ) → ((b : List ℕ) → length (e b) ≡ 16) → (vector text : List ℕ) → length (stolen e vector text) ≡ length text
+pub length-stolen : (e : List ℕ → List ℕ) → ((b : List ℕ) → length (e b) ≡ 16) → (vector text : List ℕ)
+    → length (stolen e vector text) ≡ length text
 unfolding stolen
 length-stolen e long vector text =
     let n = length text in

@@ -1,5 +1,6 @@
 -- Sums of lists of bytes, and lists whose numbers are bytes.
-use Rattle.std.proofs.Common.{◌≡◌, ℕ, zero, suc, ◌<◌, ◌∷◌, ◌++◌, [], List, length, take, drop, slice_index, bit_xor, lit<, refl, ap₂, ap, ◌∙◌, arith}
+use Rattle.std.proofs.Common.{◌≡◌, ℕ, zero, suc, ◌<◌, ◌∷◌, ◌++◌, [], List, length, take}
+use Rattle.std.proofs.Common.{drop, slice_index, bit_xor, lit<, refl, ap₂, ap, ◌∙◌, arith}
 use Rattle.std.specs.List.{AllByRecursion}
 use Rattle.std.specs.Int.Bits.{xor_zero_r, xor_self}
 use lib.Bits.{xor_assoc}
@@ -13,7 +14,8 @@ length-add_bytes [] (y ∷ ys) h = absurd (omega arith)
 length-add_bytes (x ∷ xs) [] h = absurd (omega arith)
 length-add_bytes (x ∷ xs) (y ∷ ys) h = ap suc (length-add_bytes xs ys (omega arith))
 
-pub slice_index-add_bytes : (xs ys : List ℕ) → length xs ≡ length ys → (i : ℕ) → slice_index (add_bytes xs ys) i ≡ bit_xor (slice_index xs i) (slice_index ys i)
+pub slice_index-add_bytes : (xs ys : List ℕ) → length xs ≡ length ys → (i : ℕ)
+    → slice_index (add_bytes xs ys) i ≡ bit_xor (slice_index xs i) (slice_index ys i)
 unfolding add_bytes
 slice_index-add_bytes [] [] h i = refl
 slice_index-add_bytes [] (y ∷ ys) h i = absurd (omega arith)
@@ -21,7 +23,8 @@ slice_index-add_bytes (x ∷ xs) [] h i = absurd (omega arith)
 slice_index-add_bytes (x ∷ xs) (y ∷ ys) h zero = refl
 slice_index-add_bytes (x ∷ xs) (y ∷ ys) h (suc i) = slice_index-add_bytes xs ys (omega arith) i
 
-pub add_bytes-lt : (xs ys : List ℕ) → length xs ≡ length ys → ((i : ℕ) → slice_index xs i < 256) → ((i : ℕ) → slice_index ys i < 256)
+pub add_bytes-lt : (xs ys : List ℕ) → length xs ≡ length ys → ((i : ℕ) → slice_index xs i < 256)
+    → ((i : ℕ) → slice_index ys i < 256)
     → (i : ℕ) → slice_index (add_bytes xs ys) i < 256
 add_bytes-lt xs ys h bx by i = rw (slice_index-add_bytes xs ys h i) (xor_of_8 _ _ (bx i) (by i))
 

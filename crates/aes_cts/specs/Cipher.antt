@@ -1,6 +1,7 @@
 -- AES (FIPS 197) on lists of bytes. A block is the 16 bytes of a state column by column, as the standard reads its
 -- input (3.4), so that place r + 4 c holds the byte of row r and column c. A key has 16 or 32 bytes.
-use Rattle.std.specs.Prelude.{ℕ, zero, suc, ◌+◌, ◌-◌, ◌*◌, ◌/◌, ◌%◌, ◌==◌, ◌&&◌, nat_lt, if◌then◌else◌, List, [], ◌∷◌, ◌++◌, length, take, drop, map, slice_index, bit_xor}
+use Rattle.std.specs.Prelude.{ℕ, zero, suc, ◌+◌, ◌-◌, ◌*◌, ◌/◌, ◌%◌, ◌==◌, ◌&&◌, nat_lt, if◌then◌else◌}
+use Rattle.std.specs.Prelude.{List, [], ◌∷◌, ◌++◌, length, take, drop, map, slice_index, bit_xor}
 use Rattle.aes_cts.specs.Field.{times_power, product, sub_byte}
 
 -- the sum of two lists of bytes, place by place (AddRoundKey, 5.1.4)
@@ -33,7 +34,8 @@ mixed a b c d =
 
 -- the column whose first byte stands at place i, mixed
 unfoldable pub mixed_at : List ℕ → ℕ → List ℕ
-mixed_at block i = mixed (slice_index block i) (slice_index block (i + 1)) (slice_index block (i + 2)) (slice_index block (i + 3))
+mixed_at block i =
+    mixed (slice_index block i) (slice_index block (i + 1)) (slice_index block (i + 2)) (slice_index block (i + 3))
 
 -- MixColumns (5.1.3)
 unfoldable pub mix_columns : List ℕ → List ℕ
@@ -79,7 +81,8 @@ round_key keys r = take 16 (drop (16 * r) keys)
 -- the state after the first key and r whole rounds (5.1)
 unfoldable pub rounds : List ℕ → List ℕ → ℕ → List ℕ
 rounds keys block zero = add_bytes block (round_key keys 0)
-rounds keys block (suc r) = add_bytes (mix_columns (shift_rows (sub_bytes (rounds keys block r)))) (round_key keys (suc r))
+rounds keys block (suc r) =
+    add_bytes (mix_columns (shift_rows (sub_bytes (rounds keys block r)))) (round_key keys (suc r))
 
 -- n rounds, the last without MixColumns (5.1)
 unfoldable pub cipher_by : List ℕ → ℕ → List ℕ → List ℕ

@@ -35,7 +35,8 @@ unmixed a b c d =
     ∷ []
 
 unfoldable pub unmixed_at : List ℕ → ℕ → List ℕ
-unmixed_at block i = unmixed (slice_index block i) (slice_index block (i + 1)) (slice_index block (i + 2)) (slice_index block (i + 3))
+unmixed_at block i =
+    unmixed (slice_index block i) (slice_index block (i + 1)) (slice_index block (i + 2)) (slice_index block (i + 3))
 
 -- InvMixColumns (5.3.3)
 unfoldable pub unmix_columns : List ℕ → List ℕ
@@ -44,7 +45,8 @@ unmix_columns block = unmixed_at block 0 ++ (unmixed_at block 4 ++ (unmixed_at b
 -- the state after the first key and r whole rounds of the equivalent inverse cipher (5.3.5)
 unfoldable pub unrounds : List ℕ → List ℕ → ℕ → List ℕ
 unrounds keys block zero = add_bytes block (round_key keys 0)
-unrounds keys block (suc r) = add_bytes (unmix_columns (unshift_rows (unsub_bytes (unrounds keys block r)))) (round_key keys (suc r))
+unrounds keys block (suc r) =
+    add_bytes (unmix_columns (unshift_rows (unsub_bytes (unrounds keys block r)))) (round_key keys (suc r))
 
 -- n rounds of the equivalent inverse cipher, the last without InvMixColumns (5.3.5)
 unfoldable pub uncipher_by : List ℕ → ℕ → List ℕ → List ℕ

@@ -1,6 +1,7 @@
 -- The bytes of the words that the code computes on: a word is four bytes, the first the highest, and a state or a
 -- round key is four words, a column each.
-use Rattle.std.specs.Prelude.{◌≡◌, ℕ, zero, suc, ◌+◌, ◌-◌, ◌*◌, ◌<◌, ◌==◌, ◌||◌, if◌then◌else◌, List, [], ◌∷◌, ◌++◌, length, take, drop, slice_index, slice_index_or}
+use Rattle.std.specs.Prelude.{◌≡◌, ℕ, zero, suc, ◌+◌, ◌-◌, ◌*◌, ◌<◌, ◌==◌, ◌||◌, if◌then◌else◌}
+use Rattle.std.specs.Prelude.{List, [], ◌∷◌, ◌++◌, length, take, drop, slice_index, slice_index_or}
 use Rattle.std.specs.Int.{w32, to_be_bytes}
 use Rattle.aes_cts.specs.Cipher.{add_bytes, expand}
 use Rattle.aes_cts.specs.Inverse.{unmix_columns}
@@ -13,7 +14,8 @@ unfoldable pub byte_of : ℕ → ℕ → ℕ
 byte_of word i = slice_index (word_bytes word) i
 
 unfoldable pub block_of : List ℕ → List ℕ
-block_of s = word_bytes (slice_index s 0) ++ (word_bytes (slice_index s 1) ++ (word_bytes (slice_index s 2) ++ word_bytes (slice_index s 3)))
+block_of s = word_bytes (slice_index s 0)
+    ++ (word_bytes (slice_index s 1) ++ (word_bytes (slice_index s 2) ++ word_bytes (slice_index s 3)))
 
 -- the bytes of a list of round keys
 unfoldable pub schedule_bytes : List (List ℕ) → List ℕ
@@ -35,7 +37,8 @@ undo_key keys r =
 
 -- these undo those
 abbrev pub Undoes : List (List ℕ) → List (List ℕ) → Type 0
-Undoes undo keys = (length undo ≡ length keys) × ((r : ℕ) → r < length keys → block_of (slice_index_or undo r []) ≡ undo_key keys r)
+Undoes undo keys =
+    (length undo ≡ length keys) × ((r : ℕ) → r < length keys → block_of (slice_index_or undo r []) ≡ undo_key keys r)
 
 -- the four words of a block, each added to the sum before it, the first to `word`
 unfoldable pub chained_words : List ℕ → List ℕ → List ℕ

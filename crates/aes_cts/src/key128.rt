@@ -52,7 +52,8 @@ impl Key128 {
     /// Decrypts a block in place (FIPS 197, 5.3): it becomes the one block whose encryption it was.
     pub fn decrypt_block(&self, block: &mut [u8; 16])
         ensures inverse { cipher self.now block.new ≡ block.old }
-        ensures only { (b : List ℕ) → length b ≡ 16 → All (λ x. x < 2 ^ 8) b → cipher self.now b ≡ block.old → b ≡ block.new }
+        ensures only { (b : List ℕ) → length b ≡ 16 → All (λ x. x < 2 ^ 8) b → cipher self.now b ≡ block.old
+            → b ≡ block.new }
     {
         let s = decrypt(&self.decrypt, load(block));
         store(block, s);

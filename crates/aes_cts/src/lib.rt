@@ -36,8 +36,10 @@ pub fn lengths_are_kept()
 /// Laws of the two definitions, at every key of 16 or 32 bytes: what encrypts a block of bytes are bytes, and a
 /// cipher text is that of one text.
 pub fn texts_are_told()
-    ensures block { (key block : List ℕ) → IsKeyLong key → AreBytes key → length block ≡ 16 → AreBytes block → AreBytes (cipher key block) }
-    ensures text { (key a b : List ℕ) → IsKeyLong key → AreBytes key → AreBytes a → AreBytes b → 16 ≤ length a → cts key a ≡ cts key b → a ≡ b }
+    ensures block { (key block : List ℕ) → IsKeyLong key → AreBytes key → length block ≡ 16 → AreBytes block
+        → AreBytes (cipher key block) }
+    ensures text { (key a b : List ℕ) → IsKeyLong key → AreBytes key → AreBytes a → AreBytes b → 16 ≤ length a
+        → cts key a ≡ cts key b → a ≡ b }
 {}
 
 #[cfg(test)]

@@ -37,7 +37,8 @@ fn encrypt_part(row: usize, byte: u8) -> u32
 #[inline(always)]
 pub fn decrypt_part(row: usize, byte: u8) -> u32
     requires { row < 4 }
-    ensures { let s = unsub_byte byte in word_bytes result ≡ spread row (product 14 s) (product 11 s) (product 13 s) (product 9 s) }
+    ensures { let s =
+        unsub_byte byte in word_bytes result ≡ spread row (product 14 s) (product 11 s) (product 13 s) (product 9 s) }
 {
     DECRYPT[256 * row + byte as usize]
 }
@@ -46,7 +47,8 @@ pub fn decrypt_part(row: usize, byte: u8) -> u32
 // on, the values of a round fit in the processor's registers, so that none waits for memory.
 #[inline(always)]
 fn encrypt_column(a: u32, b: u32, c: u32, d: u32, key: u32) -> u32
-    ensures { word_bytes result ≡ add_bytes (mixed (sub_byte (byte_of a 0)) (sub_byte (byte_of b 1)) (sub_byte (byte_of c 2)) (sub_byte (byte_of d 3))) (word_bytes key) }
+    ensures { word_bytes result ≡ add_bytes (mixed (sub_byte (byte_of a 0)) (sub_byte (byte_of b 1))
+        (sub_byte (byte_of c 2)) (sub_byte (byte_of d 3))) (word_bytes key) }
 {
     let [first, _, _, _] = a.to_be_bytes();
     let [_, second, _, _] = b.to_be_bytes();
@@ -60,7 +62,8 @@ fn encrypt_column(a: u32, b: u32, c: u32, d: u32, key: u32) -> u32
 
 #[inline(always)]
 fn decrypt_column(a: u32, b: u32, c: u32, d: u32, key: u32) -> u32
-    ensures { word_bytes result ≡ add_bytes (unmixed (unsub_byte (byte_of a 0)) (unsub_byte (byte_of b 1)) (unsub_byte (byte_of c 2)) (unsub_byte (byte_of d 3))) (word_bytes key) }
+    ensures { word_bytes result ≡ add_bytes (unmixed (unsub_byte (byte_of a 0)) (unsub_byte (byte_of b 1))
+        (unsub_byte (byte_of c 2)) (unsub_byte (byte_of d 3))) (word_bytes key) }
 {
     let [first, _, _, _] = a.to_be_bytes();
     let [_, second, _, _] = b.to_be_bytes();
@@ -76,7 +79,8 @@ fn decrypt_column(a: u32, b: u32, c: u32, d: u32, key: u32) -> u32
 // The column of the last round.
 #[inline(always)]
 fn encrypt_last_column(a: u32, b: u32, c: u32, d: u32, key: u32) -> u32
-    ensures { word_bytes result ≡ add_bytes (sub_byte (byte_of a 0) ∷ sub_byte (byte_of b 1) ∷ sub_byte (byte_of c 2) ∷ sub_byte (byte_of d 3) ∷ []) (word_bytes key) }
+    ensures { word_bytes result ≡ add_bytes (sub_byte (byte_of a 0) ∷ sub_byte (byte_of b 1) ∷ sub_byte (byte_of c 2)
+        ∷ sub_byte (byte_of d 3) ∷ []) (word_bytes key) }
 {
     let [first, _, _, _] = a.to_be_bytes();
     let [_, second, _, _] = b.to_be_bytes();
@@ -92,7 +96,8 @@ fn encrypt_last_column(a: u32, b: u32, c: u32, d: u32, key: u32) -> u32
 
 #[inline(always)]
 fn decrypt_last_column(a: u32, b: u32, c: u32, d: u32, key: u32) -> u32
-    ensures { word_bytes result ≡ add_bytes (unsub_byte (byte_of a 0) ∷ unsub_byte (byte_of b 1) ∷ unsub_byte (byte_of c 2) ∷ unsub_byte (byte_of d 3) ∷ []) (word_bytes key) }
+    ensures { word_bytes result ≡ add_bytes (unsub_byte (byte_of a 0) ∷ unsub_byte (byte_of b 1)
+        ∷ unsub_byte (byte_of c 2) ∷ unsub_byte (byte_of d 3) ∷ []) (word_bytes key) }
 {
     let [first, _, _, _] = a.to_be_bytes();
     let [_, second, _, _] = b.to_be_bytes();

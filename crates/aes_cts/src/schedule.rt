@@ -1,6 +1,7 @@
 // The key expansion (FIPS 197, 5.2) a round key at a time, and the round keys of decryption.
 
-ghost use Rattle.std.specs.Prelude.{◌≡◌, ℕ, ◌+◌, ◌-◌, ◌*◌, ◌/◌, ◌%◌, ◌<◌, ◌≤◌, ◌∷◌, ◌++◌, [], length, take, slice_index, slice_range};
+ghost use Rattle.std.specs.Prelude.{◌≡◌, ℕ, ◌+◌, ◌-◌, ◌*◌, ◌/◌, ◌%◌, ◌<◌, ◌≤◌, ◌∷◌};
+ghost use Rattle.std.specs.Prelude.{◌++◌, [], length, take, slice_index, slice_range};
 ghost use Rattle.aes_cts.specs.Cipher.{add_bytes, turned, expand, sub_bytes, rot_word, round_constant};
 ghost use Rattle.aes_cts.specs.Inverse.{unmix_columns, unmixed};
 ghost use Rattle.aes_cts.specs.Words.{word_bytes, byte_of, block_of, schedule_bytes, chained_words, Undoes};
@@ -71,7 +72,8 @@ pub fn expand<const N: usize>(keys: &mut [[u32; 4]; N], stride: usize)
     requires low { stride ≤ N }
     requires high { N ≤ 11 * stride }
     ensures key { take stride keys.new ≡ take stride keys.old }
-    ensures words { schedule_bytes keys.new ≡ expand (4 * stride) (schedule_bytes (take stride keys.old)) (4 * (N - stride)) }
+    ensures words { schedule_bytes keys.new
+        ≡ expand (4 * stride) (schedule_bytes (take stride keys.old)) (4 * (N - stride)) }
 {
     for index in stride..N {
         let back = keys[index - stride];

@@ -121,7 +121,8 @@ fn decrypt_end<const N: usize>(keys: &[[u32; 4]; N], vector: [u32; 4], end: &mut
 pub fn encrypt_text<const N: usize>(keys: &[[u32; 4]; N], text: &mut [u8])
     requires rounds { 2 ≤ N }
     requires low { 16 ≤ length text.old }
-    ensures { text.new ≡ steal (blocks_before_end (length text.old)) (cipher_by (schedule_bytes keys.now) (N - 1)) (replicate 16 0) text.old }
+    ensures { text.new ≡ steal (blocks_before_end (length text.old)) (cipher_by (schedule_bytes keys.now) (N - 1))
+        (replicate 16 0) text.old }
 {
     let whole = text.len().saturating_sub(17) / 16;
     let mut vector = [0; 4];
@@ -136,7 +137,8 @@ pub fn encrypt_text<const N: usize>(keys: &[[u32; 4]; N], text: &mut [u8])
 pub fn decrypt_text<const N: usize>(keys: &[[u32; 4]; N], text: &mut [u8])
     requires rounds { 2 ≤ N }
     requires low { 16 ≤ length text.old }
-    ensures { text.new ≡ return (blocks_before_end (length text.old)) (uncipher_by (schedule_bytes keys.now) (N - 1)) (replicate 16 0) text.old }
+    ensures { text.new ≡ return (blocks_before_end (length text.old)) (uncipher_by (schedule_bytes keys.now) (N - 1))
+        (replicate 16 0) text.old }
 {
     let whole = text.len().saturating_sub(17) / 16;
     let mut vector = [0; 4];

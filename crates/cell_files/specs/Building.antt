@@ -50,7 +50,8 @@ MayFollow format (r ∷ rows) cells = IsNext format r cells × MayFollow format 
 abbrev pub IsBuilt : ℕ → Index → List Cell → Type 0
 IsBuilt format x cells = IsGathered format (units x) (count x) (princs_of cells) (policies_of cells) cells
 
--- What is kept of a file that is to be written: a whole first unit, rows that have room in their units, and a page of a few units.
+-- What is kept of a file that is to be written: a whole first unit, rows that have room in their units, and a page of a
+-- few units.
 pub record IsPage (unit : ℕ) (first : List ℕ) (texts : List RowText) (page : List ℕ) : Type 0 where
   pub first_long : length first ≡ unit
   pub page_long : 4 * unit ≤ length page

@@ -25,7 +25,8 @@ sheet_for realm r = record { realm = realm; cells = None ∷ map with_row (store
 
 -- the first unit: the realm, the point at which the file is made, and zeros to its end
 unfoldable pub first_unit : ℕ → List ℕ → Point → List ℕ
-first_unit format realm made = heading format realm made ++ zeros (unit_size format - length (heading format realm made))
+first_unit format realm made =
+    heading format realm made ++ zeros (unit_size format - length (heading format realm made))
 
 abbrev pub row_unit : ℕ → StoredRow → List ℕ
 row_unit format r = unit_text format (Some r)

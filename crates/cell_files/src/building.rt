@@ -27,9 +27,13 @@ fn add_row<T: UnitRow + Drop>(
 ) -> Result<(), MemoryOut>
     requires placed { building.old.index.placed ≡ None }
     requires fits { T.fits item.now }
-    requires next { (cells : List Cell) × (IsBuilt format building.old.index cells × IsNext format (T.row_of item.now) cells) }
-    ensures built { (cells : List Cell) → IsBuilt format building.old.index cells → IsNext format (T.row_of item.now) cells → OnOk result (IsBuilt format building.new.index (cells ++ with_row (T.row_of item.now) ∷ [])) }
-    ensures texts { OnOk result (building.new.texts.items ≡ building.old.texts.items ++ text_of (T.row_of item.now) ∷ []) }
+    requires next { (cells : List Cell)
+        × (IsBuilt format building.old.index cells × IsNext format (T.row_of item.now) cells) }
+    ensures built { (cells : List Cell)
+        → IsBuilt format building.old.index cells → IsNext format (T.row_of item.now) cells
+        → OnOk result (IsBuilt format building.new.index (cells ++ with_row (T.row_of item.now) ∷ [])) }
+    ensures texts { OnOk result
+        (building.new.texts.items ≡ building.old.texts.items ++ text_of (T.row_of item.now) ∷ []) }
     ensures placed { OnOk result (building.new.index.placed ≡ None) }
 {
     let key = Blob::from_bytes(alloc, item.unit_key())?;
@@ -48,9 +52,13 @@ pub(crate) fn add_rows<T: UnitRow + Drop>(
 ) -> Result<(), MemoryOut>
     requires placed { building.old.index.placed ≡ None }
     requires fits { All T.fits items.now }
-    requires next { (cells : List Cell) × (IsBuilt format building.old.index cells × MayFollow format (map T.row_of items.now) cells) }
-    ensures built { (cells : List Cell) → IsBuilt format building.old.index cells → MayFollow format (map T.row_of items.now) cells → OnOk result (IsBuilt format building.new.index (cells ++ map with_row (map T.row_of items.now))) }
-    ensures texts { OnOk result (building.new.texts.items ≡ building.old.texts.items ++ map text_of (map T.row_of items.now)) }
+    requires next { (cells : List Cell)
+        × (IsBuilt format building.old.index cells × MayFollow format (map T.row_of items.now) cells) }
+    ensures built { (cells : List Cell) → IsBuilt format building.old.index cells
+        → MayFollow format (map T.row_of items.now) cells
+        → OnOk result (IsBuilt format building.new.index (cells ++ map with_row (map T.row_of items.now))) }
+    ensures texts { OnOk result
+        (building.new.texts.items ≡ building.old.texts.items ++ map text_of (map T.row_of items.now)) }
     ensures placed { OnOk result (building.new.index.placed ≡ None) }
 {
     for item in items {

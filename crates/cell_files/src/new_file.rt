@@ -49,9 +49,11 @@ impl Model for NewFile {
 
     ghost Value = { NewCells };
 
-    ghost view = { λ n. record { cells = n.cells; content = n.first.items ++ text_units (unit_size n.cells.format) n.texts.items } };
+    ghost view = { λ n.
+        record { cells = n.cells; content = n.first.items ++ text_units (unit_size n.cells.format) n.texts.items } };
 
-    ghost invariant = { λ n. (is_image n.cells.file ≡ true) × IsPage (unit_size n.cells.format) n.first.items n.texts.items n.page.items };
+    ghost invariant = { λ n. (is_image n.cells.file ≡ true)
+        × IsPage (unit_size n.cells.format) n.first.items n.texts.items n.page.items };
 }
 
 // Adds zeros up to this length.
@@ -129,8 +131,10 @@ fn write_content<D: Disk>(
     requires small { length first.now ≤ 16384 }
     requires page { IsPage (length first.now) first.now texts.now page.old }
     requires empty { D.tells → (D.view disk.old).seen file ≡ [] }
-    ensures moments { D.tells → LeavesOnly (D.view disk.old) (D.view disk.new) (IsAfter (Differs file) (D.view disk.old)) }
-    ensures seen { D.tells → OnOk result ((D.view disk.new).seen ≡ written file 0 (first.now ++ text_units (length first.now) texts.now) (D.view disk.old).seen) }
+    ensures moments { D.tells
+        → LeavesOnly (D.view disk.old) (D.view disk.new) (IsAfter (Differs file) (D.view disk.old)) }
+    ensures seen { D.tells → OnOk result ((D.view disk.new).seen
+        ≡ written file 0 (first.now ++ text_units (length first.now) texts.now) (D.view disk.old).seen) }
     ensures long { length page.new ≡ length page.old }
     ensures call { IsCall D.Disk disk.old disk.new (IsErr result) }
 {
@@ -151,8 +155,10 @@ fn write_file<D: Disk>(
     requires some { 0 < length first.now }
     requires small { length first.now ≤ 16384 }
     requires page { IsPage (length first.now) first.now texts.now page.old }
-    ensures moments { D.tells → LeavesOnly (D.view disk.old) (D.view disk.new) (IsAfter (Differs file) (D.view disk.old)) }
-    ensures ok { D.tells → OnOk result (Replaced file (first.now ++ text_units (length first.now) texts.now) (D.view disk.old) (D.view disk.new)) }
+    ensures moments { D.tells
+        → LeavesOnly (D.view disk.old) (D.view disk.new) (IsAfter (Differs file) (D.view disk.old)) }
+    ensures ok { D.tells → OnOk result
+        (Replaced file (first.now ++ text_units (length first.now) texts.now) (D.view disk.old) (D.view disk.new)) }
     ensures long { length page.new ≡ length page.old }
     ensures call { IsCall D.Disk disk.old disk.new (IsErr result) }
 {
@@ -199,8 +205,10 @@ impl NewFile {
     /// Writes the file, on the disk: it is cut to nothing and synced, written in pieces of a few units,
     /// and synced. Until then, a crash may leave any content of this file. Memory is not asked for.
     pub fn write<D: Disk>(&mut self, disk: &mut D) -> Result<(), DiskFailed>
-        ensures moments { D.tells → LeavesOnly (D.view disk.old) (D.view disk.new) (IsAfter (Differs self.old.cells.file) (D.view disk.old)) }
-        ensures ok { D.tells → OnOk result (Replaced self.old.cells.file self.old.content (D.view disk.old) (D.view disk.new)) }
+        ensures moments { D.tells
+            → LeavesOnly (D.view disk.old) (D.view disk.new) (IsAfter (Differs self.old.cells.file) (D.view disk.old)) }
+        ensures ok { D.tells
+            → OnOk result (Replaced self.old.cells.file self.old.content (D.view disk.old) (D.view disk.new)) }
         ensures stays { self.new ≡ self.old }
         ensures call { IsCall D.Disk disk.old disk.new (IsErr result) }
     {

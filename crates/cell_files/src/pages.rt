@@ -59,8 +59,10 @@ pub(crate) fn write_units<D: Disk>(
     requires fits { All (HasUnit unit) texts.now }
     requires page { 4 * unit ≤ length page.old }
     requires begun { D.tells → length ((D.view disk.old).seen file) ≡ from }
-    ensures moments { D.tells → LeavesOnly (D.view disk.old) (D.view disk.new) (IsAfter (Differs file) (D.view disk.old)) }
-    ensures seen { D.tells → OnOk result ((D.view disk.new).seen ≡ written file from (text_units unit texts.now) (D.view disk.old).seen) }
+    ensures moments { D.tells
+        → LeavesOnly (D.view disk.old) (D.view disk.new) (IsAfter (Differs file) (D.view disk.old)) }
+    ensures seen { D.tells
+        → OnOk result ((D.view disk.new).seen ≡ written file from (text_units unit texts.now) (D.view disk.old).seen) }
     ensures long { length page.new ≡ length page.old }
     ensures call { IsCall D.Disk disk.old disk.new (IsErr result) }
 {

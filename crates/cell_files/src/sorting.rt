@@ -31,7 +31,8 @@ fn sort_rows<T: Keyed>(items: &mut Vec<T>)
 pub fn rows_from(princs: Vec<Boxed<Princ>>, policies: Vec<Boxed<Policy>>) -> Rows
     requires { AreApart princs.items policies.items }
     // They are the rows of whatever cells have these records, in any order.
-    ensures { (cells : List Cell) → IsPermutation princs.items (princs_of cells) → IsPermutation policies.items (policies_of cells) → result ≡ rows_of cells }
+    ensures { (cells : List Cell) → IsPermutation princs.items (princs_of cells)
+        → IsPermutation policies.items (policies_of cells) → result ≡ rows_of cells }
 {
     let mut princs = princs;
     let mut policies = policies;

@@ -34,7 +34,8 @@ marked_fits by p is f = record {
 }
 
 -- K/M has no string attributes
-pub restrung_fits : (strings : List StringAttribute) (p : Princ) → is_master p.name ≡ false → AreStrings strings → IsPrinc p → IsPrinc (record p { strings = strings })
+pub restrung_fits : (strings : List StringAttribute) (p : Princ) → is_master p.name ≡ false → AreStrings strings
+    → IsPrinc p → IsPrinc (record p { strings = strings })
 restrung_fits strings p other are f = record {
   name = f.name;
   attributes = f.attributes;
@@ -57,7 +58,8 @@ restrung_fits strings p other are f = record {
 }
 
 -- other keys, where it is not K/M
-pub rekept_fits : (keys : List KeyItem) (p : Princ) → is_master p.name ≡ false → AreKeys keys → IsPrinc p → IsPrinc (record p { keys = keys })
+pub rekept_fits : (keys : List KeyItem) (p : Princ) → is_master p.name ≡ false → AreKeys keys → IsPrinc p
+    → IsPrinc (record p { keys = keys })
 rekept_fits keys p other are f = record {
   name = f.name;
   attributes = f.attributes;

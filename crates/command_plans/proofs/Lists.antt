@@ -10,7 +10,8 @@ unfolding first
 skip None xs ys e = e
 skip (Some why) xs ys e = refl
 
-pub both : (a b : Option Refusal) (xs ys : List (Option Refusal)) → a ≡ b → first xs ≡ first ys → first (a ∷ xs) ≡ first (b ∷ ys)
+pub both : (a b : Option Refusal) (xs ys : List (Option Refusal)) → a ≡ b → first xs ≡ first ys
+    → first (a ∷ xs) ≡ first (b ∷ ys)
 both a b xs ys same e = skip a xs ys e ∙ ap (λ (c : Option Refusal). first (c ∷ ys)) same
 
 -- where none holds, the first does not, and none of the others
@@ -37,12 +38,15 @@ and_false true = refl
 and_false false = refl
 
 -- what was found present, without a cause before
-pub none_missing : {A : Type 0} (before : Option Refusal) (found : Option A) (x : A) (missing : Refusal) → before ≡ None → found ≡ Some x → None ≡ first (before ∷ when (is_none found) missing ∷ [])
+pub none_missing : {A : Type 0} (before : Option Refusal) (found : Option A) (x : A) (missing : Refusal) → before ≡ None
+    → found ≡ Some x → None ≡ first (before ∷ when (is_none found) missing ∷ [])
 unfolding first
 none_missing before found x missing none is = rw (none, is) refl
 
 -- the same, of what is lent
-pub missing_alike : {A B : Type 0} (f : A → B) (before : Option Refusal) (found : Option A) (missing : Refusal) → first (before ∷ when (is_none found) missing ∷ []) ≡ first (before ∷ when (is_none (option_map f found)) missing ∷ [])
+pub missing_alike : {A B : Type 0} (f : A → B) (before : Option Refusal) (found : Option A) (missing : Refusal)
+    → first (before ∷ when (is_none found) missing ∷ [])
+    ≡ first (before ∷ when (is_none (option_map f found)) missing ∷ [])
 missing_alike f before None missing = refl
 missing_alike f before (Some x) missing = refl
 

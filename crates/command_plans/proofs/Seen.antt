@@ -43,7 +43,9 @@ told_at g cmd clock = call_of g.client.now (access_of g) cmd clock g.random.now 
 abbrev pub ComesTo : Given → Command → List (Option Refusal) → Type 0
 ComesTo g cmd causes = (s : State) (call : Call) → IsGiven g cmd s call → refusal s call ≡ first causes
 
-pub comes : (g : Given) (cmd : Command) (causes : List (Option Refusal)) → ((s : State) (call : Call) (given : IsGiven g cmd s call) → refusal s (told_at g cmd given.called.clock) ≡ first causes) → ComesTo g cmd causes
+pub comes : (g : Given) (cmd : Command) (causes : List (Option Refusal))
+    → ((s : State) (call : Call) (given : IsGiven g cmd s call)
+    → refusal s (told_at g cmd given.called.clock) ≡ first causes) → ComesTo g cmd causes
 comes g cmd causes each s call given = ap (refusal s) given.called.call_is ∙ each s call given
 
 -- ---- plans
@@ -55,12 +57,14 @@ pub record MakesChange (rows : RowLists) (s : State) (call : Call) (op : Op) : T
   pub shown : (history : Key) → history_key s.realm s.princs ≡ Some history → ShowsOp s.masters history op plain
   pub exact : kept_entry rows s call ≡ Some op
 
-module _ (g : Given) (cmd : Command) (causes : List (Option Refusal)) (to : ComesTo g cmd causes) (found : Option Refusal) (found_is : found ≡ first causes) where
+module _ (g : Given) (cmd : Command) (causes : List (Option Refusal)) (to : ComesTo g cmd causes)
+    (found : Option Refusal) (found_is : found ≡ first causes) where
   pub refused : (why : Refusal) → found ≡ Some why → IsJudged g cmd (Err why)
   refused why is = record { plan_is = λ s call given. to s call given ∙ sym found_is ∙ is; applies = tt }
 
   pub answered : (reply : Reply) → found ≡ None
-      → ((s : State) (call : Call) (given : IsGiven g cmd s call) → (entry s (told_at g cmd given.called.clock) ≡ None) × (reply ≡ reading s (told_at g cmd given.called.clock)))
+      → ((s : State) (call : Call) (given : IsGiven g cmd s call)
+      → (entry s (told_at g cmd given.called.clock) ≡ None) × (reply ≡ reading s (told_at g cmd given.called.clock)))
       → IsJudged g cmd (Ok (Answer reply))
   answered reply none each = record {
     plan_is = λ s call given. subst (λ (c : Call). IsAnswer s c reply) (sym given.called.call_is) (record {
@@ -72,7 +76,8 @@ module _ (g : Given) (cmd : Command) (causes : List (Option Refusal)) (to : Come
   }
 
   pub changed : (op : Op) → found ≡ None → IsApplied g.rows.now op
-      → ((s : State) (call : Call) (given : IsGiven g cmd s call) → MakesChange g.rows.now s (told_at g cmd given.called.clock) op)
+      → ((s : State) (call : Call) (given : IsGiven g cmd s call)
+      → MakesChange g.rows.now s (told_at g cmd given.called.clock) op)
       → IsJudged g cmd (Ok (Change op))
   changed op none applies each = record {
     plan_is = λ s call given. subst (λ (c : Call). IsChange g.rows.now s c op) (sym given.called.call_is) (record {
@@ -88,20 +93,24 @@ module _ (g : Given) (cmd : Command) (causes : List (Option Refusal)) (to : Come
 -- ---- what is found by a name
 
 module _ (g : Given) (cmd : Command) (s : State) (call : Call) (given : IsGiven g cmd s call) where
-  pub found_both : (name text : List ℕ) (found : Option Princ) → text ≡ name → found ≡ record_named text g.rows.now.princs
+  pub found_both : (name text : List ℕ) (found : Option Princ) → text ≡ name
+      → found ≡ record_named text g.rows.now.princs
       → AreBoth (ShowsPrinc s.masters given.seen.shows.history) found (princ_named name s.princs)
   found_both name text found same is =
-      subst (λ (o : Option Princ). AreBoth (ShowsPrinc s.masters given.seen.shows.history) o (princ_named name s.princs)) (sym (is ∙ ap (λ (n : List ℕ). record_named n g.rows.now.princs) same))
+      subst (λ (o : Option Princ). AreBoth (ShowsPrinc s.masters given.seen.shows.history) o
+      (princ_named name s.princs)) (sym (is ∙ ap (λ (n : List ℕ). record_named n g.rows.now.princs) same))
       (found_alike s.masters given.seen.shows.history g.rows.now.princs s.princs given.seen.shows.princs name)
 
 module _ (masters : List Master) (history : Key) where
-  pub absent_alike : (p : Option Princ) (q : Option PlainPrinc) → AreBoth (ShowsPrinc masters history) p q → is_none p ≡ is_none q
+  pub absent_alike : (p : Option Princ) (q : Option PlainPrinc) → AreBoth (ShowsPrinc masters history) p q
+      → is_none p ≡ is_none q
   absent_alike None None h = refl
   absent_alike (Some p) (Some q) h = refl
   absent_alike None (Some q) h = absurd h
   absent_alike (Some p) None h = absurd h
 
-  pub locked_alike : (p : Option Princ) (q : Option PlainPrinc) → AreBoth (ShowsPrinc masters history) p q → is_locked_record p ≡ is_locked q
+  pub locked_alike : (p : Option Princ) (q : Option PlainPrinc) → AreBoth (ShowsPrinc masters history) p q
+      → is_locked_record p ≡ is_locked q
   locked_alike None None h = refl
   locked_alike (Some p) (Some q) h = ap (λ (x : Princ). has_bit lockdown_keys x.attributes) h.under.fields
   locked_alike None (Some q) h = absurd h

@@ -19,7 +19,8 @@ pub ok_from : {A E : Type 0} (F : A → Type 0) (r : Result A E) → ((x : A) �
 ok_from F (Ok x) each = each x refl
 ok_from F (Err e) each = tt
 
-module _ (g : Given) (letter : ℕ) (name : NameParts) (text : List ℕ) (denied protected : Option Refusal) (found : Option Princ)
+module _ (g : Given) (letter : ℕ) (name : NameParts) (text : List ℕ) (denied protected : Option Refusal)
+    (found : Option Princ)
     (text_is : text ≡ printed name)
     (denied_is : denied ≡ denial_of (option_map (λ acl. acl.now) g.acl) g.client.now (asking letter name ∷ []))
     (protected_is : protected ≡ when (list_any (is_protected g.realm.now) (name ∷ [])) Protected)
@@ -27,17 +28,22 @@ module _ (g : Given) (letter : ℕ) (name : NameParts) (text : List ℕ) (denied
   here : found ≡ record_named (printed name) g.rows.now.princs
   here = found_is ∙ ap (λ (n : List ℕ). record_named n g.rows.now.princs) text_is
 
-  pub target_found : (p : Princ) → AreRows g.rows.now → first (denied ∷ protected ∷ []) ≡ None → found ≡ Some p → IsTarget g letter name p
+  pub target_found : (p : Princ) → AreRows g.rows.now → first (denied ∷ protected ∷ []) ≡ None → found ≡ Some p
+      → IsTarget g letter name p
   target_found p rows none is =
       let first_none = none_of denied (protected ∷ []) none in
       let second_none = none_of protected [] first_none.1 in
       record {
         allowed = sym denied_is ∙ first_none.0;
-        unprotected = when_not (list_any (is_protected g.realm.now) (name ∷ [])) Protected (sym protected_is ∙ second_none.0);
+        unprotected =
+            when_not (list_any (is_protected g.realm.now) (name ∷ [])) Protected (sym protected_is ∙ second_none.0);
         there = sym here ∙ is;
         rows = rows;
       }
 
-  pub target_missed : (why : Refusal) → first (first (denied ∷ protected ∷ []) ∷ when (is_none found) UnknownPrincipal ∷ []) ≡ Some why → target_refusal g letter name ≡ Some why
+  pub target_missed : (why : Refusal)
+      → first (first (denied ∷ protected ∷ []) ∷ when (is_none found) UnknownPrincipal ∷ []) ≡ Some why
+      → target_refusal g letter name ≡ Some why
   target_missed why e =
-      rw (← denied_is, ← protected_is, ← here) (sym (nested (denied ∷ protected ∷ []) (when (is_none found) UnknownPrincipal ∷ [])) ∙ e)
+      rw (← denied_is, ← protected_is, ← here)
+      (sym (nested (denied ∷ protected ∷ []) (when (is_none found) UnknownPrincipal ∷ [])) ∙ e)

@@ -27,15 +27,17 @@ use Rattle.row_keys.specs.ShownChanges.{ShowsOp}
 use Rattle.row_keys.specs.Shows.{Shows}
 
 -- the rows, the master keys and the realm of this state, which is valid at the moment
-pub record IsSeenBy (rows : RowLists) (masters : List Master) (realm : List ℕ) (moment : Moment) (s : State) : Type 0 where
+pub record IsSeenBy (rows : RowLists) (masters : List Master) (realm : List ℕ) (moment : Moment)
+    (s : State) : Type 0 where
   pub shows : Shows rows s
   pub valid : IsValid moment s
   pub masters_are : s.masters ≡ masters
   pub realm_is : s.realm ≡ realm
 
--- The call of this command, at a clock's time that comes to this moment. A plan is told that the log does not start anew: whether it
--- does, and the refusal for want of a later time, is of whoever holds the log.
-pub record IsCallOf (s : State) (client : NameParts) (access : Option (List AclLine)) (command : Command) (moment : Moment) (random : List ℕ) (call : Call) : Type 0 where
+-- The call of this command, at a clock's time that comes to this moment. A plan is told that the log does not start
+-- anew: whether it does, and the refusal for want of a later time, is of whoever holds the log.
+pub record IsCallOf (s : State) (client : NameParts) (access : Option (List AclLine)) (command : Command)
+    (moment : Moment) (random : List ℕ) (call : Call) : Type 0 where
   pub clock : Moment
   pub call_is : call ≡ call_of client access command clock random false
   pub moment_is : moment_of s (call_of client access command clock random false) ≡ moment
@@ -48,8 +50,9 @@ pub record IsAnswer (s : State) (call : Call) (reply : Reply) : Type 0 where
   pub no_entry : entry s call ≡ None
   pub reply_is : reply ≡ reading s call
 
--- The call makes a change. In rows that show the state this one of them shows it, and it is the one that is kept: its new blobs are
--- wrapped with the confounders of their places in the block, and what the call does not touch stays to the byte.
+-- The call makes a change. In rows that show the state this one of them shows it, and it is the one that is kept: its
+-- new blobs are wrapped with the confounders of their places in the block, and what the call does not touch stays to
+-- the byte.
 pub record IsChange (rows : RowLists) (s : State) (call : Call) (op : Op) : Type 0 where
   pub accepted : refusal s call ≡ None
   pub plain : PlainOp

@@ -17,8 +17,8 @@ use Rattle.row_keys.specs.Lookups.{record_named}
 abbrev pub both_asked : NameParts → NameParts → List Asking
 both_asked old new = asking deleting old ∷ record { letter = adding; target = Some new; plainly = true } ∷ []
 
--- the client may delete the one and add the other, neither has the database's own keys, the new name is free, and the keys are not
--- locked down
+-- the client may delete the one and add the other, neither has the database's own keys, the new name is free, and the
+-- keys are not locked down
 pub record IsRenamed (g : Given) (c : RenPrinc) (p : Princ) : Type 0 where
   pub allowed : denial_of (option_map (λ acl. acl.now) g.acl) g.client.now (both_asked c.name c.new_name) ≡ None
   pub unprotected : list_any (is_protected g.realm.now) (c.name ∷ c.new_name ∷ []) ≡ false

@@ -1,5 +1,6 @@
 -- The record that a command changes, and a record that is put.
-use Rattle.std.specs.Prelude.{ℕ, ◌≡◌, ◌≤◌, ◌<◌, ◌^◌, false, [], ◌∷◌, length, Option, Some, None, Result, Ok, Err, is_none, option_map}
+use Rattle.std.specs.Prelude.{ℕ, ◌≡◌, ◌≤◌, ◌<◌, ◌^◌, false, [], ◌∷◌, length, Option}
+use Rattle.std.specs.Prelude.{Some, None, Result, Ok, Err, is_none, option_map}
 use Rattle.std.specs.List.{list_any}
 use Rattle.command_plans.specs.Causes.{denial_of}
 use Rattle.command_plans.specs.declared.given.Given.{Given}

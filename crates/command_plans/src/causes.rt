@@ -1,6 +1,7 @@
 //! Causes that many commands share, each by itself, and the first of them.
 
-ghost use Rattle.std.specs.Prelude.{◌≡◌, ◌+◌, ◌&&◌, ◌∷◌, [], ℕ, List, None, Some, Ok, Err, false, is_none, is_some, length, nat_le, nat_lt, option_map};
+ghost use Rattle.std.specs.Prelude.{◌≡◌, ◌+◌, ◌&&◌, ◌∷◌, [], ℕ, List, None, Some, Ok, Err, false};
+ghost use Rattle.std.specs.Prelude.{is_none, is_some, length, nat_le, nat_lt, option_map};
 ghost use Rattle.std.specs.List.{list_any};
 ghost use Rattle.kdb_base.specs.Limits.{most_rows};
 ghost use Rattle.kdb_base.specs.declared.outcomes.Refusal.{Refusal};
@@ -59,7 +60,8 @@ pub fn denied_in(
     target: Option<&Name>,
     plainly: bool,
 ) -> Option<Refusal>
-    ensures { result ≡ denied_in acl.now client.now (record { letter = letter; target = option_map (λ t. t.now) target.entry; plainly = plainly } ∷ []) }
+    ensures { result ≡ denied_in acl.now client.now
+        (record { letter = letter; target = option_map (λ t. t.now) target.entry; plainly = plainly } ∷ []) }
 {
     let verdict = acl.decide(client, letter, target);
     if verdict.allowed && !(plainly && verdict.limits.is_some()) {
@@ -71,7 +73,8 @@ pub fn denied_in(
 
 /// The refusal of one operation, where an access list does not allow it.
 pub fn denial(given: &Given, letter: u8, target: Option<&Name>) -> Option<Refusal>
-    ensures { result ≡ denial_of (option_map (λ acl. acl.now) given.now.acl) given.now.client.now (record { letter = letter; target = option_map (λ t. t.now) target.entry; plainly = false } ∷ []) }
+    ensures { result ≡ denial_of (option_map (λ acl. acl.now) given.now.acl) given.now.client.now
+        (record { letter = letter; target = option_map (λ t. t.now) target.entry; plainly = false } ∷ []) }
 {
     match given.acl {
         Some(acl) => denied_in(acl, given.client, letter, target, false),
@@ -81,7 +84,8 @@ pub fn denial(given: &Given, letter: u8, target: Option<&Name>) -> Option<Refusa
 
 /// The refusal of an operation on a principal that everybody has on the own one.
 pub fn own_denial(given: &Given, own: bool, letter: u8, name: &Name) -> Option<Refusal>
-    ensures { result ≡ denial_unless own (option_map (λ acl. acl.now) given.now.acl) given.now.client.now (record { letter = letter; target = Some name.now; plainly = false } ∷ []) }
+    ensures { result ≡ denial_unless own (option_map (λ acl. acl.now) given.now.acl) given.now.client.now
+        (record { letter = letter; target = Some name.now; plainly = false } ∷ []) }
 {
     match given.acl {
         Some(acl) => {
@@ -97,7 +101,8 @@ pub fn own_denial(given: &Given, own: bool, letter: u8, name: &Name) -> Option<R
 /// A change or an extraction is of a principal with the database's own keys.
 #[tactic(auto, unfolding(kdb_model::specs::Refusals::is_protected))]
 pub fn protection(given: &Given, text: &[u8]) -> Option<Refusal>
-    ensures { (name : NameParts) → text.now ≡ printed name → result ≡ when (list_any (is_protected given.now.realm.now) (name ∷ [])) Refusal.Protected }
+    ensures { (name : NameParts) → text.now ≡ printed name
+        → result ≡ when (list_any (is_protected given.now.realm.now) (name ∷ [])) Refusal.Protected }
 {
     let own = is_master_name(given.realm, text) || is_history_name(given.realm, text);
     when(own, Refusal::Protected)
@@ -133,7 +138,8 @@ pub fn present<T: Copy>(
 
 /// There are as many rows as there may be.
 pub fn fullness(given: &Given) -> Option<Refusal>
-    ensures { result ≡ when (nat_le most_rows (length given.now.rows.now.princs + length given.now.rows.now.policies)) (Refusal.RowsFull most_rows) }
+    ensures { result ≡ when (nat_le most_rows (length given.now.rows.now.princs + length given.now.rows.now.policies))
+        (Refusal.RowsFull most_rows) }
 {
     let rows = given.rows.princs().len() + given.rows.policies().len();
     when(
@@ -146,7 +152,8 @@ pub fn fullness(given: &Given) -> Option<Refusal>
 
 /// Principals name the policy.
 pub fn use_of(given: &Given, policy: &[u8]) -> Option<Refusal>
-    ensures { result ≡ when (nat_lt 0 (records_with_policy policy.now given.now.rows.now.princs)) (Refusal.PolicyInUse (records_with_policy policy.now given.now.rows.now.princs)) }
+    ensures { result ≡ when (nat_lt 0 (records_with_policy policy.now given.now.rows.now.princs))
+        (Refusal.PolicyInUse (records_with_policy policy.now given.now.rows.now.princs)) }
 {
     let count = records_with_policy(given.rows, policy) as u32;
     when(count > 0, Refusal::PolicyInUse { count })
@@ -170,7 +177,8 @@ fn is_locked(found: Option<&Princ>) -> bool
 
 /// The keys of the principal are locked down, over a connection.
 pub fn lockdown(given: &Given, found: Option<&Princ>) -> Option<Refusal>
-    ensures { result ≡ when (is_some (option_map (λ acl. acl.now) given.now.acl) && is_locked_record (option_map (λ p. p.now) found.entry)) Refusal.LockedDown }
+    ensures { result ≡ when (is_some (option_map (λ acl. acl.now) given.now.acl)
+        && is_locked_record (option_map (λ p. p.now) found.entry)) Refusal.LockedDown }
 {
     when(given.acl.is_some() && is_locked(found), Refusal::LockedDown)
 }

@@ -121,7 +121,8 @@ pub fn plan_list_policies(
 
 /// The letters that a client has for operations without a target.
 fn granted(alloc: Global, acl: &Acl, client: &Name) -> Result<Vec<u8>, MemoryOut>
-    ensures { IfOk result (λ letters. letters.items ≡ filter (λ letter. (decision acl.now client.now letter None).allowed) (codes "admcilspe")) }
+    ensures { IfOk result (λ letters.
+        letters.items ≡ filter (λ letter. (decision acl.now client.now letter None).allowed) (codes "admcilspe")) }
 {
     let letters = LETTERS
         .iter()
@@ -133,7 +134,8 @@ fn granted(alloc: Global, acl: &Acl, client: &Name) -> Result<Vec<u8>, MemoryOut
 
 /// The letters that the client has for operations without a target, and all without an access list.
 fn privileges(alloc: Global, given: &Given) -> Result<Blob, MemoryOut>
-    ensures { IfOk result (λ letters. letters ≡ privileges_by given.now.client.now (option_map (λ acl. acl.now) given.now.acl)) }
+    ensures { IfOk result
+        (λ letters. letters ≡ privileges_by given.now.client.now (option_map (λ acl. acl.now) given.now.acl)) }
 {
     match given.acl {
         Some(acl) => {

@@ -34,7 +34,8 @@ fn least_version(named: Option<u16>, items: &[KeyItem]) -> u16
 
 /// The record without keys of earlier versions.
 fn purged(alloc: Global, given: &Given, c: &PurgeKeys, princ: &Princ) -> Result<Princ, MemoryOut>
-    ensures princ { IfOk result (λ p. p ≡ record (marked (by_given given.now) princ.now) { keys = kept_from (unwrap_or c.now.keep (newest_version princ.now.keys)) princ.now.keys }) }
+    ensures princ { IfOk result (λ p. p ≡ record (marked (by_given given.now) princ.now)
+        { keys = kept_from (unwrap_or c.now.keep (newest_version princ.now.keys)) princ.now.keys }) }
     ensures by { IfOk result (λ p. IsBy (by_given given.now)) }
 {
     let least = least_version(c.keep, princ.keys.as_slice());

@@ -101,7 +101,8 @@ fn extracts(alloc: Global, items: &[PlainItem]) -> Result<ExtractList, MemoryOut
 /// The newest keys of a record. Where no listed master key opens them, want of memory is answered: rows that show a
 /// state have none such.
 fn extracted(alloc: Global, given: &Given, princ: &Princ) -> Result<ExtractList, MemoryOut>
-    ensures { (master : Key) (plain : List PlainItem) → master_of given.now.masters.now princ.now.mkvno ≡ Some master → AllZip (ShowsItem master) princ.now.keys plain → IfOk result (λ list. list ≡ extracts plain) }
+    ensures { (master : Key) (plain : List PlainItem) → master_of given.now.masters.now princ.now.mkvno ≡ Some master
+        → AllZip (ShowsItem master) princ.now.keys plain → IfOk result (λ list. list ≡ extracts plain) }
 {
     match master_of(given.masters, princ.mkvno) {
         Some(master) => {

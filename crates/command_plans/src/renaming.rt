@@ -35,7 +35,8 @@ use std::alloc::Global;
 /// The refusal of a deletion and of an addition without restrictions.
 #[tactic(auto, unfolding(kdb_model::specs::Access::denied_in))]
 fn denial_of_both(given: &Given, old: &Name, new: &Name) -> Option<Refusal>
-    ensures { result ≡ denial_of (option_map (λ acl. acl.now) given.now.acl) given.now.client.now (asking deleting old.now ∷ record { letter = adding; target = Some new.now; plainly = true } ∷ []) }
+    ensures { result ≡ denial_of (option_map (λ acl. acl.now) given.now.acl) given.now.client.now
+        (asking deleting old.now ∷ record { letter = adding; target = Some new.now; plainly = true } ∷ []) }
 {
     match given.acl {
         Some(acl) => match denied_in(acl, given.client, b'd', Some(old), false) {
@@ -49,7 +50,8 @@ fn denial_of_both(given: &Given, old: &Name, new: &Name) -> Option<Refusal>
 /// One of both is a principal with the database's own keys.
 #[tactic(auto, unfolding(kdb_model::specs::Refusals::is_protected))]
 fn protection_of_both(given: &Given, old: &[u8], new: &[u8]) -> Option<Refusal>
-    ensures { (a b : NameParts) → old.now ≡ printed a → new.now ≡ printed b → result ≡ when (list_any (is_protected given.now.realm.now) (a ∷ b ∷ [])) Refusal.Protected }
+    ensures { (a b : NameParts) → old.now ≡ printed a → new.now ≡ printed b
+        → result ≡ when (list_any (is_protected given.now.realm.now) (a ∷ b ∷ [])) Refusal.Protected }
 {
     let realm = given.realm;
     let first = is_master_name(realm, old) || is_history_name(realm, old);
@@ -59,7 +61,8 @@ fn protection_of_both(given: &Given, old: &[u8], new: &[u8]) -> Option<Refusal>
 
 /// The record under its new name. Keys of the old name's salt keep it.
 fn renamed(alloc: Global, given: &Given, c: &RenPrinc, princ: &Princ) -> Result<Princ, MemoryOut>
-    ensures princ { IfOk result (λ p. p ≡ record (renamed_head (printed c.now.new_name) (by_given given.now) princ.now) { keys = settled_keys c.now.name princ.now.keys }) }
+    ensures princ { IfOk result (λ p. p ≡ record (renamed_head (printed c.now.new_name) (by_given given.now) princ.now)
+        { keys = settled_keys c.now.name princ.now.keys }) }
     ensures by { IfOk result (λ p. IsBy (by_given given.now)) }
 {
     let name = print_name(alloc, &c.new_name)?;

@@ -23,7 +23,8 @@ use std::alloc::Global;
 
 /// The record with one more attribute.
 fn with_one(alloc: Global, given: &Given, c: &SetString, princ: &Princ) -> Result<Princ, MemoryOut>
-    ensures princ { IfOk result (λ p. p ≡ record (marked (by_given given.now) princ.now) { strings = with_string c.now.key c.now.value princ.now.strings }) }
+    ensures princ { IfOk result (λ p. p ≡ record (marked (by_given given.now) princ.now)
+        { strings = with_string c.now.key c.now.value princ.now.strings }) }
     ensures by { IfOk result (λ p. IsBy (by_given given.now)) }
 {
     let mut made = copy(alloc, princ)?;
@@ -78,7 +79,8 @@ fn without_one(
     c: &DelString,
     princ: &Princ,
 ) -> Result<Princ, MemoryOut>
-    ensures princ { IfOk result (λ p. p ≡ record (marked (by_given given.now) princ.now) { strings = without_string c.now.key princ.now.strings }) }
+    ensures princ { IfOk result (λ p.
+        p ≡ record (marked (by_given given.now) princ.now) { strings = without_string c.now.key princ.now.strings }) }
     ensures by { IfOk result (λ p. IsBy (by_given given.now)) }
 {
     let mut made = copy(alloc, princ)?;

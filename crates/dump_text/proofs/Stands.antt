@@ -29,7 +29,8 @@ pub title_from : (line : List ℕ) (v : Version) → version_of line ≡ Some v 
 unfolding version_of
 title_from line v e = by (bytes_eq line (title One)) (bytes_eq line (title Two)) refl refl e
   where
-    by : (b c : Bool) → bytes_eq line (title One) ≡ b → bytes_eq line (title Two) ≡ c → cond b (Some One) (cond c (Some Two) None) ≡ Some v → line ≡ title v
+    by : (b c : Bool) → bytes_eq line (title One) ≡ b → bytes_eq line (title Two) ≡ c
+        → cond b (Some One) (cond c (Some Two) None) ≡ Some v → line ≡ title v
     by true c is other f = same_bytes line (title One) is ∙ ap title (same_Some One v f)
     by false true not is f = same_bytes line (title Two) is ∙ ap title (same_Some Two v f)
     by false false not nor f = absurd cc

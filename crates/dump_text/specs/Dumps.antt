@@ -53,7 +53,8 @@ abbrev pub row_count : RowLists → ℕ
 row_count rows = length rows.princs + length rows.policies
 
 unfoldable pub dump_text : Version → List ℕ → Point → RowLists → List ℕ
-dump_text version realm point rows = head_text version realm point ++ (rows_text rows ++ ended (end_line (row_count rows)))
+dump_text version realm point rows =
+    head_text version realm point ++ (rows_text rows ++ ended (end_line (row_count rows)))
 
 -- ---- the same with a mark before each line
 
@@ -62,11 +63,14 @@ abbrev pub marked : List ℕ → List ℕ → List ℕ
 marked mark line = mark ++ ended line
 
 unfoldable pub marked_head : List ℕ → Version → List ℕ → Point → List ℕ
-marked_head mark version realm point = marked mark (title version) ++ (marked mark (realm_line realm) ++ marked mark (point_line point))
+marked_head mark version realm point =
+    marked mark (title version) ++ (marked mark (realm_line realm) ++ marked mark (point_line point))
 
 unfoldable pub marked_rows : List ℕ → RowLists → List ℕ
-marked_rows mark rows = flat_map (λ p. marked mark (princ_line p)) rows.princs ++ flat_map (λ p. marked mark (policy_line p)) rows.policies
+marked_rows mark rows =
+    flat_map (λ p. marked mark (princ_line p)) rows.princs ++ flat_map (λ p. marked mark (policy_line p)) rows.policies
 
 -- without a mark, this is the text of the dump
 unfoldable pub marked_text : List ℕ → Version → List ℕ → Point → RowLists → List ℕ
-marked_text mark version realm point rows = marked_head mark version realm point ++ (marked_rows mark rows ++ marked mark (end_line (row_count rows)))
+marked_text mark version realm point rows =
+    marked_head mark version realm point ++ (marked_rows mark rows ++ marked mark (end_line (row_count rows)))

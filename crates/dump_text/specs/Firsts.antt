@@ -13,5 +13,6 @@ pub record IsFirstBad (text : List ℕ) (line : ℕ) : Type 0 where
   pub number : line ≡ line_behind before
   pub within : before ≤ length (lines_of text).whole
   pub begins : BeginsDump (flat_map ended (take before (lines_of text).whole))
-  pub breaks : before < length (lines_of text).whole → BeginsDump (flat_map ended (take (suc before) (lines_of text).whole)) → ⊥
+  pub breaks : before < length (lines_of text).whole
+      → BeginsDump (flat_map ended (take (suc before) (lines_of text).whole)) → ⊥
   pub misses : before ≡ length (lines_of text).whole → (dump : Dump) → IsDumpText text dump → ⊥

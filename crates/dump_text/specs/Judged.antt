@@ -1,5 +1,6 @@
 -- What a text is: the dump that it spells, or the first line that breaks it.
-use Rattle.std.specs.Prelude.{ℕ, ◌+◌, ◌≡◌, ◌&&◌, Bool, true, false, List, [], ◌∷◌, ◌++◌, codes, length, Option, Some, None, option_map, option_and_then, Result, Ok, Err, nat_eq, nat_le, min, if◌then◌else◌}
+use Rattle.std.specs.Prelude.{ℕ, ◌+◌, ◌≡◌, ◌&&◌, Bool, true, false, List, [], ◌∷◌, ◌++◌, codes, length, Option, Some}
+use Rattle.std.specs.Prelude.{None, option_map, option_and_then, Result, Ok, Err, nat_eq, nat_le, min, if◌then◌else◌}
 use Rattle.std.specs.List.{All}
 use Rattle.std.specs.Str.{bytes_eq}
 use Rattle.hex.specs.Hex.{IsBytes}
@@ -37,7 +38,8 @@ rows_of s = record { princs = s.princs; policies = s.policies }
 
 -- as many rows as there may be, each behind the one before it
 abbrev pub is_in_order : RowLists → Bool
-is_in_order rows = nat_le (row_count rows) most_rows && (rises_from None (princ_keys rows.princs) && rises_from None (policy_keys rows.policies))
+is_in_order rows = nat_le (row_count rows) most_rows
+    && (rises_from None (princ_keys rows.princs) && rises_from None (policy_keys rows.policies))
 
 abbrev pub when_in_order : Said → Option Said
 when_in_order s = if is_in_order (rows_of s) then Some s else None
@@ -55,7 +57,8 @@ after_point s line = option_map (λ p. record s { point = Some p }) (point_in li
 
 -- no principal stands behind a policy
 unfoldable pub with_princ : Said → Princ → Option Said
-with_princ s p = if nat_eq (length s.policies) 0 then when_in_order (record s { princs = s.princs ++ (p ∷ []) }) else None
+with_princ s p =
+    if nat_eq (length s.policies) 0 then when_in_order (record s { princs = s.princs ++ (p ∷ []) }) else None
 
 unfoldable pub with_policy : Said → Rules → Option Said
 with_policy s p = when_in_order (record s { policies = s.policies ++ (p ∷ []) })
@@ -117,7 +120,8 @@ said_or bad (Some s) next = next s
 -- what lines and the bytes behind them are, where so many lines said this
 unfoldable pub judged_lines : Said → ℕ → List (List ℕ) → List ℕ → Result Dump ℕ
 judged_lines s count [] rest = dump_or_bad (line_behind count) (dump_of s) rest
-judged_lines s count (line ∷ lines) rest = said_or (Err (line_behind count)) (after s line) (λ t. judged_lines t (line_behind count) lines rest)
+judged_lines s count (line ∷ lines) rest =
+    said_or (Err (line_behind count)) (after s line) (λ t. judged_lines t (line_behind count) lines rest)
 
 -- the same of a text
 unfoldable pub judged_from : Said → ℕ → List ℕ → Result Dump ℕ

@@ -14,7 +14,8 @@ unfoldable pub lines_of : List ℕ → Lines
 lines_of [] = record { whole = []; rest = [] }
 lines_of (b ∷ text) =
     let behind = lines_of text in
-    if b == 10 then record { whole = [] ∷ behind.whole; rest = behind.rest } else in_front (b ∷ []) behind.whole behind.rest
+    if b == 10 then record { whole = [] ∷ behind.whole; rest = behind.rest }
+    else in_front (b ∷ []) behind.whole behind.rest
 
 -- no byte of these is a line feed
 unfoldable pub lacks : ℕ → List ℕ → Bool

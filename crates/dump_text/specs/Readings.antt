@@ -1,5 +1,6 @@
 -- What the lines of a dump say.
-use Rattle.std.specs.Prelude.{ℕ, ◌-◌, ◌==◌, ◌&&◌, Bool, List, [], ◌∷◌, codes, length, take, drop, Option, Some, None, option_and_then, Result, Ok, Err, nat_lt, if◌then◌else◌}
+use Rattle.std.specs.Prelude.{ℕ, ◌-◌, ◌==◌, ◌&&◌, Bool, List, [], ◌∷◌, codes, length, take, drop, Option}
+use Rattle.std.specs.Prelude.{Some, None, option_and_then, Result, Ok, Err, nat_lt, if◌then◌else◌}
 use Rattle.std.specs.Str.{bytes_eq}
 use Rattle.hex.specs.Hex.{decode_of, encode_lower}
 use Rattle.hex.specs.declared.error.FromHexError.{FromHexError}
@@ -42,7 +43,8 @@ behind_blank (b ∷ text) = if b == 32 then text else behind_blank text
 
 -- the last six digits are microseconds, and a dot stands before them
 unfoldable pub near_time : List ℕ → Moment
-near_time text = record { secs = decimal_value (take (length text - 7) text); usecs = decimal_value (drop (length text - 6) text) }
+near_time text =
+    record { secs = decimal_value (take (length text - 7) text); usecs = decimal_value (drop (length text - 6) text) }
 
 unfoldable pub near_point : List ℕ → Point
 near_point text = record { sno = decimal_value (before_blank text); time = near_time (behind_blank text) }
@@ -65,11 +67,13 @@ bytes_or_none (Err e) = None
 
 -- the bytes that are written so in lower case
 unfoldable pub hex_of : List ℕ → Option (List ℕ)
-hex_of text = option_and_then (λ bytes. if bytes_eq (encode_lower bytes) text then Some bytes else None) (bytes_or_none (decode_of text))
+hex_of text = option_and_then (λ bytes. if bytes_eq (encode_lower bytes) text then Some bytes else None)
+    (bytes_or_none (decode_of text))
 
 -- the principal that may stand in a dump of this version
 unfoldable pub princ_of : Version → List ℕ → Option Princ
-princ_of version text = option_and_then (λ p. if stands_in version p then Some p else None) (option_and_then (λ bytes. whole princ_at bytes) (hex_of text))
+princ_of version text = option_and_then (λ p. if stands_in version p then Some p else None)
+    (option_and_then (λ bytes. whole princ_at bytes) (hex_of text))
 
 unfoldable pub policy_of : List ℕ → Option Rules
 policy_of text = option_and_then (λ bytes. whole policy_at bytes) (hex_of text)

@@ -22,7 +22,8 @@ pub fn dumps_have_their_own_texts()
 
 /// A dump goes on with lines of which none is bad.
 pub fn good_lines_begin_a_dump()
-    ensures { (text : List ℕ) (s : Said) → (lines_of text).rest ≡ [] → said_by nothing (lines_of text).whole ≡ Some s → BeginsDump text }
+    ensures { (text : List ℕ) (s : Said) → (lines_of text).rest ≡ [] → said_by nothing (lines_of text).whole ≡ Some s
+        → BeginsDump text }
 {}
 
 /// No dump goes on with a text that is bad whatever comes behind it.

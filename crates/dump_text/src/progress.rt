@@ -1,10 +1,12 @@
 //! What the lines of a dump said so far.
-ghost use Rattle.std.specs.Prelude.{◌≡◌, ◌+◌, ◌<◌, ◌++◌, ◌∷◌, [], List, ℕ, Bool, None, Some, true, false, length, map, take, codes, is_some, option_and_then, if◌then◌else◌, IfOk, OnOk};
+ghost use Rattle.std.specs.Prelude.{◌≡◌, ◌+◌, ◌<◌, ◌++◌, ◌∷◌, [], List, ℕ, Bool, None, Some, true, false, length};
+ghost use Rattle.std.specs.Prelude.{map, take, codes, is_some, option_and_then, if◌then◌else◌, IfOk, OnOk};
 ghost use Rattle.princ_record.specs.RowLimits.{IsRow};
 ghost use Rattle.princ_record.specs.Policies.{IsPolicy};
 ghost use Rattle.princ_rows.specs.Rows.{AreRows};
 ghost use Rattle.tagged_data.specs.KeyOrder.{is_behind, rises_from};
-ghost use Rattle.dump_text.specs.Judged.{after, after_end, after_point, after_realm, after_row, after_title, dump_of, nothing, policy_or_end, realm_or_later, rows_of, with_policy, with_princ};
+ghost use Rattle.dump_text.specs.Judged.{after, after_end, after_point, after_realm, after_row, after_title, dump_of};
+ghost use Rattle.dump_text.specs.Judged.{nothing, policy_or_end, realm_or_later, rows_of, with_policy, with_princ};
 ghost use Rattle.dump_text.specs.Reader.{Goes};
 ghost use Rattle.dump_text.specs.Readings.{behind, policy_of, princ_of};
 
@@ -74,7 +76,14 @@ impl Model for Progress {
 
     ghost Value = { Said };
 
-    ghost view = { λ p. record { titled = p.titled; realm = p.realm; point = p.point; princs = p.princs.items; policies = p.policies.items; ended = p.ended } };
+    ghost view = { λ p. record {
+      titled = p.titled;
+      realm = p.realm;
+      point = p.point;
+      princs = p.princs.items;
+      policies = p.policies.items;
+      ended = p.ended;
+    } };
 
     ghost invariant = { λ p. AreRows (record { princs = p.princs.items; policies = p.policies.items }) };
 }
@@ -258,7 +267,14 @@ impl Progress {
 
     /// This place.
     pub(crate) fn mark(&self) -> Mark
-        ensures { result ≡ record { titled = self.now.titled; has_realm = is_some self.now.realm; point = self.now.point; princs = length self.now.princs; policies = length self.now.policies; ended = self.now.ended } }
+        ensures { result ≡ record {
+          titled = self.now.titled;
+          has_realm = is_some self.now.realm;
+          point = self.now.point;
+          princs = length self.now.princs;
+          policies = length self.now.policies;
+          ended = self.now.ended;
+        } }
     {
         Mark {
             titled: self.titled,
@@ -272,7 +288,14 @@ impl Progress {
 
     /// Goes back to a place. Memory is not asked for.
     pub(crate) fn back_to(&mut self, mark: &Mark)
-        ensures { self.new ≡ record { titled = mark.now.titled; realm = (if mark.now.has_realm then self.old.realm else None); point = mark.now.point; princs = take mark.now.princs self.old.princs; policies = take mark.now.policies self.old.policies; ended = mark.now.ended } }
+        ensures { self.new ≡ record {
+          titled = mark.now.titled;
+          realm = (if mark.now.has_realm then self.old.realm else None);
+          point = mark.now.point;
+          princs = take mark.now.princs self.old.princs;
+          policies = take mark.now.policies self.old.policies;
+          ended = mark.now.ended;
+        } }
     {
         self.titled = mark.titled;
         self.realm = kept_if(mark.has_realm, self.realm.take());

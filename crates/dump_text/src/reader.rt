@@ -1,5 +1,6 @@
 //! A dump, read in pieces of any size.
-ghost use Rattle.std.specs.Prelude.{◌≡◌, ◌≢◌, ◌≤◌, ◌<◌, ◌++◌, [], List, ℕ, None, Some, Ok, Err, true, length, IfOk, IfSome, OnErr, OnOk};
+ghost use Rattle.std.specs.Prelude.{◌≡◌, ◌≢◌, ◌≤◌, ◌<◌, ◌++◌, [], List, ℕ, None, Some};
+ghost use Rattle.std.specs.Prelude.{Ok, Err, true, length, IfOk, IfSome, OnErr, OnOk};
 ghost use Rattle.dump_text.specs.Dumps.{row_count};
 ghost use Rattle.dump_text.specs.Judged.{after, judged_from, line_behind, rows_of, said_by};
 ghost use Rattle.dump_text.specs.Lines.{Cut, lacks, lines_of};
@@ -96,12 +97,14 @@ fn take_piece(
     piece: &[u8],
 ) -> Result<(), LineStop>
     requires { lacks 10 line.old.items ≡ true }
-    ensures same { OnOk result ((rest : List ℕ) → judged_from said.new count.new (line.new.items ++ rest) ≡ judged_from said.old count.old (line.old.items ++ (piece.now ++ rest))) }
+    ensures same { OnOk result ((rest : List ℕ) → judged_from said.new count.new (line.new.items ++ rest)
+        ≡ judged_from said.old count.old (line.old.items ++ (piece.now ++ rest))) }
     ensures whole { OnOk result (said_by said.old (lines_of (line.old.items ++ piece.now)).whole ≡ Some said.new) }
     ensures held { OnOk result (line.new.items ≡ (lines_of (line.old.items ++ piece.now)).rest) }
     ensures clear { OnOk result (lacks 10 line.new.items ≡ true) }
     ensures short { OnOk result (length line.new.items ≤ longest) }
-    ensures bad { result ≡ Err LineStop.Bad → (rest : List ℕ) → judged_from said.old count.old (line.old.items ++ (piece.now ++ rest)) ≡ Err (line_behind count.new) }
+    ensures bad { result ≡ Err LineStop.Bad → (rest : List ℕ)
+        → judged_from said.old count.old (line.old.items ++ (piece.now ++ rest)) ≡ Err (line_behind count.new) }
     ensures grows { Grows said.old said.new }
 {
     let mut rest = piece;
@@ -143,12 +146,14 @@ fn take_or_leave(
     piece: &[u8],
 ) -> Result<(), LineStop>
     requires { lacks 10 held.now ≡ true }
-    ensures same { OnOk result ((rest : List ℕ) → judged_from said.new count.new (line.new.items ++ rest) ≡ judged_from said.old count.old (held.now ++ (piece.now ++ rest))) }
+    ensures same { OnOk result ((rest : List ℕ) → judged_from said.new count.new (line.new.items ++ rest)
+        ≡ judged_from said.old count.old (held.now ++ (piece.now ++ rest))) }
     ensures whole { OnOk result (said_by said.old (lines_of (held.now ++ piece.now)).whole ≡ Some said.new) }
     ensures held { OnOk result (line.new.items ≡ (lines_of (held.now ++ piece.now)).rest) }
     ensures clear { OnOk result (lacks 10 line.new.items ≡ true) }
     ensures short { OnOk result (length line.new.items ≤ longest) }
-    ensures bad { result ≡ Err LineStop.Bad → (rest : List ℕ) → judged_from said.old count.old (held.now ++ (piece.now ++ rest)) ≡ Err (line_behind count.new) }
+    ensures bad { result ≡ Err LineStop.Bad → (rest : List ℕ)
+        → judged_from said.old count.old (held.now ++ (piece.now ++ rest)) ≡ Err (line_behind count.new) }
     ensures said { result ≡ Err LineStop.MemoryOut → said.new ≡ said.old }
     ensures count { result ≡ Err LineStop.MemoryOut → count.new ≡ count.old }
 {
@@ -216,11 +221,13 @@ impl DumpReader {
     #[tactic(auto, unfolding(crate::specs::Reader::judged_with))]
     pub fn feed(&mut self, piece: &[u8]) -> Result<(), DumpStop>
         // What the whole text is does not depend on how it is cut into pieces.
-        ensures same { OnOk result ((rest : List ℕ) → judged_with self.new rest ≡ judged_with self.old (piece.now ++ rest)) }
+        ensures same { OnOk result
+            ((rest : List ℕ) → judged_with self.new rest ≡ judged_with self.old (piece.now ++ rest)) }
         // No whole line so far is bad, and no line is too long.
         ensures fed { OnOk result (IsFed piece.now self.old self.new) }
         // Whatever comes, this line is the first bad one.
-        ensures bad { (line : ℕ) → result ≡ Err (DumpStop.DumpBad line) → (rest : List ℕ) → judged_with self.old (piece.now ++ rest) ≡ Err line }
+        ensures bad { (line : ℕ) → result ≡ Err (DumpStop.DumpBad line) → (rest : List ℕ)
+            → judged_with self.old (piece.now ++ rest) ≡ Err line }
         ensures stays { (line : ℕ) → result ≡ Err (DumpStop.DumpBad line) → self.new.bad ≡ Some line }
         ensures again { (line : ℕ) → self.old.bad ≡ Some line → result ≡ Err (DumpStop.DumpBad line) }
         ensures memory { result ≡ Err DumpStop.MemoryOut → self.new ≡ self.old }

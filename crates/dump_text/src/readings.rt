@@ -7,7 +7,9 @@ ghost use Rattle.princ_record.specs.Policies.{IsPolicy};
 ghost use Rattle.princ_record.specs.Princs.{IsPrinc, princ_at};
 ghost use Rattle.dump_text.specs.Reader.{Finds, FindsAs};
 ghost use Rattle.hex.specs.Hex.{decode_of};
-ghost use Rattle.dump_text.specs.Readings.{before_blank, behind, behind_blank, bytes_or_none, hex_of, is_point, near_point, near_time, point_in, policy_of, princ_of, realm_in, realm_of, written_so};
+ghost use Rattle.dump_text.specs.Readings.{before_blank, behind, behind_blank, bytes_or_none};
+ghost use Rattle.dump_text.specs.Readings.{hex_of, is_point, near_point, near_time, point_in};
+ghost use Rattle.dump_text.specs.Readings.{policy_of, princ_of, realm_in, realm_of, written_so};
 
 use crate::lines::print_point;
 use crate::stops::LineStop;

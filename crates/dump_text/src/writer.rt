@@ -6,7 +6,8 @@ ghost use Rattle.kdb_ports.specs.Parts.{SaidPart};
 ghost use Rattle.kdb_ports.specs.Told.{after_told};
 ghost use Rattle.princ_record.specs.RowLimits.{IsRow};
 ghost use Rattle.princ_record.specs.Princs.{IsPrinc};
-ghost use Rattle.dump_text.specs.Dumps.{dump_text, end_line, marked, marked_head, marked_rows, marked_text, policy_line, princ_line, row_count};
+ghost use Rattle.dump_text.specs.Dumps.{dump_text, end_line, marked, marked_head, marked_rows};
+ghost use Rattle.dump_text.specs.Dumps.{marked_text, policy_line, princ_line, row_count};
 ghost use Rattle.dump_text.specs.declared.versions.Version.TheVariants.{Two};
 ghost use Rattle.dump_text.specs.Parts.{Holds};
 
@@ -23,8 +24,8 @@ use std::alloc::Global;
 /// So many bytes are written at once, but for the last ones.
 const PAGE: usize = 65536;
 
-/// What the buffer holds at most: a page, and behind it a line, which spells a row in hexadecimal behind a mark of a few bytes and a
-/// word.
+/// What the buffer holds at most: a page, and behind it a line, which spells a row in hexadecimal behind a mark of a
+/// few bytes and a word.
 const ROOM: usize = PAGE + 2 * MAX_ROW_LEN + 64;
 
 /// Writes what is held, once it is a page.
@@ -50,8 +51,10 @@ fn write_princ<K: Sink>(
     out: &mut Vec<u8>,
 ) -> Result<(), WriteStop>
     requires { IsPrinc princ.now }
-    ensures ok { OnOk result (Holds (out.old.items ++ marked mark.now (princ_line princ.now)) (K.taken sink.old) (K.taken sink.new) out.new.items) }
-    ensures err { OnErr result (SaidPart (out.old.items ++ marked mark.now (princ_line princ.now)) (K.taken sink.old) (K.taken sink.new)) }
+    ensures ok { OnOk result (Holds (out.old.items ++ marked mark.now (princ_line princ.now)) (K.taken sink.old)
+        (K.taken sink.new) out.new.items) }
+    ensures err { OnErr result
+        (SaidPart (out.old.items ++ marked mark.now (princ_line princ.now)) (K.taken sink.old) (K.taken sink.new)) }
     ensures later { K.faults sink.old ≤ K.faults sink.new }
     ensures fault { result ≡ Err WriteStop.WriteFault → Rose (K.faults sink.old) (K.faults sink.new) }
 {
@@ -72,8 +75,10 @@ fn write_policy<K: Sink>(
     sink: &mut K,
     out: &mut Vec<u8>,
 ) -> Result<(), WriteStop>
-    ensures ok { OnOk result (Holds (out.old.items ++ marked mark.now (policy_line policy.now)) (K.taken sink.old) (K.taken sink.new) out.new.items) }
-    ensures err { OnErr result (SaidPart (out.old.items ++ marked mark.now (policy_line policy.now)) (K.taken sink.old) (K.taken sink.new)) }
+    ensures ok { OnOk result (Holds (out.old.items ++ marked mark.now (policy_line policy.now)) (K.taken sink.old)
+        (K.taken sink.new) out.new.items) }
+    ensures err { OnErr result
+        (SaidPart (out.old.items ++ marked mark.now (policy_line policy.now)) (K.taken sink.old) (K.taken sink.new)) }
     ensures later { K.faults sink.old ≤ K.faults sink.new }
     ensures fault { result ≡ Err WriteStop.WriteFault → Rose (K.faults sink.old) (K.faults sink.new) }
 {
@@ -95,8 +100,10 @@ fn write_princs<K: Sink>(
     out: &mut Vec<u8>,
 ) -> Result<(), WriteStop>
     requires { All IsRow princs.now }
-    ensures ok { OnOk result (Holds (out.old.items ++ flat_map (λ p. marked mark.now (princ_line p)) princs.now) (K.taken sink.old) (K.taken sink.new) out.new.items) }
-    ensures err { OnErr result (SaidPart (out.old.items ++ flat_map (λ p. marked mark.now (princ_line p)) princs.now) (K.taken sink.old) (K.taken sink.new)) }
+    ensures ok { OnOk result (Holds (out.old.items ++ flat_map (λ p. marked mark.now (princ_line p)) princs.now)
+        (K.taken sink.old) (K.taken sink.new) out.new.items) }
+    ensures err { OnErr result (SaidPart (out.old.items ++ flat_map (λ p. marked mark.now (princ_line p)) princs.now)
+        (K.taken sink.old) (K.taken sink.new)) }
     ensures later { K.faults sink.old ≤ K.faults sink.new }
     ensures fault { result ≡ Err WriteStop.WriteFault → Rose (K.faults sink.old) (K.faults sink.new) }
 {
@@ -117,8 +124,10 @@ fn write_policies<K: Sink>(
     sink: &mut K,
     out: &mut Vec<u8>,
 ) -> Result<(), WriteStop>
-    ensures ok { OnOk result (Holds (out.old.items ++ flat_map (λ p. marked mark.now (policy_line p)) policies.now) (K.taken sink.old) (K.taken sink.new) out.new.items) }
-    ensures err { OnErr result (SaidPart (out.old.items ++ flat_map (λ p. marked mark.now (policy_line p)) policies.now) (K.taken sink.old) (K.taken sink.new)) }
+    ensures ok { OnOk result (Holds (out.old.items ++ flat_map (λ p. marked mark.now (policy_line p)) policies.now)
+        (K.taken sink.old) (K.taken sink.new) out.new.items) }
+    ensures err { OnErr result (SaidPart (out.old.items ++ flat_map (λ p. marked mark.now (policy_line p)) policies.now)
+        (K.taken sink.old) (K.taken sink.new)) }
     ensures later { K.faults sink.old ≤ K.faults sink.new }
     ensures fault { result ≡ Err WriteStop.WriteFault → Rose (K.faults sink.old) (K.faults sink.new) }
 {
@@ -140,8 +149,10 @@ fn write_rows<K: Sink>(
     sink: &mut K,
     out: &mut Vec<u8>,
 ) -> Result<(), WriteStop>
-    ensures ok { OnOk result (Holds (out.old.items ++ marked_rows mark.now rows.now) (K.taken sink.old) (K.taken sink.new) out.new.items) }
-    ensures err { OnErr result (SaidPart (out.old.items ++ marked_rows mark.now rows.now) (K.taken sink.old) (K.taken sink.new)) }
+    ensures ok { OnOk result
+        (Holds (out.old.items ++ marked_rows mark.now rows.now) (K.taken sink.old) (K.taken sink.new) out.new.items) }
+    ensures err { OnErr result
+        (SaidPart (out.old.items ++ marked_rows mark.now rows.now) (K.taken sink.old) (K.taken sink.new)) }
     ensures later { K.faults sink.old ≤ K.faults sink.new }
     ensures fault { result ≡ Err WriteStop.WriteFault → Rose (K.faults sink.old) (K.faults sink.new) }
 {
@@ -162,8 +173,10 @@ fn write_end<K: Sink>(
     sink: &mut K,
     out: &mut Vec<u8>,
 ) -> Result<(), WriteStop>
-    ensures ok { OnOk result (K.taken sink.new ≡ after_told (K.taken sink.old) (out.old.items ++ marked mark.now (end_line count))) }
-    ensures err { OnErr result (SaidPart (out.old.items ++ marked mark.now (end_line count)) (K.taken sink.old) (K.taken sink.new)) }
+    ensures ok { OnOk result
+        (K.taken sink.new ≡ after_told (K.taken sink.old) (out.old.items ++ marked mark.now (end_line count))) }
+    ensures err { OnErr result
+        (SaidPart (out.old.items ++ marked mark.now (end_line count)) (K.taken sink.old) (K.taken sink.new)) }
     ensures later { K.faults sink.old ≤ K.faults sink.new }
     ensures fault { result ≡ Err WriteStop.WriteFault → Rose (K.faults sink.old) (K.faults sink.new) }
 {
@@ -200,8 +213,11 @@ fn write_body<K: Sink>(
     sink: &mut K,
     out: &mut Vec<u8>,
 ) -> Result<(), WriteStop>
-    ensures ok { OnOk result (K.taken sink.new ≡ after_told (K.taken sink.old) (out.old.items ++ (marked_rows mark.now rows.now ++ marked mark.now (end_line (row_count rows.now))))) }
-    ensures err { OnErr result (SaidPart (out.old.items ++ (marked_rows mark.now rows.now ++ marked mark.now (end_line (row_count rows.now)))) (K.taken sink.old) (K.taken sink.new)) }
+    ensures ok { OnOk result (K.taken sink.new ≡ after_told (K.taken sink.old)
+        (out.old.items ++ (marked_rows mark.now rows.now ++ marked mark.now (end_line (row_count rows.now))))) }
+    ensures err { OnErr result
+        (SaidPart (out.old.items ++ (marked_rows mark.now rows.now ++ marked mark.now (end_line (row_count rows.now))))
+        (K.taken sink.old) (K.taken sink.new)) }
     ensures later { K.faults sink.old ≤ K.faults sink.new }
     ensures fault { result ≡ Err WriteStop.WriteFault → Rose (K.faults sink.old) (K.faults sink.new) }
 {
@@ -215,8 +231,9 @@ fn write_body<K: Sink>(
     }
 }
 
-/// Writes the dump of a database in the second version with a mark before each line, line by line through a buffer of some 64 KB.
-/// After an error the sink has taken a front of it. WriteFault where the sink failed; only want of memory can refuse it otherwise.
+/// Writes the dump of a database in the second version with a mark before each line, line by line through a buffer of
+/// some 64 KB. After an error the sink has taken a front of it. WriteFault where the sink failed; only want of memory
+/// can refuse it otherwise.
 #[tactic(auto, unfolding(crate::specs::Dumps::marked_text))]
 pub fn write_marked<K: Sink>(
     alloc: Global,
@@ -227,9 +244,11 @@ pub fn write_marked<K: Sink>(
     sink: &mut K,
 ) -> Result<(), DumpStop>
     // The sink took these lines, and nothing else.
-    ensures ok { OnOk result (K.taken sink.new ≡ after_told (K.taken sink.old) (marked_text mark.now Two realm.now point rows.now)) }
+    ensures ok { OnOk result
+        (K.taken sink.new ≡ after_told (K.taken sink.old) (marked_text mark.now Two realm.now point rows.now)) }
     // The sink took a front of them, and nothing else.
-    ensures err { OnErr result (SaidPart (marked_text mark.now Two realm.now point rows.now) (K.taken sink.old) (K.taken sink.new)) }
+    ensures err { OnErr result
+        (SaidPart (marked_text mark.now Two realm.now point rows.now) (K.taken sink.old) (K.taken sink.new)) }
     ensures later { K.faults sink.old ≤ K.faults sink.new }
     ensures fault { result ≡ Err DumpStop.WriteFault → Rose (K.faults sink.old) (K.faults sink.new) }
     ensures not_bad { (line : ℕ) → result ≢ Err (DumpStop.DumpBad line) }
@@ -243,8 +262,8 @@ pub fn write_marked<K: Sink>(
     }
 }
 
-/// Writes the dump of a database in the second version, line by line through a buffer of some 64 KB. After an error the sink has
-/// taken a front of it. WriteFault where the sink failed; only want of memory can refuse it otherwise.
+/// Writes the dump of a database in the second version, line by line through a buffer of some 64 KB. After an error the
+/// sink has taken a front of it. WriteFault where the sink failed; only want of memory can refuse it otherwise.
 #[tactic(auto, unfolding(crate::specs::Dumps::dump_text, crate::specs::Dumps::head_text, crate::specs::Dumps::marked_head, crate::specs::Dumps::marked_rows, crate::specs::Dumps::marked_text, crate::specs::Dumps::rows_text))]
 pub fn write_dump<K: Sink>(
     alloc: Global,
@@ -254,9 +273,11 @@ pub fn write_dump<K: Sink>(
     sink: &mut K,
 ) -> Result<(), DumpStop>
     // The sink took the dump, and nothing else.
-    ensures ok { OnOk result (K.taken sink.new ≡ after_told (K.taken sink.old) (dump_text Two realm.now point rows.now)) }
+    ensures ok { OnOk result
+        (K.taken sink.new ≡ after_told (K.taken sink.old) (dump_text Two realm.now point rows.now)) }
     // The sink took a front of the dump, and nothing else.
-    ensures err { OnErr result (SaidPart (dump_text Two realm.now point rows.now) (K.taken sink.old) (K.taken sink.new)) }
+    ensures err { OnErr result
+        (SaidPart (dump_text Two realm.now point rows.now) (K.taken sink.old) (K.taken sink.new)) }
     ensures later { K.faults sink.old ≤ K.faults sink.new }
     ensures fault { result ≡ Err DumpStop.WriteFault → Rose (K.faults sink.old) (K.faults sink.new) }
     ensures not_bad { (line : ℕ) → result ≢ Err (DumpStop.DumpBad line) }

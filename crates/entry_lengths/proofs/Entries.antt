@@ -12,7 +12,8 @@ use Rattle.kdb_model.specs.Entries.{entry}
 use Rattle.kdb_model.specs.Refusals.{len_in, refusal}
 use Rattle.kdb_plain.specs.States.{history_key}
 use Rattle.kdb_plain.specs.declared.changes.PlainOp.{PlainOp}
-use Rattle.kdb_plain.specs.declared.changes.PlainOp.TheVariants.{PutPrinc, DropPrinc, Rename, PutPolicy, DropPolicy, PutMasters}
+use Rattle.kdb_plain.specs.declared.changes.PlainOp.TheVariants.{PutPrinc, DropPrinc, Rename}
+use Rattle.kdb_plain.specs.declared.changes.PlainOp.TheVariants.{PutPolicy, DropPolicy, PutMasters}
 use Rattle.kdb_plain.specs.declared.princs.PlainPrinc.{PlainPrinc}
 use Rattle.kdb_plain.specs.declared.states.State.{State}
 use Rattle.mkey_admin.proofs.MasterPuts.{master_len_is}
@@ -37,21 +38,25 @@ no_chain (Some part) e = absurd cc
 
 module _ (s : State) (history : Key) (is : history_key s.realm s.princs ≡ Some history) where
   -- a record without K/M's chain
-  row_told : (p : Princ) (q : PlainPrinc) → ShowsPrinc s.masters history p q → IsRow p → is_master q.name ≡ false → len_in s q ≡ length (princ p)
+  row_told : (p : Princ) (q : PlainPrinc) → ShowsPrinc s.masters history p q → IsRow p → is_master q.name ≡ false
+      → len_in s q ≡ length (princ p)
   row_told p q f row other =
       let name : p.name ≡ q.name = ap (λ (h : Princ). h.name) f.under.fields in
       len_is s history p q is f (no_chain p.chain (row.fits.facts.chain_there ∙ ap is_master name ∙ other))
 
-  put_told : (p : Princ) (q : PlainPrinc) (old new : List ℕ) → old ≡ new → ShowsPrinc s.masters history p q → IsRow p → is_master q.name ≡ false
+  put_told : (p : Princ) (q : PlainPrinc) (old new : List ℕ) → old ≡ new → ShowsPrinc s.masters history p q → IsRow p
+      → is_master q.name ≡ false
       → 21 + length old + length (princ p) ≡ 21 + length new + len_in s q
   put_told p q old new same f row other = omega (arith, ap (λ (n : List ℕ). length n) same, row_told p q f row other)
 
   dropped : (name other : List ℕ) → name ≡ other → 21 + length name + 0 ≡ 21 + length other
   dropped name other same = omega (arith, ap (λ (n : List ℕ). length n) same)
 
-  entry_long : (o : Op) (plain : PlainOp) → ShowsOp s.masters history o plain → IsOp (Some o) → IsOther plain → entry_len (Some o) ≡ entry_len_in s plain
+  entry_long : (o : Op) (plain : PlainOp) → ShowsOp s.masters history o plain → IsOp (Some o) → IsOther plain
+      → entry_len (Some o) ≡ entry_len_in s plain
   unfolding key_of row_of entry_len_in
-  entry_long (op.PutPrinc p) (PutPrinc q) h fits other = put_told p q p.name q.name (ap (λ (x : Princ). x.name) h.under.fields) h fits other
+  entry_long (op.PutPrinc p) (PutPrinc q) h fits other =
+      put_told p q p.name q.name (ap (λ (x : Princ). x.name) h.under.fields) h fits other
   entry_long (op.PutPrinc p) (DropPrinc l) h fits other = absurd h
   entry_long (op.PutPrinc p) (Rename l q) h fits other = absurd h
   entry_long (op.PutPrinc p) (PutPolicy q) h fits other = absurd h
@@ -85,8 +90,11 @@ module _ (s : State) (history : Key) (is : history_key s.realm s.princs ≡ Some
   entry_long (op.DropPolicy k) (PutMasters q kept activations) h fits other = absurd h
 
 -- a change that is accepted, of rows and of the state that they show
-pub entry_told : (rows : RowLists) (s : State) (call : Call) (o : Op) (plain : PlainOp) → refusal s call ≡ None → entry s call ≡ Some plain
+pub entry_told : (rows : RowLists) (s : State) (call : Call) (o : Op) (plain : PlainOp) → refusal s call ≡ None
+    → entry s call ≡ Some plain
     → ((history : Key) → history_key s.realm s.princs ≡ Some history → ShowsOp s.masters history o plain)
-    → Shows rows s → IsApplied rows o → IsRealm s.realm → IsCommand s.realm call.command → entry_len (Some o) ≡ entry_len_in s plain
+    → Shows rows s → IsApplied rows o → IsRealm s.realm → IsCommand s.realm call.command
+    → entry_len (Some o) ≡ entry_len_in s plain
 entry_told rows s call o plain accepted e shown shows applied realm own =
-    entry_long s shows.history shows.history_is o plain (shown shows.history shows.history_is) applied.spelled (entry_is_other s call realm plain accepted e own)
+    entry_long s shows.history shows.history_is o plain (shown shows.history shows.history_is) applied.spelled
+    (entry_is_other s call realm plain accepted e own)

@@ -21,7 +21,8 @@ use Rattle.kdb_plain.specs.Changes.{name_of}
 use Rattle.kdb_plain.specs.States.{policy_named, princ_named}
 use Rattle.kdb_plain.specs.Strings.{with_string, without_string}
 use Rattle.kdb_plain.specs.declared.changes.PlainOp.{PlainOp}
-use Rattle.kdb_plain.specs.declared.changes.PlainOp.TheVariants.{PutPrinc, DropPrinc, Rename, PutPolicy, DropPolicy, PutMasters}
+use Rattle.kdb_plain.specs.declared.changes.PlainOp.TheVariants.{PutPrinc, DropPrinc, Rename}
+use Rattle.kdb_plain.specs.declared.changes.PlainOp.TheVariants.{PutPolicy, DropPolicy, PutMasters}
 use Rattle.kdb_plain.specs.declared.princs.PlainPrinc.{PlainPrinc}
 use Rattle.kdb_plain.specs.declared.states.State.{State}
 use Rattle.master_keys.specs.First.{master_name}
@@ -46,15 +47,18 @@ IsOther (PutMasters q masters activations) = Unit {0}
 of_some : (x y : PlainOp) → ◌≡◌ {A = Option PlainOp} (Some x) (Some y) → x ≡ y
 of_some x y e = cc
 
-some_dead : (dead : List ℕ) (change : Option PlainOp) (op : PlainOp) → unless_none_dead dead change ≡ Some op → change ≡ Some op
+some_dead : (dead : List ℕ) (change : Option PlainOp) (op : PlainOp) → unless_none_dead dead change ≡ Some op
+    → change ≡ Some op
 some_dead [] change op e = absurd cc
 some_dead (version ∷ dead) change op e = e
 
 module _ (s : State) (call : Call) (is : IsRealm s.realm) where
-  other_put : (name : NameParts) (text : List ℕ) → text ≡ printed name → IsOwnName s.realm name → is_protected s.realm name ≡ false → is_master text ≡ false
+  other_put : (name : NameParts) (text : List ℕ) → text ≡ printed name → IsOwnName s.realm name
+      → is_protected s.realm name ≡ false → is_master text ≡ false
   other_put name text named own free = ap is_master named ∙ not_master s.realm name is own.own free
 
-  found_name : (name : NameParts) (q : PlainPrinc) → princ_named (printed name) s.princs ≡ Some q → q.name ≡ printed name
+  found_name : (name : NameParts) (q : PlainPrinc) → princ_named (printed name) s.princs ≡ Some q
+      → q.name ≡ printed name
   found_name name q there = named_so name_of (printed name) s.princs q (is_there (printed name) s.princs q there)
 
   rekeyed_name : (c : ChangeKeys) (q : PlainPrinc) → (rekeyed s call c q).name ≡ q.name
@@ -65,31 +69,41 @@ module _ (s : State) (call : Call) (is : IsRealm s.realm) where
   unfolding purged
   purged_name c q = refl
 
-  others : (cmd : Command) (op : PlainOp) → list_any (is_protected s.realm) (touched cmd) ≡ false → IsCommand s.realm cmd → entry_of s call cmd ≡ Some op → IsOther op
+  others : (cmd : Command) (op : PlainOp) → list_any (is_protected s.realm) (touched cmd) ≡ false
+      → IsCommand s.realm cmd → entry_of s call cmd ≡ Some op → IsOther op
   unfolding entry_of restrung renamed IsCommand adds_master uses_version purges_masters
   others (command.AddPrinc c) op free own e =
-      subst IsOther (of_some (PutPrinc (added s call c)) op e) (other_put c.name (added s call c).name (added_name s call c) own.0 (one_name s.realm c.name free))
+      subst IsOther (of_some (PutPrinc (added s call c)) op e)
+      (other_put c.name (added s call c).name (added_name s call c) own.0 (one_name s.realm c.name free))
   others (command.ModPrinc c) op free own e =
       let m = mapped (λ q. PutPrinc (modified s call c q)) (princ_named (printed c.name) s.princs) op e in
-      subst IsOther m.1.1 (other_put c.name (modified s call c m.0).name (modified_name s call c m.0 ∙ found_name c.name m.0 m.1.0) own.0 (one_name s.realm c.name free))
+      subst IsOther m.1.1 (other_put c.name (modified s call c m.0).name
+      (modified_name s call c m.0 ∙ found_name c.name m.0 m.1.0) own.0 (one_name s.realm c.name free))
   others (command.ChangeKeys c) op free own e =
       let m = mapped (λ q. PutPrinc (rekeyed s call c q)) (princ_named (printed c.name) s.princs) op e in
-      subst IsOther m.1.1 (other_put c.name (rekeyed s call c m.0).name (rekeyed_name c m.0 ∙ found_name c.name m.0 m.1.0) own.0 (one_name s.realm c.name free))
+      subst IsOther m.1.1 (other_put c.name (rekeyed s call c m.0).name
+      (rekeyed_name c m.0 ∙ found_name c.name m.0 m.1.0) own.0 (one_name s.realm c.name free))
   others (command.RenPrinc c) op free own e =
       let m = mapped (λ q. Rename (printed c.name) (renamed s call c q)) (princ_named (printed c.name) s.princs) op e in
-      subst IsOther m.1.1 (other_put c.new_name (renamed s call c m.0).name refl own.1 (two_names s.realm c.name c.new_name free).1)
+      subst IsOther m.1.1
+      (other_put c.new_name (renamed s call c m.0).name refl own.1 (two_names s.realm c.name c.new_name free).1)
   others (command.DelPrinc name) op free own e =
       let m = mapped (λ (_ : PlainPrinc). DropPrinc (printed name)) (princ_named (printed name) s.princs) op e in
       subst IsOther m.1.1 tt
   others (command.PurgeKeys c) op free own e =
       let m = mapped (λ q. PutPrinc (purged s call c q)) (princ_named (printed c.name) s.princs) op e in
-      subst IsOther m.1.1 (other_put c.name (purged s call c m.0).name (purged_name c m.0 ∙ found_name c.name m.0 m.1.0) own.0 (one_name s.realm c.name free))
+      subst IsOther m.1.1 (other_put c.name (purged s call c m.0).name
+      (purged_name c m.0 ∙ found_name c.name m.0 m.1.0) own.0 (one_name s.realm c.name free))
   others (command.SetString c) op free own e =
-      let m = mapped (λ q. PutPrinc (restrung s call (with_string c.key c.value q.strings) q)) (princ_named (printed c.name) s.princs) op e in
-      subst IsOther m.1.1 (other_put c.name (restrung s call (with_string c.key c.value m.0.strings) m.0).name (found_name c.name m.0 m.1.0) own.0 (one_name s.realm c.name free))
+      let m = mapped (λ q. PutPrinc (restrung s call (with_string c.key c.value q.strings) q))
+      (princ_named (printed c.name) s.princs) op e in
+      subst IsOther m.1.1 (other_put c.name (restrung s call (with_string c.key c.value m.0.strings) m.0).name
+      (found_name c.name m.0 m.1.0) own.0 (one_name s.realm c.name free))
   others (command.DelString c) op free own e =
-      let m = mapped (λ q. PutPrinc (restrung s call (without_string c.key q.strings) q)) (princ_named (printed c.name) s.princs) op e in
-      subst IsOther m.1.1 (other_put c.name (restrung s call (without_string c.key m.0.strings) m.0).name (found_name c.name m.0 m.1.0) own.0 (one_name s.realm c.name free))
+      let m = mapped (λ q. PutPrinc (restrung s call (without_string c.key q.strings) q))
+      (princ_named (printed c.name) s.princs) op e in
+      subst IsOther m.1.1 (other_put c.name (restrung s call (without_string c.key m.0.strings) m.0).name
+      (found_name c.name m.0 m.1.0) own.0 (one_name s.realm c.name free))
   others (command.AddPolicy p) op free own e = subst IsOther (of_some (PutPolicy p) op e) tt
   others (command.ModPolicy c) op free own e =
       let m = mapped (λ p. PutPolicy (changed_policy c p)) (policy_named c.name s.policies) op e in
@@ -98,8 +112,10 @@ module _ (s : State) (call : Call) (is : IsRealm s.realm) where
       let m = mapped (λ (_ : Rules). DropPolicy name) (policy_named name s.policies) op e in
       subst IsOther m.1.1 tt
   others (command.AddMaster etype) op free own e =
-      let n = chained (λ (newest : Master). on_master s (adds_master s (new_master (new_etype etype newest) call.random s.masters))) (last_or None s.masters) op e in
-      let m = mapped (adds_master s (new_master (new_etype etype n.0) call.random s.masters)) (princ_named (master_name s.realm) s.princs) op n.1.1 in
+      let n = chained (λ (newest : Master). on_master s
+      (adds_master s (new_master (new_etype etype newest) call.random s.masters))) (last_or None s.masters) op e in
+      let m = mapped (adds_master s (new_master (new_etype etype n.0) call.random s.masters))
+      (princ_named (master_name s.realm) s.princs) op n.1.1 in
       subst IsOther m.1.1 tt
   others (command.UseMaster c) op free own e =
       let m = mapped (uses_version s c.version (use_secs s call c)) (princ_named (master_name s.realm) s.princs) op e in
@@ -120,7 +136,8 @@ module _ (s : State) (call : Call) (is : IsRealm s.realm) where
   others command.Stash op free own e = absurd cc
   others command.Dump op free own e = absurd cc
 
-  pub entry_is_other : (op : PlainOp) → refusal s call ≡ None → entry s call ≡ Some op → IsCommand s.realm call.command → IsOther op
+  pub entry_is_other : (op : PlainOp) → refusal s call ≡ None → entry s call ≡ Some op
+      → IsCommand s.realm call.command → IsOther op
   entry_is_other op accepted_now e own =
       let a = accepted s call (entry s call) (accepted_parts s call accepted_now).0 in
       others call.command op a.unprotected own e

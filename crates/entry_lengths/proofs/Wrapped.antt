@@ -20,7 +20,8 @@ use Rattle.sha2_profile.specs.Sha2.{is_sha2}
 
 module _ (key : Key) (usage : ℕ) (confounder plain : List ℕ) (long : length key.bytes ≡ key_len key.etype) where
   -- under a key of RFC 3962
-  first_long : is_sha2 key.etype ≡ false → length (sha1.sealed key usage confounder plain) ≡ length confounder + length plain + tag_len key.etype
+  first_long : is_sha2 key.etype ≡ false
+      → length (sha1.sealed key usage confounder plain) ≡ length confounder + length plain + tag_len key.etype
   unfolding sha1.sealed sha1.encryption_key sha1.usage_key
   first_long other =
       let text = confounder ++ plain in
@@ -34,7 +35,8 @@ module _ (key : Key) (usage : ℕ) (confounder plain : List ℕ) (long : length 
       )
 
   -- and of RFC 8009
-  second_long : is_sha2 key.etype ≡ true → length (sha2.sealed key usage confounder plain) ≡ length confounder + length plain + tag_len key.etype
+  second_long : is_sha2 key.etype ≡ true
+      → length (sha2.sealed key usage confounder plain) ≡ length confounder + length plain + tag_len key.etype
   unfolding sha2.sealed sha2.encryption_key sha2.usage_key
   second_long other =
       let inner = kdf_long key.etype key.bytes (to_be_bytes w32 usage ++ 0xaa ∷ []) other in
@@ -48,7 +50,8 @@ module _ (key : Key) (usage : ℕ) (confounder plain : List ℕ) (long : length 
       )
 
   by_type : (test : Bool) → is_sha2 key.etype ≡ test
-      → length (if test then sha2.sealed key usage confounder plain else sha1.sealed key usage confounder plain) ≡ length confounder + length plain + tag_len key.etype
+      → length (if test then sha2.sealed key usage confounder plain else sha1.sealed key usage confounder plain)
+      ≡ length confounder + length plain + tag_len key.etype
   by_type true is = second_long is
   by_type false is = first_long is
 
@@ -56,7 +59,8 @@ module _ (key : Key) (usage : ℕ) (confounder plain : List ℕ) (long : length 
   unfolding sealed
   sealed_long = by_type (is_sha2 key.etype) refl
 
-pub wrapped_long : (master key : Key) (confounder : List ℕ) → length master.bytes ≡ key_len master.etype → length key.bytes ≡ key_len key.etype → length confounder ≡ 16
+pub wrapped_long : (master key : Key) (confounder : List ℕ) → length master.bytes ≡ key_len master.etype
+    → length key.bytes ≡ key_len key.etype → length confounder ≡ 16
     → length (wrapped master key confounder) ≡ wrapped_len master.etype key.etype
 unfolding wrapped wrapped_len
 wrapped_long master key confounder whole long sixteen =

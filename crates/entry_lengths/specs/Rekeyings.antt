@@ -1,4 +1,5 @@
--- The change of a state that a rekeying of one principal makes, and what is asked of a rekeying and of work that comes back.
+-- The change of a state that a rekeying of one principal makes, and what is asked of a rekeying and of work that comes
+-- back.
 use Rattle.std.specs.Prelude.{ℕ, ◌≡◌, true, false, List, length, Option, Some, option_and_then, option_map}
 use Rattle.kdb_base.specs.Moment.{Moment}
 use Rattle.kdb_histories.specs.Asks.{at_clock}

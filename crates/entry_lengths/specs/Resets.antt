@@ -1,5 +1,6 @@
 -- Whether a change begins the log anew, and the blocks of the log behind it, told of the state.
-use Rattle.std.specs.Prelude.{ℕ, ◌≡◌, ◌+◌, ◌*◌, ◌/◌, Bool, false, ◌||◌, nat_eq, nat_le, Option, Some, None, if◌then◌else◌}
+use Rattle.std.specs.Prelude.{ℕ, ◌≡◌, ◌+◌, ◌*◌, ◌/◌, Bool, false, ◌||◌, nat_eq}
+use Rattle.std.specs.Prelude.{nat_le, Option, Some, None, if◌then◌else◌}
 use Rattle.entry_lengths.specs.Lengths.{entry_len_in}
 use Rattle.entry_lengths.specs.Rekeyings.{rekeyed_in}
 use Rattle.iprop_truths.specs.Blocks.{block_for}

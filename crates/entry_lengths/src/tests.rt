@@ -219,8 +219,8 @@ fn entry_of_a_renaming_has_the_old_name(rt: HostRuntime) -> Result<(), Fail> {
     check(&rt, rt.alloc(), &op, (4096, 9122, 10240))
 }
 
-/// Behind `add_mkey -e aes128-sha2` K/M's wrapped keys have 50 and 66 bytes, and the new key has 46 under the first one.
-/// One of the two versions has an activation.
+/// Behind `add_mkey -e aes128-sha2` K/M's wrapped keys have 50 and 66 bytes, and the new key has 46 under the first
+/// one. One of the two versions has an activation.
 #[test]
 fn entry_of_master_keys_has_their_chain(rt: HostRuntime) -> Result<(), Fail> {
     let keys = vec![in rt.alloc();

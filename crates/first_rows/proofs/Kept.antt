@@ -1,5 +1,6 @@
 -- The records of a creation are rows.
-use Rattle.std.proofs.Common.{◌≡◌, ℕ, ◌*◌, ◌^◌, ◌<◌, ◌≤◌, false, List, [], ◌∷◌, length, Option, Some, None, refl, sym, ap, subst, arith}
+use Rattle.std.proofs.Common.{◌≡◌, ℕ, ◌*◌, ◌^◌, ◌<◌, ◌≤◌, false, List, [], ◌∷◌, length}
+use Rattle.std.proofs.Common.{Option, Some, None, refl, sym, ap, subst, arith}
 use Rattle.std.specs.List.{AllZip, sum_by}
 use Rattle.std.specs.Prelude.{reverse}
 use Rattle.std.specs.Option.{IsSome}
@@ -67,7 +68,8 @@ ticket_formed random = record {
 few_item_bytes : (master : Key) (item : KeyItem) (key : Key) → ShowsItem master item (item_of 1 key) → key_len item ≤ 84
 few_item_bytes master item key f = let blob = few_bytes f.holds in omega (arith, ap (λ s. length (salt_bytes s)) f.salt)
 
-pub few_items_bytes : (master : Key) (items : List KeyItem) (keys : List Key) → AllZip (ShowsItem master) items (items_of 1 keys)
+pub few_items_bytes : (master : Key) (items : List KeyItem) (keys : List Key)
+    → AllZip (ShowsItem master) items (items_of 1 keys)
     → sum_by key_len items ≤ 84 * length keys
 unfolding items_of
 few_items_bytes master [] keys h = omega arith
@@ -77,7 +79,8 @@ few_items_bytes master (i ∷ items) (k ∷ keys) h =
 
 -- ---- records other than K/M's
 
-module _ (realm : List ℕ) (is : IsRealm realm) (secs : ℕ) (short : secs < 2 ^ 32) (name : List ℕ) (printed : IsPrinted name)
+module _ (realm : List ℕ) (is : IsRealm realm) (secs : ℕ) (short : secs < 2 ^ 32) (name : List ℕ)
+    (printed : IsPrinted name)
     (other : is_master name ≡ false) (master : Key) where
   fields : AreFields (first_head realm name secs)
   unfolding first_head are_attributes
@@ -95,7 +98,8 @@ module _ (realm : List ℕ) (is : IsRealm realm) (secs : ℕ) (short : secs < 2 
     policy = tt;
   }
 
-  pub kept_row : (items : List KeyItem) (keys : List Key) → length keys ≤ 2 → AllZip (ShowsItem master) items (items_of 1 keys)
+  pub kept_row : (items : List KeyItem) (keys : List Key) → length keys ≤ 2
+      → AllZip (ShowsItem master) items (items_of 1 keys)
       → AreItems (items_of 1 keys) → IsRow (first_kept realm name secs items)
   unfolding first_head name_of
   kept_row items keys few h formed =
@@ -103,29 +107,37 @@ module _ (realm : List ℕ) (is : IsRealm realm) (secs : ℕ) (short : secs < 2 
       let admin = printed_short (admin_name realm) (admin_printed realm is) in
       let own = printed_short name printed in
       record {
-        fits = fields_fit p refl fields (items_to master items (items_of 1 keys) h formed) (record { few = omega arith; each = All-nil IsOldSet });
+        fits = fields_fit p refl fields (items_to master items (items_of 1 keys) h formed)
+            (record { few = omega arith; each = All-nil IsOldSet });
         short = omega (arith, length-princ p, few_items_bytes master items keys h, few, admin, own);
       }
 
-module _ (realm : List ℕ) (is : IsRealm realm) (secs : ℕ) (short : secs < 2 ^ 32) (master : Key) (random : List ℕ) (items : List KeyItem) where
-  pub history_row : AllZip (ShowsItem master) items (first_items history_types random) → IsRow (first_kept realm (history_name realm) secs items)
+module _ (realm : List ℕ) (is : IsRealm realm) (secs : ℕ) (short : secs < 2 ^ 32) (master : Key) (random : List ℕ)
+    (items : List KeyItem) where
+  pub history_row : AllZip (ShowsItem master) items (first_items history_types random)
+      → IsRow (first_kept realm (history_name realm) secs items)
   unfolding random_keys
-  history_row h = kept_row realm is secs short (history_name realm) (history_printed realm is) (history_other realm) master items
+  history_row h =
+      kept_row realm is secs short (history_name realm) (history_printed realm is) (history_other realm) master items
       (random_keys random history_types) (omega arith) h (history_formed random)
 
-  pub ticket_row : AllZip (ShowsItem master) items (first_items ticket_types random) → IsRow (first_kept realm (ticket_name realm) secs items)
+  pub ticket_row : AllZip (ShowsItem master) items (first_items ticket_types random)
+      → IsRow (first_kept realm (ticket_name realm) secs items)
   unfolding random_keys
-  ticket_row h = kept_row realm is secs short (ticket_name realm) (ticket_printed realm is) (ticket_other realm) master items
+  ticket_row h =
+      kept_row realm is secs short (ticket_name realm) (ticket_printed realm is) (ticket_other realm) master items
       (random_keys random ticket_types) (omega arith) h (ticket_formed random)
 
 -- ---- K/M
 
-few_key : (newest : Key) (item : KeyItem) (masters : List Master) → AllZip (IsKeyOf newest) (item ∷ []) masters → length item.wrapped ≤ 74
+few_key : (newest : Key) (item : KeyItem) (masters : List Master) → AllZip (IsKeyOf newest) (item ∷ []) masters
+    → length item.wrapped ≤ 74
 few_key newest item [] h = absurd h
 few_key newest item (m ∷ masters) h = few_bytes h.0.unwraps
 
 first_short : (realm : List ℕ) (key : Key) (secs : ℕ) (confounder : List ℕ) (masters : List Master) → IsRealm realm
-    → IsChain (first_record realm key secs confounder) masters → length (princ (first_record realm key secs confounder)) ≤ longest_row
+    → IsChain (first_record realm key secs confounder) masters
+    → length (princ (first_record realm key secs confounder)) ≤ longest_row
 unfolding first_record name_of
 first_short realm key secs confounder masters is chain =
     let p = first_record realm key secs confounder in
@@ -143,15 +155,18 @@ master_row p realm key secs confounder masters e is chain fits =
 
 -- ---- all of them
 
-pub three_rows : (realm : List ℕ) (a b c : Princ) (princs : List Princ) (policies : List Rules) → princs ≡ a ∷ b ∷ c ∷ [] → policies ≡ []
-    → a.name ≡ master_name realm → b.name ≡ history_name realm → c.name ≡ ticket_name realm → IsRow a → IsRow b → IsRow c
+pub three_rows : (realm : List ℕ) (a b c : Princ) (princs : List Princ) (policies : List Rules)
+    → princs ≡ a ∷ b ∷ c ∷ [] → policies ≡ []
+    → a.name ≡ master_name realm → b.name ≡ history_name realm → c.name ≡ ticket_name realm → IsRow a
+    → IsRow b → IsRow c
     → AreRows (record { princs = princs; policies = policies })
 unfolding rises_from
 three_rows realm a b c princs policies e f first second third row_a row_b row_c =
     let order : AreInOrder (a.name ∷ b.name ∷ c.name ∷ []) =
     subst (λ (n : List ℕ). AreInOrder (n ∷ b.name ∷ c.name ∷ [])) (sym first)
     (subst (λ (n : List ℕ). AreInOrder (master_name realm ∷ n ∷ c.name ∷ [])) (sym second)
-    (subst (λ (n : List ℕ). AreInOrder (master_name realm ∷ history_name realm ∷ n ∷ [])) (sym third) (names_rise realm))) in
+    (subst (λ (n : List ℕ). AreInOrder (master_name realm ∷ history_name realm ∷ n ∷ [])) (sym third)
+    (names_rise realm))) in
     let rows : AreRows (record { princs = a ∷ b ∷ c ∷ []; policies = [] }) =
     record {
       princ_order = order;

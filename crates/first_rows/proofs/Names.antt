@@ -31,7 +31,8 @@ module _ (realm : List ℕ) (is : IsRealm realm) where
   unfolding ticket_name parts
   ticket_printed =
       let short = (realm_text realm is).short in
-      let long : length (printed_parts parts) ≤ 190 = omega (arith, ap length parts_printed, length-append (codes "krbtgt/") realm) in
+      let long : length (printed_parts parts) ≤ 190 =
+      omega (arith, ap length parts_printed, length-append (codes "krbtgt/") realm) in
       let text = prints_in parts realm is ∙ ap (λ (front : List ℕ). front ++ 64 ∷ realm) parts_printed in
       (name_in parts realm, (is_name_in parts realm is (λ e. absurd cc) (omega arith) parts_stand long, sym text))
 

@@ -1,5 +1,6 @@
 -- What is sealed and wrapped under a key that has as many bytes as its type asks is opened by it.
-use Rattle.std.proofs.Common.{◌≡◌, ℕ, ◌<◌, Bool, true, false, List, ◌++◌, length, refl, sym, ap, subst, ◌^◌, length-append, arith}
+use Rattle.std.proofs.Common.{◌≡◌, ℕ, ◌<◌, Bool, true, false, List, ◌++◌, length}
+use Rattle.std.proofs.Common.{refl, sym, ap, subst, ◌^◌, length-append, arith}
 use Rattle.std.proofs.lemmas.List.{length-take-le}
 use Rattle.std.proofs.lemmas.List.Elements.{All-from_recursion, recursion_from_All}
 use Rattle.aes_cts.specs.BlockKeys.{AreBytes}
@@ -29,7 +30,8 @@ pub both_bytes : (xs ys : List ℕ) → AreBytes xs → AreBytes ys → AreBytes
 both_bytes xs ys h k = All-from_recursion IsByte (xs ++ ys)
     (sums.AreBytes-append xs ys (recursion_from_All IsByte xs h) (recursion_from_All IsByte ys k))
 
-module _ (key : Key) (usage : ℕ) (confounder plain : List ℕ) (long : length key.bytes ≡ key_len key.etype) (whole : length confounder ≡ 16)
+module _ (key : Key) (usage : ℕ) (confounder plain : List ℕ) (long : length key.bytes ≡ key_len key.etype)
+    (whole : length confounder ≡ 16)
     (bytes : AreBytes (confounder ++ plain)) where
   tag_1 : is_sha2 key.etype ≡ false → (text : List ℕ) → length (Sha1.tag key usage text) ≡ tag_len key.etype
   unfolding Sha1.tag
@@ -41,7 +43,8 @@ module _ (key : Key) (usage : ℕ) (confounder plain : List ℕ) (long : length 
   unfolding Sha1.encryption_key Sha1.usage_key
   text_1 = length-cts_at (Sha1.encryption_key key usage) (confounder ++ plain) (derived_long key _ long)
 
-  text_2 : is_sha2 key.etype ≡ true → length (cts (Sha2.encryption_key key usage) (confounder ++ plain)) ≡ length (confounder ++ plain)
+  text_2 : is_sha2 key.etype ≡ true
+      → length (cts (Sha2.encryption_key key usage) (confounder ++ plain)) ≡ length (confounder ++ plain)
   unfolding Sha2.encryption_key Sha2.usage_key
   text_2 is = length-cts_at (Sha2.encryption_key key usage) (confounder ++ plain) (kdf_long key.etype key.bytes _ is)
 
@@ -53,7 +56,8 @@ module _ (key : Key) (usage : ℕ) (confounder plain : List ℕ) (long : length 
     bytes = bytes;
     long = omega (
       arith,
-      length-append (cts (Sha1.encryption_key key usage) (confounder ++ plain)) (Sha1.tag key usage (confounder ++ plain)),
+      length-append (cts (Sha1.encryption_key key usage) (confounder ++ plain))
+          (Sha1.tag key usage (confounder ++ plain)),
       text_1,
       tag_1 other (confounder ++ plain),
       whole,
@@ -94,7 +98,8 @@ module _ (key : Key) (usage : ℕ) (confounder plain : List ℕ) (long : length 
           (from_sha2 key usage (Sha2.sealed key usage confounder plain) plain is (sealed_2 is))
 
 -- a whole key, wrapped under a whole master key
-pub is_wrapped : (master key : Key) (confounder : List ℕ) → IsWhole master → IsWhole key → length confounder ≡ 16 → AreBytes confounder
+pub is_wrapped : (master key : Key) (confounder : List ℕ) → IsWhole master → IsWhole key → length confounder ≡ 16
+    → AreBytes confounder
     → Unwraps master key.etype (wrapped master key confounder) key
 unfolding wrapped
 is_wrapped master key confounder m k whole bytes = record {

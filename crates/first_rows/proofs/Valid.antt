@@ -5,7 +5,8 @@ use Rattle.std.proofs.lemmas.Bool.{le-leb}
 use Rattle.std.proofs.lemmas.List.Elements.{All-from_recursion, All-nil}
 use Rattle.kdb_base.specs.Moment.{Moment}
 use Rattle.kdb_base.specs.declared.versions.Activation.{Activation}
-use Rattle.kdb_plain.specs.States.{HasItsPolicy, IsListed, IsValid, NeverRise, history_name, is_named, master_of, never_rise, princ_named}
+use Rattle.kdb_plain.specs.States.{HasItsPolicy, IsListed, IsValid, NeverRise, history_name}
+use Rattle.kdb_plain.specs.States.{is_named, master_of, never_rise, princ_named}
 use Rattle.kdb_plain.specs.declared.princs.PlainPrinc.{PlainPrinc}
 use Rattle.key_activation.specs.Activations.{active, begun, latest}
 use Rattle.master_keys.specs.First.{master_name}
@@ -17,7 +18,8 @@ use Rattle.princ_record.specs.Policies.{IsPolicy}
 use Rattle.tagged_data.specs.KeyOrder.{rises_from}
 use Rattle.tagged_data.specs.KeyOrderLaws.{in_order}
 use Rattle.first_rows.specs.Creation.{behind_history, behind_master, first_head, first_items, first_plain}
-use Rattle.first_rows.specs.Creation.{first_princs, first_state, history_types, master_key_of, ticket_name, ticket_types}
+use Rattle.first_rows.specs.Creation.{first_princs, first_state, history_types}
+use Rattle.first_rows.specs.Creation.{master_key_of, ticket_name, ticket_types}
 use Rattle.first_rows.specs.Parts.{IsSpec, SpecParts}
 use Rattle.row_keys.proofs.Sides.{found_first, passed}
 use Rattle.first_rows.proofs.Names.{master_is_other, names_rise}
@@ -29,23 +31,28 @@ active_one secs = rw (le-leb secs secs (omega arith)) refl
 
 module _ (realm : List ℕ) (secs : ℕ) where
   abbrev three : List PlainItem → List PlainItem → List PlainItem → List PlainPrinc
-  three a b c = first_plain realm (master_name realm) secs a ∷ first_plain realm (history_name realm) secs b ∷ first_plain realm (ticket_name realm)
+  three a b c = first_plain realm (master_name realm) secs a ∷ first_plain realm (history_name realm) secs b
+      ∷ first_plain realm (ticket_name realm)
       secs c ∷ []
 
-  pub master_there : (a b c : List PlainItem) → princ_named (master_name realm) (three a b c) ≡ Some (first_plain realm (master_name realm) secs a)
+  pub master_there : (a b c : List PlainItem)
+      → princ_named (master_name realm) (three a b c) ≡ Some (first_plain realm (master_name realm) secs a)
   unfolding princ_named first_head
   master_there a b c =
       let name = master_name realm in
       found_first (is_named name) (first_plain realm name secs a)
-      (first_plain realm (history_name realm) secs b ∷ first_plain realm (ticket_name realm) secs c ∷ []) (bytes_same name name refl)
+      (first_plain realm (history_name realm) secs b ∷ first_plain realm (ticket_name realm) secs c ∷ [])
+      (bytes_same name name refl)
 
-  pub history_there : (a b c : List PlainItem) → princ_named (history_name realm) (three a b c) ≡ Some (first_plain realm (history_name realm) secs b)
+  pub history_there : (a b c : List PlainItem)
+      → princ_named (history_name realm) (three a b c) ≡ Some (first_plain realm (history_name realm) secs b)
   unfolding princ_named first_head
   history_there a b c =
       let name = history_name realm in
       passed (is_named name) (first_plain realm (master_name realm) secs a)
       (first_plain realm name secs b ∷ first_plain realm (ticket_name realm) secs c ∷ []) (master_is_other realm)
-      ∙ found_first (is_named name) (first_plain realm name secs b) (first_plain realm (ticket_name realm) secs c ∷ []) (bytes_same name name refl)
+      ∙ found_first (is_named name) (first_plain realm name secs b) (first_plain realm (ticket_name realm) secs c ∷ [])
+      (bytes_same name name refl)
 
 module _ (spec : SpecParts) (now : Moment) (random : List ℕ) where
   abbrev own : List PlainItem

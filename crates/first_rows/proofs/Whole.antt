@@ -67,7 +67,8 @@ module _ (keyed : List ℕ → List ℕ) (each : (text : List ℕ) → IsText 20
   sum_text : (sum last : List ℕ) (count : ℕ) → IsText 20 sum → IsText 20 (fold xor_bytes sum (chain keyed last count))
   unfolding chain
   sum_text sum last zero f = f
-  sum_text sum last (suc count) f = sum_text (xor_bytes sum (keyed last)) (keyed last) count (xor_text 20 sum (keyed last) f (each last))
+  sum_text sum last (suc count) f =
+      sum_text (xor_bytes sum (keyed last)) (keyed last) count (xor_text 20 sum (keyed last) f (each last))
 
   block_text : (salt : List ℕ) (count number : ℕ) → 1 ≤ count → IsText 20 (block keyed salt count number)
   unfolding block xor_all chain
@@ -92,7 +93,8 @@ made_32 password salt count le =
     let f = block_text (hmac password) (hmac_text password) salt count 1 le in
     let g = block_text (hmac password) (hmac_text password) salt count 2 le in
     record {
-      long = length-take-le 32 (a ++ (b ++ [])) (omega (arith, length-append a (b ++ []), length-append b [], f.long, g.long));
+      long = length-take-le 32 (a ++ (b ++ []))
+          (omega (arith, length-append a (b ++ []), length-append b [], f.long, g.long));
       bytes = AreBytes-take 32 (a ++ (b ++ [])) (AreBytes-append a (b ++ []) f.bytes (AreBytes-append b [] g.bytes tt));
     }
 
@@ -138,18 +140,24 @@ key_inside Aes256 other = absurd cc
 key_inside Aes128Sha2 is = omega arith
 key_inside Aes256Sha2 is = omega arith
 
-kdf_len : (etype : Etype) (key label : List ℕ) → is_sha2 etype ≡ true → length (kdf etype key label (key_len etype)) ≡ key_len etype
+kdf_len : (etype : Etype) (key label : List ℕ) → is_sha2 etype ≡ true
+    → length (kdf etype key label (key_len etype)) ≡ key_len etype
 unfolding kdf
-kdf_len etype key label is = length-take-le (key_len etype) _ (omega (arith, length-hmac_of etype key, key_inside etype is))
+kdf_len etype key label is =
+    length-take-le (key_len etype) _ (omega (arith, length-hmac_of etype key, key_inside etype is))
 
 string_text_2 : (etype : Etype) (password salt : List ℕ) (count : ℕ) → is_sha2 etype ≡ true
     → IsText (key_len etype) (Sha2.string_key etype password salt count)
 unfolding Sha2.string_key
 string_text_2 etype password salt count is =
     let made = pbkdf2_of etype password (salt_name etype ++ 0 ∷ salt) count (key_len etype) in
-    record { long = kdf_len etype made (codes "kerberos") is; bytes = kdf_bytes etype made (codes "kerberos") (key_len etype) is }
+    record {
+      long = kdf_len etype made (codes "kerberos") is;
+      bytes = kdf_bytes etype made (codes "kerberos") (key_len etype) is;
+    }
 
-string_text : (etype : Etype) (password salt : List ℕ) (count : ℕ) → 1 ≤ count → IsText (key_len etype) (string_key etype password salt count)
+string_text : (etype : Etype) (password salt : List ℕ) (count : ℕ) → 1 ≤ count
+    → IsText (key_len etype) (string_key etype password salt count)
 unfolding string_key
 string_text etype password salt count le = by_kind (is_sha2 etype) refl
   where
@@ -186,7 +194,8 @@ drawn_whole etype random le h = record {
       (AreBytes-take (key_len etype) random h);
 }
 
-pub master_whole : (password : Option (List ℕ)) (realm : List ℕ) (etype : Etype) (random : List ℕ) → 32 ≤ length random → AreRandom random
+pub master_whole : (password : Option (List ℕ)) (realm : List ℕ) (etype : Etype) (random : List ℕ) → 32 ≤ length random
+    → AreRandom random
     → IsWhole (master_key_from password realm etype random)
 master_whole None realm etype random le h = drawn_whole etype random (omega (arith, key_fits etype, le)) h
 master_whole (Some password) realm etype random le h =

@@ -1,6 +1,6 @@
--- What a new database has, as MIT's kdb5_util create makes it: one master key, and the principals K/M, kadmin/history and krbtgt of the
--- realm. That kadmin/history has one key of type 18 and krbtgt keys of types 18 and 17, and where their bytes stand in the block of
--- random bytes, is this project's own rule.
+-- What a new database has, as MIT's kdb5_util create makes it: one master key, and the principals K/M, kadmin/history
+-- and krbtgt of the realm. That kadmin/history has one key of type 18 and krbtgt keys of types 18 and 17, and where
+-- their bytes stand in the block of random bytes, is this project's own rule.
 use Rattle.std.specs.Prelude.{ℕ, ◌+◌, true, List, [], ◌∷◌, ◌++◌, codes, drop, take, Option, Some, None}
 use Rattle.std.specs.List.{sum_by}
 use Rattle.kdb_base.specs.Etypes.{key_len}
@@ -26,7 +26,8 @@ use Rattle.first_rows.specs.Parts.{SpecParts}
 abbrev pub first_point : Moment → Point
 first_point now = record { sno = 1; time = now }
 
--- the printed name of the principal whose keys protect tickets: the components krbtgt and the realm, an `@` and the realm
+-- the printed name of the principal whose keys protect tickets: the components krbtgt and the realm, an `@` and the
+-- realm
 unfoldable pub ticket_name : List ℕ → List ℕ
 ticket_name realm = codes "krbtgt/" ++ (realm ++ 64 ∷ realm)
 
@@ -106,7 +107,8 @@ first_kept realm name secs items = record (first_head realm name secs) { keys = 
 
 -- with random keys of these types, wrapped under a master key
 abbrev pub first_wrapped : Key → List ℕ → List ℕ → ℕ → List Etype → List ℕ → Princ
-first_wrapped master realm name secs etypes random = first_kept realm name secs (wrapped_items master true random (first_items etypes random))
+first_wrapped master realm name secs etypes random =
+    first_kept realm name secs (wrapped_items master true random (first_items etypes random))
 
 -- ---- the state and its rows
 
@@ -131,8 +133,10 @@ first_state spec now random = record {
 unfoldable pub first_records : SpecParts → ℕ → List ℕ → List Princ
 first_records spec secs random =
     first_record spec.realm (master_key_of spec random) secs (master_confounder spec random)
-    ∷ first_wrapped (master_key_of spec random) spec.realm (history_name spec.realm) secs history_types (behind_master spec random)
-    ∷ first_wrapped (master_key_of spec random) spec.realm (ticket_name spec.realm) secs ticket_types (behind_history spec random)
+    ∷ first_wrapped (master_key_of spec random) spec.realm (history_name spec.realm) secs history_types
+    (behind_master spec random)
+    ∷ first_wrapped (master_key_of spec random) spec.realm (ticket_name spec.realm) secs ticket_types
+    (behind_history spec random)
     ∷ []
 
 -- the rows, to the byte

@@ -25,7 +25,8 @@ impl Model for CreateSpec {
 
     ghost view = { λ s. record { realm = s.realm; password = s.password; etype = s.etype; size = s.size } };
 
-    ghost invariant = { λ s. IsSpec (record { realm = s.realm; password = s.password; etype = s.etype; size = s.size }) };
+    ghost invariant = { λ s.
+        IsSpec (record { realm = s.realm; password = s.password; etype = s.etype; size = s.size }) };
 }
 
 impl CreateSpec {

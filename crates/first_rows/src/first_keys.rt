@@ -6,7 +6,8 @@ ghost use Rattle.kdb_base.specs.Etypes.{key_len};
 ghost use Rattle.plain_keys.specs.Keys.{drawn_len};
 ghost use Rattle.row_keys.specs.Shows.{ShowsItem};
 ghost use Rattle.row_keys.specs.Wraps.{wrapped_items};
-ghost use Rattle.first_rows.specs.Creation.{behind_master, first_items, master_confounder, master_key_of, master_salt, own_len};
+ghost use Rattle.first_rows.specs.Creation.{behind_master, first_items, master_confounder};
+ghost use Rattle.first_rows.specs.Creation.{master_key_of, master_salt, own_len};
 
 use crate::create_spec::CreateSpec;
 use kdb_base::{Blob, Etype, MemoryOut, PlainKey};
@@ -98,7 +99,8 @@ pub(crate) fn first_items(
     random: &[u8],
 ) -> Result<Vec<KeyItem>, MemoryOut>
     requires { sum_by drawn_len etypes.now ≤ length random.now }
-    ensures items { IfOk result (λ v. v.items ≡ wrapped_items master.now true random.now (first_items etypes.now random.now)) }
+    ensures items { IfOk result
+        (λ v. v.items ≡ wrapped_items master.now true random.now (first_items etypes.now random.now)) }
     ensures shows { IfOk result (λ v. AllZip (ShowsItem master.now) v.items (first_items etypes.now random.now)) }
 {
     let keys = random_keys(alloc, random, etypes)?;

@@ -4,7 +4,8 @@ ghost use Rattle.std.specs.Prelude.{◌≡◌, ◌++◌, ◌∷◌, ◌≤◌, [
 ghost use Rattle.kdb_plain.specs.States.{history_name};
 ghost use Rattle.master_keys.specs.First.{admin_name, first_record};
 ghost use Rattle.princ_record.specs.RowLimits.{IsRow};
-ghost use Rattle.first_rows.specs.Creation.{first_kept, first_wrapped, history_types, master_confounder, ticket_name, ticket_types};
+ghost use Rattle.first_rows.specs.Creation.{first_kept, first_wrapped, history_types};
+ghost use Rattle.first_rows.specs.Creation.{master_confounder, ticket_name, ticket_types};
 
 use crate::create_spec::CreateSpec;
 use crate::first_keys::{first_items, master_confounder};
@@ -80,7 +81,8 @@ pub(crate) fn master_record(
     random: &[u8],
 ) -> Result<(Princ, Masters), MemoryOut>
     requires { 48 ≤ length random.now }
-    ensures entry { IfOk result (λ both. both.0 ≡ first_record spec.now.realm key.now secs (master_confounder spec.now random.now)) }
+    ensures entry { IfOk result
+        (λ both. both.0 ≡ first_record spec.now.realm key.now secs (master_confounder spec.now random.now)) }
     ensures row { IfOk result (λ both. IsRow both.0) }
     ensures masters { IfOk result (λ both. both.1 ≡ record { version = 1; key = key.now } ∷ []) }
 {
@@ -98,7 +100,8 @@ pub(crate) fn history_record(
     random: &[u8],
 ) -> Result<Princ, MemoryOut>
     requires { 48 ≤ length random.now }
-    ensures entry { IfOk result (λ p. p ≡ first_wrapped master.now spec.now.realm (history_name spec.now.realm) secs history_types random.now) }
+    ensures entry { IfOk result
+        (λ p. p ≡ first_wrapped master.now spec.now.realm (history_name spec.now.realm) secs history_types random.now) }
     ensures row { IfOk result (λ p. IsRow p) }
 {
     let items = first_items(alloc, master, &[Etype::Aes256], random)?;
@@ -116,7 +119,8 @@ pub(crate) fn ticket_record(
     random: &[u8],
 ) -> Result<Princ, MemoryOut>
     requires { 80 ≤ length random.now }
-    ensures entry { IfOk result (λ p. p ≡ first_wrapped master.now spec.now.realm (ticket_name spec.now.realm) secs ticket_types random.now) }
+    ensures entry { IfOk result
+        (λ p. p ≡ first_wrapped master.now spec.now.realm (ticket_name spec.now.realm) secs ticket_types random.now) }
     ensures row { IfOk result (λ p. IsRow p) }
 {
     let items = first_items(alloc, master, &[Etype::Aes256, Etype::Aes128], random)?;

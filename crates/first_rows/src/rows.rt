@@ -3,7 +3,8 @@
 ghost use Rattle.std.specs.Prelude.{◌≡◌, ◌+◌, ◌∷◌, ◌≤◌, [], drop, length, IfOk};
 ghost use Rattle.kdb_plain.specs.States.{history_name};
 ghost use Rattle.princ_record.specs.RowLimits.{IsRow};
-ghost use Rattle.first_rows.specs.Creation.{behind_history, behind_master, first_rows, first_state, first_wrapped, history_types, ticket_name, ticket_types};
+ghost use Rattle.first_rows.specs.Creation.{behind_history, behind_master, first_rows, first_state};
+ghost use Rattle.first_rows.specs.Creation.{first_wrapped, history_types, ticket_name, ticket_types};
 
 use crate::create_spec::CreateSpec;
 use crate::first_keys::{behind_master, master_key};
@@ -37,8 +38,10 @@ fn other_records(
     random: &[u8],
 ) -> Result<(Princ, Princ), MemoryOut>
     requires { length random.now ≡ 2048 }
-    ensures history { IfOk result (λ both. both.0 ≡ first_wrapped key.now spec.now.realm (history_name spec.now.realm) secs history_types (behind_master spec.now random.now)) }
-    ensures ticket { IfOk result (λ both. both.1 ≡ first_wrapped key.now spec.now.realm (ticket_name spec.now.realm) secs ticket_types (behind_history spec.now random.now)) }
+    ensures history { IfOk result (λ both. both.0 ≡ first_wrapped key.now spec.now.realm
+        (history_name spec.now.realm) secs history_types (behind_master spec.now random.now)) }
+    ensures ticket { IfOk result (λ both. both.1 ≡ first_wrapped key.now spec.now.realm
+        (ticket_name spec.now.realm) secs ticket_types (behind_history spec.now random.now)) }
     ensures history_row { IfOk result (λ both. IsRow both.0) }
     ensures ticket_row { IfOk result (λ both. IsRow both.1) }
 {

@@ -12,7 +12,11 @@ use std::alloc::Global;
 
 /// The reply to a replica at this point that it has to load the whole database.
 fn resync(alloc: Global, asked: Point) -> Result<Blob, MemoryOut>
-    ensures { IfOk result (λ text. text ≡ message_text (Reply (record { code = FullResyncNeeded; asked = asked; updates = [] }))) }
+    ensures { IfOk result (λ text. text ≡ message_text (Reply (record {
+      code = FullResyncNeeded;
+      asked = asked;
+      updates = [];
+    }))) }
 {
     let none = Entries::from_vec(Vec::new(alloc));
     let reply = PollReply::new(ReplyCode::FullResyncNeeded, asked, none);
@@ -22,7 +26,11 @@ fn resync(alloc: Global, asked: Point) -> Result<Blob, MemoryOut>
 /// The bytes that a primary gives on a connection where a replica at this point polls and then asks: that the whole
 /// database has to be loaded, and this dump.
 pub fn answer_with(alloc: Global, asked: Point, dump: Blob) -> Result<Blob, MemoryOut>
-    ensures { IfOk result (λ text. text ≡ message_text (Reply (record { code = FullResyncNeeded; asked = asked; updates = [] })) ++ message_text (DumpText dump)) }
+    ensures { IfOk result (λ text. text ≡ message_text (Reply (record {
+      code = FullResyncNeeded;
+      asked = asked;
+      updates = [];
+    })) ++ message_text (DumpText dump)) }
 {
     let mut text = resync(alloc, asked)?.into_vec();
     let frames = write_message(alloc, &Message::DumpText(dump))?;

@@ -1,7 +1,9 @@
 -- The link is read only where more has to come.
-use Rattle.std.proofs.Common.{◌≡◌, ℕ, ◌+◌, ◌≤◌, true, false, List, [], ◌++◌, length, Option, Some, None, Ok, Err, refl, sym, ap, subst, ◌∙◌, append_assoc, append-nil, arith, inl, inr}
+use Rattle.std.proofs.Common.{◌≡◌, ℕ, ◌+◌, ◌≤◌, true, false, List, [], ◌++◌, length, Option, Some, None, Ok}
+use Rattle.std.proofs.Common.{Err, refl, sym, ap, subst, ◌∙◌, append_assoc, append-nil, arith, inl, inr}
 use Rattle.std.specs.Prelude.{◌⊎◌, Result, IfErr, IfOk, OnOk}
-use Rattle.iprop_links.specs.Arriving.{Arrives, ArrivesOf, HasEnded, IsUnended, Needs, StopsShort, WantsMore, coming, in_all, led}
+use Rattle.iprop_links.specs.Arriving.{Arrives, ArrivesOf, HasEnded, IsUnended, Needs}
+use Rattle.iprop_links.specs.Arriving.{StopsShort, WantsMore, coming, in_all, led}
 use Rattle.iprop_links.specs.declared.halts.LinkHalt.{LinkHalt}
 use Rattle.iprop_links.specs.declared.halts.LinkHalt.TheVariants as halt
 use Rattle.iprop_links.specs.declared.inbox.Arrival.{Arrival}
@@ -31,7 +33,8 @@ pub record CameTo (s : State) (p : List ℕ) (old new : Option Wire) (u : State)
   pub gave : old ≡ before_received piece new
   pub leads : u ≡ fed s (p ++ piece)
 
-module _ {X : Type 0} (wire : X → Option Wire) (x y : X) (d : Due) (s : State) (p : List ℕ) (t : State) (q : List ℕ) where
+module _ {X : Type 0} (wire : X → Option Wire) (x y : X) (d : Due) (s : State) (p : List ℕ) (t : State)
+    (q : List ℕ) where
   pub reads_of : ReadsSo wire x y d s p t q → (y ≡ x) ⊎ Needs d s p (wire x) (wire y)
   reads_of (inl none) = inl none.0
   reads_of (inr reads) = inr reads.needs
@@ -42,16 +45,22 @@ module _ {X : Type 0} (wire : X → Option Wire) (x y : X) (d : Due) (s : State)
     gave = gave_none (wire x) ∙ ap (λ (z : X). before_received [] (wire z)) (sym none.0);
     leads = is ∙ ap (λ (v : State). fed v q) none.1.0 ∙ ap (fed s) (none.1.1 ∙ sym (append-nil p));
   }
-  came_to (inr reads) u is = record { piece = reads.needs.front ++ reads.needs.last; gave = reads.needs.gave; leads = is ∙ reads.leads }
+  came_to (inr reads) u is =
+      record { piece = reads.needs.front ++ reads.needs.last; gave = reads.needs.gave; leads = is ∙ reads.leads }
 
   -- all that came makes an end
   pub has_ended : ReadsSo wire x y d s p t q → is_going (led d t q) ≡ false → HasEnded d s p (wire x) (wire y)
   has_ended so ended =
       let came = came_to so (fed t q) refl in
-      record { piece = came.piece; gave = came.gave; ended = ap (λ (v : State). is_going (narrowed d v)) (sym came.leads) ∙ ended }
+      record {
+        piece = came.piece;
+        gave = came.gave;
+        ended = ap (λ (v : State). is_going (narrowed d v)) (sym came.leads) ∙ ended;
+      }
 
   -- more has to come
-  module _ (so : ReadsSo wire x y d s p t q) (u : State) (is : u ≡ fed t q) (going : is_going (narrowed d u) ≡ true) where
+  module _ (so : ReadsSo wire x y d s p t q) (u : State) (is : u ≡ fed t q)
+      (going : is_going (narrowed d u) ≡ true) where
     pub wants_more : (new : Option Wire) → new ≡ wire y → WantsMore d s p (wire x) new
     wants_more new same =
         let came = came_to so u is in
@@ -61,7 +70,8 @@ module _ {X : Type 0} (wire : X → Option Wire) (x y : X) (d : Due) (s : State)
           going = ap (λ (v : State). is_going (narrowed d v)) (sym came.leads) ∙ going;
         }
 
-    pub reads_on : (v : State) (r : List ℕ) (new : Option Wire) → v ≡ u → wire y ≡ before_received r new → length r ≤ 16384 → Reads d s p (wire x) new v r
+    pub reads_on : (v : State) (r : List ℕ) (new : Option Wire) → v ≡ u → wire y ≡ before_received r new
+        → length r ≤ 16384 → Reads d s p (wire x) new v r
     reads_on v r new same gave few =
         let came = came_to so u is in
         record {
@@ -72,11 +82,13 @@ module _ {X : Type 0} (wire : X → Option Wire) (x y : X) (d : Due) (s : State)
             gave = came.gave ∙ ap (before_received came.piece) gave ∙ gave_both came.piece r new;
             needed = ap (λ (v : State). is_going (narrowed d v)) (sym came.leads) ∙ going;
           };
-          leads = ap (λ (v : State). fed v r) (same ∙ came.leads) ∙ sym (fed_parts s (p ++ came.piece) r) ∙ ap (fed s) (append_assoc p came.piece r);
+          leads = ap (λ (v : State). fed v r) (same ∙ came.leads) ∙ sym (fed_parts s (p ++ came.piece) r)
+              ∙ ap (fed s) (append_assoc p came.piece r);
         }
 
 -- and nothing came
-pub needs_none : (d : Due) (s : State) (p : List ℕ) (old new : Option Wire) → WantsMore d s p old new → Needs d s p old new
+pub needs_none : (d : Due) (s : State) (p : List ℕ) (old new : Option Wire) → WantsMore d s p old new
+    → Needs d s p old new
 needs_none d s p old new wants = record {
   front = wants.piece;
   last = [];
@@ -85,12 +97,14 @@ needs_none d s p old new wants = record {
   needed = wants.going;
 }
 
-pub stops_short : (h : LinkHalt) (d : Due) (s : State) (p : List ℕ) (old new : Option Wire) → WantsMore d s p old new → StopsShort h d s p old new
+pub stops_short : (h : LinkHalt) (d : Due) (s : State) (p : List ℕ) (old new : Option Wire) → WantsMore d s p old new
+    → StopsShort h d s p old new
 stops_short halt.MemoryOut d s p old new wants = tt
 stops_short halt.LinkFault d s p old new wants = wants
 stops_short halt.InputTooLong d s p old new wants = wants
 
-pub stops_memory : (h : LinkHalt) (d : Due) (s : State) (p : List ℕ) (old new : Option Wire) → h ≡ halt.MemoryOut → StopsShort h d s p old new
+pub stops_memory : (h : LinkHalt) (d : Due) (s : State) (p : List ℕ) (old new : Option Wire) → h ≡ halt.MemoryOut
+    → StopsShort h d s p old new
 stops_memory h d s p old new is = subst (λ (h : LinkHalt). StopsShort h d s p old new) (sym is) tt
 
 -- ---- too much came
@@ -102,7 +116,8 @@ abbrev pub left_in : Option Wire → List ℕ
 left_in None = []
 left_in (Some w) = w.left
 
-pub unended : (d : Due) (p rest : List ℕ) (r n all : ℕ) (old new : Option Wire) → coming p old ≡ Some rest → in_all r old ≡ Some all → in_all r old ≡ in_all n new → n ≡ 4294967296
+pub unended : (d : Due) (p rest : List ℕ) (r n all : ℕ) (old new : Option Wire) → coming p old ≡ Some rest
+    → in_all r old ≡ Some all → in_all r old ≡ in_all n new → n ≡ 4294967296
     → WantsMore d fresh p old new → IsUnended d rest all
 unended d p rest r n all None new told all_is same most wants = absurd cc
 unended d p rest r n all (Some w) None told all_is same most wants = absurd cc
@@ -112,7 +127,8 @@ unended d p rest r n all (Some w) (Some v) told all_is same most wants =
     record {
       came = p ++ wants.piece;
       left = v.left;
-      parts = sym (some_is (p ++ w.left) rest told) ∙ ap (λ (q : List ℕ). p ++ q) left ∙ sym (append_assoc p wants.piece v.left);
+      parts = sym (some_is (p ++ w.left) rest told) ∙ ap (λ (q : List ℕ). p ++ q) left
+          ∙ sym (append_assoc p wants.piece v.left);
       count = omega (arith, number, most);
       going = wants.going;
     }
@@ -131,17 +147,22 @@ pub same_all : (n : ℕ) (text : List ℕ) (told : Option Wire) → in_all n (af
 same_all n text None = refl
 same_all n text (Some w) = refl
 
-pub arrives_sent : {E : Type 0} (d : Due) (r : Result Arrival E) (s : State) (before : Option (List ℕ)) (rest : List ℕ) (after : Option (List ℕ)) → s ≡ fresh → before ≡ Some rest
+pub arrives_sent : {E : Type 0} (d : Due) (r : Result Arrival E) (s : State) (before : Option (List ℕ)) (rest : List ℕ)
+    (after : Option (List ℕ)) → s ≡ fresh → before ≡ Some rest
     → IfOk r (λ a. Arrives d a s before after) → IfOk r (λ a. ArrivesOf d a fresh rest after)
-arrives_sent d (Ok a) s before rest after new told is = subst (λ (t : State). ArrivesOf d a t rest after) new (subst (λ (b : Option (List ℕ)). Arrives d a s b after) told is)
+arrives_sent d (Ok a) s before rest after new told is = subst (λ (t : State). ArrivesOf d a t rest after) new
+    (subst (λ (b : Option (List ℕ)). Arrives d a s b after) told is)
 arrives_sent d (Err e) s before rest after new told is = tt
 
-pub stopped_long : {A : Type 0} (d : Due) (r : Result A LinkHalt) (s : State) (p : List ℕ) (old new : Option Wire) → s ≡ fresh → r ≡ Err halt.InputTooLong
+pub stopped_long : {A : Type 0} (d : Due) (r : Result A LinkHalt) (s : State) (p : List ℕ) (old new : Option Wire)
+    → s ≡ fresh → r ≡ Err halt.InputTooLong
     → IfErr r (λ h. StopsShort h d s p old new) → WantsMore d fresh p old new
 stopped_long {A = A} d r s p old new is long short =
-    subst (λ (t : State). WantsMore d t p old new) is (subst (λ (r : Result A LinkHalt). IfErr r (λ h. StopsShort h d s p old new)) long short)
+    subst (λ (t : State). WantsMore d t p old new) is
+    (subst (λ (r : Result A LinkHalt). IfErr r (λ h. StopsShort h d s p old new)) long short)
 
-pub needs_sent : {X : Type 0} (wire : X → Option Wire) (x y : X) (d : Due) (s : State) (p : List ℕ) (told : Option Wire) → s ≡ fresh → p ≡ [] → wire x ≡ told
+pub needs_sent : {X : Type 0} (wire : X → Option Wire) (x y : X) (d : Due) (s : State) (p : List ℕ) (told : Option Wire)
+    → s ≡ fresh → p ≡ [] → wire x ≡ told
     → ((y ≡ x) ⊎ Needs d s p (wire x) (wire y)) → Needs d fresh [] told (wire y)
 unfolding fed
 needs_sent wire x y d s p told new none is (inl same) = record {
@@ -153,4 +174,5 @@ needs_sent wire x y d s p told new none is (inl same) = record {
 }
 needs_sent wire x y d s p told new none is (inr needs) =
     subst (λ (t : Option Wire). Needs d fresh [] t (wire y)) is
-    (subst (λ (q : List ℕ). Needs d fresh q (wire x) (wire y)) none (subst (λ (t : State). Needs d t p (wire x) (wire y)) new needs))
+    (subst (λ (q : List ℕ). Needs d fresh q (wire x) (wire y)) none
+    (subst (λ (t : State). Needs d t p (wire x) (wire y)) new needs))

@@ -1,5 +1,6 @@
 -- What comes of the bytes that a connection gives: the message that is due, or that there is none.
-use Rattle.std.specs.Prelude.{ℕ, ◌≡◌, ◌≤◌, ◌<◌, ◌+◌, ◌++◌, true, false, List, [], drop, length, Option, Some, None, Result, Ok, Err, option_map}
+use Rattle.std.specs.Prelude.{ℕ, ◌≡◌, ◌≤◌, ◌<◌, ◌+◌, ◌++◌, true, false, List, [], drop}
+use Rattle.std.specs.Prelude.{length, Option, Some, None, Result, Ok, Err, option_map}
 use Rattle.iprop_links.specs.declared.inbox.Arrival.{Arrival}
 use Rattle.iprop_links.specs.declared.halts.LinkHalt.{LinkHalt}
 use Rattle.iprop_links.specs.declared.halts.LinkHalt.TheVariants as halt
@@ -32,7 +33,8 @@ led d s bytes = narrowed d (fed s bytes)
 -- of the bytes that were to come, from this state on: the message that is due ends in them and the others are left;
 -- they end before it does; or none that is due goes on so
 abbrev pub ArrivesOf : Due → Arrival → State → List ℕ → Option (List ℕ) → Type 0
-ArrivesOf d (arrival.Came message) s before after = (led d s before ≡ Waits message) × (after ≡ Some (drop (taken s before) before))
+ArrivesOf d (arrival.Came message) s before after =
+    (led d s before ≡ Waits message) × (after ≡ Some (drop (taken s before) before))
 ArrivesOf d arrival.Cut s before after = is_going (led d s before) ≡ true
 ArrivesOf d arrival.Bad s before after = led d s before ≡ Broken
 

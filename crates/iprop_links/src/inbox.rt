@@ -1,6 +1,8 @@
 //! Messages received over a link.
-ghost use Rattle.std.specs.Prelude.{◌≡◌, ◌≤◌, ◌<◌, ◌+◌, ◌⊎◌, [], true, false, length, option_map, Option, Some, None, Err, Ok, IfErr, IfOk, OnErr, OnOk};
-ghost use Rattle.iprop_links.specs.Arriving.{Arrives, Counts, EndsEarly, HasEnded, HasGiven, Holds, IsOver, Needs, StopsShort, coming, in_all, led};
+ghost use Rattle.std.specs.Prelude.{◌≡◌, ◌≤◌, ◌<◌, ◌+◌, ◌⊎◌, [], true, false, length, option_map};
+ghost use Rattle.std.specs.Prelude.{Option, Some, None, Err, Ok, IfErr, IfOk, OnErr, OnOk};
+ghost use Rattle.iprop_links.specs.Arriving.{Arrives, Counts, EndsEarly, HasEnded, HasGiven, Holds};
+ghost use Rattle.iprop_links.specs.Arriving.{IsOver, Needs, StopsShort, coming, in_all, led};
 ghost use Rattle.iprop_wire.specs.Decoding.{fed, fresh, is_going};
 ghost use Rattle.iprop_wire.specs.Due.{narrowed};
 ghost use Rattle.iprop_wire.specs.declared.messages.Message.{Message as Heard};
@@ -64,10 +66,12 @@ impl Inbox {
 
     /// Takes what waits, up to the end of a message.
     fn take_held(&mut self, due: Due) -> Result<Option<Arrival>, LinkHalt>
-        ensures holds { (told : Option Wire) → Holds due result self.old.state (coming self.old.pending told) self.new.state (coming self.new.pending told) }
+        ensures holds { (told : Option Wire) → Holds due result self.old.state
+            (coming self.old.pending told) self.new.state (coming self.new.pending told) }
         ensures fresh { (message : Heard) → result ≡ Ok (Some (Arrival.Came message)) → self.new.state ≡ fresh }
         ensures going { result ≡ Ok None → is_going (narrowed due self.new.state) ≡ true }
-        ensures ended { (arrival : Arrival) → result ≡ Ok (Some arrival) → is_going (led due self.old.state self.old.pending) ≡ false }
+        ensures ended { (arrival : Arrival) → result ≡ Ok (Some arrival)
+            → is_going (led due self.old.state self.old.pending) ≡ false }
         ensures leads { result ≡ Ok None → self.new.state ≡ fed self.old.state self.old.pending }
         ensures none { result ≡ Ok None → self.new.pending ≡ [] }
         ensures halt { IfErr result (λ halt. halt ≡ LinkHalt.MemoryOut) }
@@ -126,16 +130,20 @@ impl Inbox {
     /// `InputTooLong` where 4294967296 bytes were received in all, none of them waits, and neither a message nor the
     /// peer had ended; `LinkFault` where the link failed; `MemoryOut` where memory is wanted and not given.
     pub fn next<L: Link>(&mut self, link: &mut L, due: Due) -> Result<Arrival, LinkHalt>
-        ensures arrives { IfOk result (λ a. Arrives due a self.old.state (coming self.old.pending (L.wire link.old)) (coming self.new.pending (L.wire link.new))) }
+        ensures arrives { IfOk result (λ a. Arrives due a self.old.state (coming self.old.pending (L.wire link.old))
+            (coming self.new.pending (L.wire link.new))) }
         ensures fresh { (message : Heard) → result ≡ Ok (Arrival.Came message) → self.new.state ≡ fresh }
         ensures gave { HasGiven (L.wire link.old) (L.wire link.new) }
         ensures received { in_all self.old.received (L.wire link.old) ≡ in_all self.new.received (L.wire link.new) }
         ensures room { self.new.received ≤ 4294967296 }
         // No call is made where the bytes that wait are enough, and none behind one whose bytes are.
-        ensures reads { (link.new ≡ link.old) ⊎ Needs due self.old.state self.old.pending (L.wire link.old) (L.wire link.new) }
+        ensures reads { (link.new ≡ link.old)
+            ⊎ Needs due self.old.state self.old.pending (L.wire link.old) (L.wire link.new) }
         // An answer is made of what was received, or of the peer's end before 4294967296 bytes were.
-        ensures in_time { OnOk result (HasEnded due self.old.state self.old.pending (L.wire link.old) (L.wire link.new) ⊎ EndsEarly self.new.received (coming self.new.pending (L.wire link.new))) }
-        ensures short { IfErr result (λ halt. StopsShort halt due self.old.state self.old.pending (L.wire link.old) (L.wire link.new)) }
+        ensures in_time { OnOk result (HasEnded due self.old.state self.old.pending (L.wire link.old) (L.wire link.new)
+            ⊎ EndsEarly self.new.received (coming self.new.pending (L.wire link.new))) }
+        ensures short { IfErr result
+            (λ halt. StopsShort halt due self.old.state self.old.pending (L.wire link.old) (L.wire link.new)) }
         ensures too_long { result ≡ Err LinkHalt.InputTooLong → self.new.received ≡ 4294967296 }
         ensures faults { Counts (L.faults link.old) (L.faults link.new) (result ≡ Err LinkHalt.LinkFault) }
     {

@@ -1,5 +1,7 @@
--- What a poll is told, by the entries that a log holds (incremental propagation of the MIT Kerberos administration guide).
-use Rattle.std.specs.Prelude.{ℕ, ◌≡◌, ◌+◌, ◌-◌, ◌<◌, Bool, ◌&&◌, nat_eq, List, [], ◌∷◌, length, slice_index_or, Option, Some, None, if◌then◌else◌}
+-- What a poll is told, by the entries that a log holds (incremental propagation of the MIT Kerberos administration
+-- guide).
+use Rattle.std.specs.Prelude.{ℕ, ◌≡◌, ◌+◌, ◌-◌, ◌<◌, Bool, ◌&&◌, nat_eq, List, [], ◌∷◌}
+use Rattle.std.specs.Prelude.{length, slice_index_or, Option, Some, None, if◌then◌else◌}
 use Rattle.kdb_base.specs.Moment.{Moment}
 use Rattle.kdb_base.specs.declared.moments.Point.{Point}
 use Rattle.princ_rows.specs.declared.entries.Entry.{Entry}

@@ -28,10 +28,11 @@ fn is_at(at: Option<Time>, time: Time) -> bool
     }
 }
 
-/// What a poll from the point `asked` comes to. `held` are the points of the first and of the last entry of the log, and
-/// `at` is the time of the entry with the serial that is asked for, where the log holds one.
+/// What a poll from the point `asked` comes to. `held` are the points of the first and of the last entry of the log,
+/// and `at` is the time of the entry with the serial that is asked for, where the log holds one.
 pub fn sno_status(held: (Point, Point), at: Option<Time>, asked: Point) -> Status4
-    ensures { (entries : List Entry) → AreHeld held.0 held.1 entries → at ≡ time_of asked.sno entries → result ≡ status_of (updates_after asked entries) }
+    ensures { (entries : List Entry) → AreHeld held.0 held.1 entries → at ≡ time_of asked.sno entries
+        → result ≡ status_of (updates_after asked entries) }
 {
     if !is_at(at, asked.time) {
         return Status4::Resync;

@@ -8,7 +8,8 @@ contains_first x xs = (0, omega arith, refl)
 pub contains_more : {X : Type 0} (x : X) (xs : List X) (y : X) → Contains xs y → Contains (x ∷ xs) y
 contains_more x xs y h = let within = h.1 in (suc h.0, omega arith, h.2)
 
-first_or_more : {X : Type 0} (x : X) (xs : List X) (y : X) (i : ℕ) → i < length (x ∷ xs) → slice_index_or (x ∷ xs) i y ≡ y → (x ≡ y) ⊎ Contains xs y
+first_or_more : {X : Type 0} (x : X) (xs : List X) (y : X) (i : ℕ) → i < length (x ∷ xs)
+    → slice_index_or (x ∷ xs) i y ≡ y → (x ≡ y) ⊎ Contains xs y
 first_or_more x xs y zero within is = inl is
 first_or_more x xs y (suc i) within is = inr (i, omega (arith, within), is)
 

@@ -56,6 +56,8 @@ updates_in (Some us) = us
 abbrev pub told_of : Bool → Point → Option (List Entry) → PollReply
 told_of busy asked updates = reply_of (code_of busy (status_of updates)) asked (updates_in updates)
 
--- The reply to a poll from a point. A client that is denied is told of nothing, and one that needs a dump while none can be begun is told so.
+-- The reply to a poll from a point. A client that is denied is told of nothing, and one that needs a dump while none
+-- can be begun is told so.
 abbrev pub poll_reply : Bool → Bool → Point → List Entry → PollReply
-poll_reply denied busy asked held = if denied then reply_of poll_denied asked [] else told_of busy asked (updates_after asked held)
+poll_reply denied busy asked held =
+    if denied then reply_of poll_denied asked [] else told_of busy asked (updates_after asked held)

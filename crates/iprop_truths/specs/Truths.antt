@@ -22,7 +22,8 @@ IsNext [] c d = ⊥
 IsNext (q ∷ []) c d = ⊥
 IsNext (q ∷ p ∷ older) c d = ((c ≡ contents_of p) × (d ≡ contents_of q)) ⊎ IsNext (p ∷ older) c d
 
--- The entry makes the one of the other: its serial is the next, its time not before, and its change may be made of the rows.
+-- The entry makes the one of the other: its serial is the next, its time not before, and its change may be made of the
+-- rows.
 pub record Makes (c : Contents) (u : Entry) (d : Contents) : Type 0 where
   pub op : Op
   pub change : u.op ≡ Some op
@@ -37,7 +38,8 @@ pub record Makes (c : Contents) (u : Entry) (d : Contents) : Type 0 where
 -- The entries, in order, lead from the one to the other: each makes the contents of the next place.
 abbrev pub AreLinked : List Place → Contents → List Entry → Contents → Type 0
 AreLinked places c [] d = c ≡ d
-AreLinked places c (u ∷ us) d = (next : Contents) × Has places next × Makes c u next × AreLinked places next us d × IsNext places c next
+AreLinked places c (u ∷ us) d =
+    (next : Contents) × Has places next × Makes c u next × AreLinked places next us d × IsNext places c next
 
 -- The entries lead on from a place at this point.
 pub record GoesOn (places : List Place) (asked : Point) (us : List Entry) (d : Contents) : Type 0 where
@@ -62,7 +64,8 @@ pub data Message : Type 0 where
   Reply : (reply : PollReply) → Message
   Dumped : (contents : Contents) → Message
 
--- A dump has the contents of a place. A reply with updates leads on from a place at the asked point; every other reply says nothing of places.
+-- A dump has the contents of a place. A reply with updates leads on from a place at the asked point; every other reply
+-- says nothing of places.
 abbrev pub IsTrueOf : List Place → Message → Type 0
 IsTrueOf places (Reply r) = r.code ≡ updates_here → LeadsOn places r.asked r.updates
 IsTrueOf places (Dumped c) = Has places c

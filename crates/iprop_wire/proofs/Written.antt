@@ -1,5 +1,6 @@
 -- What is written of a message spells it.
-use Rattle.std.proofs.Common.{◌≡◌, ℕ, zero, suc, ◌<◌, ◌≤◌, List, [], ◌∷◌, ◌++◌, length, take, drop, map, refl, sym, ap, ◌∙◌, arith}
+use Rattle.std.proofs.Common.{◌≡◌, ℕ, zero, suc, ◌<◌, ◌≤◌, List, [], ◌∷◌, ◌++◌}
+use Rattle.std.proofs.Common.{length, take, drop, map, refl, sym, ap, ◌∙◌, arith}
 use Rattle.std.specs.List.{AllByRecursion, flat_map}
 use Rattle.std.proofs.lemmas.Grind.{flat_map-append}
 use Rattle.std.proofs.lemmas.List.{append-nil, length-drop, length-take, take-append-drop}
@@ -7,7 +8,8 @@ use Rattle.std.proofs.lemmas.List.Elements.{All-from_recursion}
 use Rattle.kdb_format.specs.Moments.{point}
 use Rattle.kdb_format.specs.Spellings.{big}
 use Rattle.princ_rows.specs.declared.entries.Entry.{Entry}
-use Rattle.iprop_wire.specs.Frames.{frame, text_of, frame_text, most_behind, hello_kind, poll_kind, ask_kind, reply_kind, piece_kind, total_kind}
+use Rattle.iprop_wire.specs.Frames.{frame, text_of, frame_text, most_behind, hello_kind}
+use Rattle.iprop_wire.specs.Frames.{poll_kind, ask_kind, reply_kind, piece_kind, total_kind}
 use Rattle.iprop_wire.specs.Messages.{dump_frames, head_of, head_text, message_text, pieces_text, update_text}
 use Rattle.iprop_wire.specs.Spelled.{IsMessage, IsPiece, Spells, update_frame}
 use Rattle.iprop_wire.specs.declared.messages.Message.{Message}
@@ -33,7 +35,8 @@ cut_more n text some rest = record {
   pieces = take most_behind text ∷ rest.pieces;
   texts = some_pieces n text some ∙ ap (λ (t : List ℕ). frame_text piece_kind (take most_behind text) ++ t) rest.texts;
   are = (first_piece text some, rest.are);
-  whole = λ le. ap (λ (t : List ℕ). take most_behind text ++ t) (rest.whole (omega (arith, length-drop most_behind text, le, some))) ∙ take-append-drop most_behind text;
+  whole = λ le. ap (λ (t : List ℕ). take most_behind text ++ t)
+      (rest.whole (omega (arith, length-drop most_behind text, le, some))) ∙ take-append-drop most_behind text;
 }
 
 cut : (n : ℕ) (text : List ℕ) → AreCut n text
@@ -48,9 +51,24 @@ updates_same (e ∷ us) = ap (λ (t : List ℕ). text_of (update_frame e) ++ t) 
 
 pub message_spelled : (m : Message) → IsMessage m → Spells (message_text m) m
 unfolding message_text dump_frames
-message_spelled (Hello name) is = record { is_message = is; frames = frame hello_kind name ∷ []; are = refl; whole = sym (append-nil (frame_text hello_kind name)) }
-message_spelled (Poll asked) is = record { is_message = is; frames = frame poll_kind (point asked) ∷ []; are = refl; whole = sym (append-nil (frame_text poll_kind (point asked))) }
-message_spelled Ask is = record { is_message = is; frames = frame ask_kind [] ∷ []; are = refl; whole = sym (append-nil (frame_text ask_kind [])) }
+message_spelled (Hello name) is = record {
+  is_message = is;
+  frames = frame hello_kind name ∷ [];
+  are = refl;
+  whole = sym (append-nil (frame_text hello_kind name));
+}
+message_spelled (Poll asked) is = record {
+  is_message = is;
+  frames = frame poll_kind (point asked) ∷ [];
+  are = refl;
+  whole = sym (append-nil (frame_text poll_kind (point asked)));
+}
+message_spelled Ask is = record {
+  is_message = is;
+  frames = frame ask_kind [] ∷ [];
+  are = refl;
+  whole = sym (append-nil (frame_text ask_kind []));
+}
 message_spelled (Reply r) is = record {
   is_message = is;
   frames = frame reply_kind (head_text (head_of r)) ∷ map update_frame r.updates;
@@ -63,9 +81,15 @@ message_spelled (DumpText text) is =
     record {
       is_message = is;
       frames = map (frame piece_kind) c.pieces ++ (total ∷ []);
-      are = record { pieces = c.pieces; are = All-from_recursion IsPiece c.pieces c.are; whole = c.whole (omega arith); frames_are = refl };
+      are = record {
+        pieces = c.pieces;
+        are = All-from_recursion IsPiece c.pieces c.are;
+        whole = c.whole (omega arith);
+        frames_are = refl;
+      };
       whole =
           ap (λ (t : List ℕ). t ++ text_of total) c.texts
-          ∙ ap (λ (t : List ℕ). flat_map text_of (map (frame piece_kind) c.pieces) ++ t) (sym (append-nil (text_of total)))
+          ∙ ap (λ (t : List ℕ). flat_map text_of (map (frame piece_kind) c.pieces) ++ t)
+          (sym (append-nil (text_of total)))
           ∙ sym (flat_map-append text_of (map (frame piece_kind) c.pieces) (total ∷ []));
     }

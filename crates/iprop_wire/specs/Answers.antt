@@ -1,12 +1,14 @@
 -- What is kept of a connection, and what the steps over it answer.
-use Rattle.std.specs.Prelude.{ℕ, ◌≡◌, ◌<◌, ◌≤◌, ◌+◌, ◌-◌, true, List, [], length, drop, slice_index, Option, Some, None, Result, Ok, Err, nat_eq, nat_lt, if◌then◌else◌}
+use Rattle.std.specs.Prelude.{ℕ, ◌≡◌, ◌<◌, ◌≤◌, ◌+◌, ◌-◌, true, List, [], length, drop, slice_index}
+use Rattle.std.specs.Prelude.{Option, Some, None, Result, Ok, Err, nat_eq, nat_lt, if◌then◌else◌}
 use Rattle.std.specs.List.{All}
 use Rattle.byteorder.specs.Endian.{big_number}
 use Rattle.kdb_format.specs.declared.faults.FormatFault.{FormatFault}
 use Rattle.kdb_format.specs.declared.faults.FormatFault.TheVariants as format
 use Rattle.princ_rows.specs.Entries.{IsSent}
 use Rattle.princ_rows.specs.declared.entries.Entry.{Entry}
-use Rattle.iprop_wire.specs.Decoding.{Begun, Nothing, Updates, Pieces, State, Going, Waits, Broken, Spent, fed, is_length, is_sound, may_come, taken}
+use Rattle.iprop_wire.specs.Decoding.{Begun, Nothing, Updates, Pieces, State, Going, Waits}
+use Rattle.iprop_wire.specs.Decoding.{Broken, Spent, fed, is_length, is_sound, may_come, taken}
 use Rattle.iprop_wire.specs.declared.faults.FrameFault.{FrameFault}
 use Rattle.iprop_wire.specs.declared.faults.FrameFault.TheVariants as fault
 use Rattle.iprop_wire.specs.declared.messages.Message.{Message}

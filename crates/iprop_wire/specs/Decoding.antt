@@ -1,5 +1,6 @@
 -- What bytes that come on a connection are: messages, one after the other, each of one or more frames.
-use Rattle.std.specs.Prelude.{ℕ, ◌+◌, ◌-◌, ◌≡◌, Bool, true, false, not, ◌&&◌, ◌||◌, List, [], ◌∷◌, ◌++◌, length, drop, slice_index, Option, Some, None, nat_eq, nat_lt, nat_le, if◌then◌else◌}
+use Rattle.std.specs.Prelude.{ℕ, ◌+◌, ◌-◌, ◌≡◌, Bool, true, false, not, ◌&&◌, ◌||◌, List, [], ◌∷◌, ◌++◌, length}
+use Rattle.std.specs.Prelude.{drop, slice_index, Option, Some, None, nat_eq, nat_lt, nat_le, if◌then◌else◌}
 use Rattle.byteorder.specs.Endian.{big_number}
 use Rattle.kdb_base.specs.declared.moments.Point.{Point}
 use Rattle.kdb_format.specs.Moments.{point_at}
@@ -9,7 +10,8 @@ use Rattle.princ_rows.specs.Replies.{code_of}
 use Rattle.princ_rows.specs.declared.entries.Entry.{Entry}
 use Rattle.princ_rows.specs.declared.replies.ReplyCode.{ReplyCode}
 use Rattle.princ_rows.specs.declared.replies.ReplyCode.TheVariants.{UpdateOk, FullResyncNeeded, Busy, Nil, PermDenied}
-use Rattle.iprop_wire.specs.Frames.{longest_body, hello_kind, poll_kind, ask_kind, reply_kind, update_kind, piece_kind, total_kind}
+use Rattle.iprop_wire.specs.Frames.{longest_body, hello_kind, poll_kind, ask_kind}
+use Rattle.iprop_wire.specs.Frames.{reply_kind, update_kind, piece_kind, total_kind}
 use Rattle.iprop_wire.specs.declared.formats.Head.{Head}
 use Rattle.iprop_wire.specs.declared.messages.Message.{Message}
 use Rattle.iprop_wire.specs.declared.messages.Message.TheVariants.{Hello, Poll, Ask, Reply, DumpText}
@@ -114,7 +116,8 @@ abbrev pub is_of_dump : ℕ → Bool
 is_of_dump kind = nat_eq kind piece_kind || nat_eq kind total_kind
 
 abbrev pub may_begin : ℕ → Bool
-may_begin kind = nat_eq kind hello_kind || nat_eq kind poll_kind || nat_eq kind ask_kind || nat_eq kind reply_kind || is_of_dump kind
+may_begin kind =
+    nat_eq kind hello_kind || nat_eq kind poll_kind || nat_eq kind ask_kind || nat_eq kind reply_kind || is_of_dump kind
 
 -- the kinds of frame that may come here
 unfoldable pub may_come : Begun → ℕ → Bool

@@ -1,6 +1,8 @@
 -- What a replica waits for, and whether bytes that came are that, or go on to it.
-use Rattle.std.specs.Prelude.{ℕ, Bool, true, false, not, ◌&&◌, ◌||◌, List, length, slice_index, nat_eq, nat_lt, if◌then◌else◌}
-use Rattle.iprop_wire.specs.Decoding.{Begun, Nothing, Updates, Pieces, State, Going, Waits, Broken, Spent, brings, is_of_dump}
+use Rattle.std.specs.Prelude.{ℕ, Bool, true, false, not, ◌&&◌, ◌||◌, List, length}
+use Rattle.std.specs.Prelude.{slice_index, nat_eq, nat_lt, if◌then◌else◌}
+use Rattle.iprop_wire.specs.Decoding.{Begun, Nothing, Updates, Pieces, State, Going}
+use Rattle.iprop_wire.specs.Decoding.{Waits, Broken, Spent, brings, is_of_dump}
 use Rattle.iprop_wire.specs.Frames.{reply_kind}
 use Rattle.iprop_wire.specs.declared.due.Due.{Due}
 use Rattle.iprop_wire.specs.declared.due.Due.TheVariants as due

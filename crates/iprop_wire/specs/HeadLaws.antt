@@ -1,5 +1,6 @@
 -- The head of a reply is read as it is spelled.
-use Rattle.std.proofs.Common.{◌≡◌, ℕ, ◌^◌, ◌<◌, Bool, true, false, cond, List, ◌++◌, Option, Some, None, refl, sym, ap, ◌∙◌, arith}
+use Rattle.std.proofs.Common.{◌≡◌, ℕ, ◌^◌, ◌<◌, Bool, true, false, cond, List}
+use Rattle.std.proofs.Common.{◌++◌, Option, Some, None, refl, sym, ap, ◌∙◌, arith}
 use Rattle.std.specs.Prelude.{nat_eq}
 use Rattle.std.proofs.lemmas.Bool.{eqb-true}
 use Rattle.std.proofs.lemmas.Option.{same_Some}
@@ -37,7 +38,8 @@ small_number Nil = omega arith
 small_number PermDenied = omega arith
 
 -- a code that was found here, or behind this
-here : (n m : ℕ) (x c : ReplyCode) (others : Option ReplyCode) → number_of x ≡ m → cond (nat_eq n m) (Some x) others ≡ Some c
+here : (n m : ℕ) (x c : ReplyCode) (others : Option ReplyCode) → number_of x ≡ m
+    → cond (nat_eq n m) (Some x) others ≡ Some c
     → (others ≡ Some c → number_of c ≡ n) → number_of c ≡ n
 here n m x c others is e behind = by_test (nat_eq n m) refl e
   where
@@ -57,32 +59,39 @@ code_number n c e =
 
 -- behind a number that is or is no code's
 coded_field : {next : ReplyCode → Reading Head} {s : Head → List ℕ} {F : Head → Type 0} (o : Option ReplyCode)
-    → ((c : ReplyCode) → o ≡ Some c → IsField (next c) s F) → ((h : Head) → F h → o ≡ Some h.code) → IsField (known o >>= next) s F
+    → ((c : ReplyCode) → o ≡ Some c → IsField (next c) s F) → ((h : Head) → F h → o ≡ Some h.code)
+    → IsField (known o >>= next) s F
 coded_field None some none = refuse_field (λ h f. absurd (no_code (none h f)))
   where
     no_code : {c : ReplyCode} → ◌≡◌ {A = Option ReplyCode} None (Some c) → ⊥
     no_code e = absurd cc
 coded_field (Some c) some none = some c refl
 
-same_head : (h : Head) (c : ReplyCode) (p : Point) → h.code ≡ c → h.asked ≡ p → ◌≡◌ {A = Head} (record { code = c; asked = p; count = h.count }) h
+same_head : (h : Head) (c : ReplyCode) (p : Point) → h.code ≡ c → h.asked ≡ p
+    → ◌≡◌ {A = Head} (record { code = c; asked = p; count = h.count }) h
 same_head h c p a b = rw (← a, ← b) refl
 
-counted_head : (c : ReplyCode) (p : Point) → IsField (big_at 4 >>= λ count. done (record { code = c; asked = p; count = count })) (λ (h : Head). big 4 h.count)
+counted_head : (c : ReplyCode) (p : Point)
+    → IsField (big_at 4 >>= λ count. done (record { code = c; asked = p; count = count })) (λ (h : Head). big 4 h.count)
     (λ h. ((h.asked ≡ p) × (h.code ≡ c)) × (h.count < 256 ^ 4))
 counted_head c p = same_field
-    (last_field {K = λ (h : Head). (h.code ≡ c) × (h.asked ≡ p)} (big_field 4) (λ (h : Head). h.count) (λ count. record { code = c; asked = p; count = count }) (λ _ _. (refl, (refl, refl))) (λ h k. same_head h c p k.0 k.1))
+    (last_field {K = λ (h : Head). (h.code ≡ c) × (h.asked ≡ p)} (big_field 4) (λ (h : Head). h.count) (λ count.
+    record { code = c; asked = p; count = count }) (λ _ _. (refl, (refl, refl))) (λ h k. same_head h c p k.0 k.1))
     (λ h f. (refl, ((f.0.1, f.0.0), f.1)))
     (λ h f. ((f.0.1, f.0.0), f.1))
 
-asked_head : (c : ReplyCode) → IsField (point_at >>= λ asked. big_at 4 >>= λ count. done (record { code = c; asked = asked; count = count }))
+asked_head : (c : ReplyCode)
+    → IsField (point_at >>= λ asked. big_at 4 >>= λ count. done (record { code = c; asked = asked; count = count }))
     (λ (h : Head). point h.asked ++ big 4 h.count) (λ h. (h.code ≡ c) × (IsPoint h.asked × (h.count < 256 ^ 4)))
 asked_head c = then_field {K = λ (h : Head). h.code ≡ c} point_field (λ (h : Head). h.asked) (λ p _. counted_head c p)
 
 pub head_field : IsField head_at head_text IsHead
 unfolding head_at head_text
 head_field =
-    let behind : (n : ℕ) → n < 256 ^ 1 → IsField (known (code_of n) >>= λ code. point_at >>= λ asked. big_at 4 >>= λ count. done (record { code = code; asked = asked; count = count }))
-    (λ (h : Head). point h.asked ++ big 4 h.count) (λ h. (number_of h.code ≡ n) × (IsPoint h.asked × (h.count < 256 ^ 4))) =
+    let behind : (n : ℕ) → n < 256 ^ 1 → IsField (known (code_of n) >>= λ code. point_at >>= λ asked. big_at 4
+    >>= λ count. done (record { code = code; asked = asked; count = count }))
+    (λ (h : Head). point h.asked ++ big 4 h.count)
+    (λ h. (number_of h.code ≡ n) × (IsPoint h.asked × (h.count < 256 ^ 4))) =
     λ n _. coded_field (code_of n)
     (λ c e. same_field (asked_head c)
     (λ h f. (refl, (ap number_of f.0 ∙ code_number n c e, f.1)))

@@ -7,7 +7,8 @@ use Rattle.princ_rows.specs.Entries.{sent}
 use Rattle.princ_rows.specs.Replies.{number_of}
 use Rattle.princ_rows.specs.Replies.{Reply as ReplyParts}
 use Rattle.princ_rows.specs.declared.entries.Entry.{Entry}
-use Rattle.iprop_wire.specs.Frames.{frame_text, most_behind, hello_kind, poll_kind, ask_kind, reply_kind, update_kind, piece_kind, total_kind}
+use Rattle.iprop_wire.specs.Frames.{frame_text, most_behind, hello_kind, poll_kind, ask_kind}
+use Rattle.iprop_wire.specs.Frames.{reply_kind, update_kind, piece_kind, total_kind}
 use Rattle.iprop_wire.specs.declared.formats.Head.{Head}
 use Rattle.iprop_wire.specs.declared.messages.Message.{Message}
 use Rattle.iprop_wire.specs.declared.messages.Message.TheVariants.{Hello, Poll, Ask, Reply, DumpText}
@@ -29,7 +30,8 @@ update_text e = frame_text update_kind (sent e)
 -- the text in pieces as long as may be, at most n of them
 unfoldable pub pieces_text : ℕ → List ℕ → List ℕ
 pieces_text zero text = []
-pieces_text (suc n) text = if nat_eq (length text) 0 then [] else frame_text piece_kind (take most_behind text) ++ pieces_text n (drop most_behind text)
+pieces_text (suc n) text = if nat_eq (length text) 0 then []
+    else frame_text piece_kind (take most_behind text) ++ pieces_text n (drop most_behind text)
 
 unfoldable pub dump_frames : List ℕ → List ℕ
 dump_frames text = pieces_text (length text) text ++ frame_text total_kind (big 8 (length text))

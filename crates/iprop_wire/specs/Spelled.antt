@@ -1,4 +1,5 @@
--- The grammar of messages: which bytes spell which. A dump may be cut into pieces anywhere, and every other message has one spelling.
+-- The grammar of messages: which bytes spell which. A dump may be cut into pieces anywhere, and every other message has
+-- one spelling.
 use Rattle.std.specs.Prelude.{ℕ, ◌≡◌, ◌<◌, ◌≤◌, ◌^◌, List, [], ◌∷◌, ◌++◌, length, map}
 use Rattle.std.specs.List.{All, flat_map}
 use Rattle.kdb_format.specs.Moments.{point, IsPoint}
@@ -6,7 +7,8 @@ use Rattle.kdb_format.specs.Spellings.{big}
 use Rattle.princ_rows.specs.Entries.{sent}
 use Rattle.princ_rows.specs.Replies.{IsReply}
 use Rattle.princ_rows.specs.declared.entries.Entry.{Entry}
-use Rattle.iprop_wire.specs.Frames.{Frame, frame, text_of, most_behind, hello_kind, poll_kind, ask_kind, reply_kind, update_kind, piece_kind, total_kind}
+use Rattle.iprop_wire.specs.Frames.{Frame, frame, text_of, most_behind, hello_kind, poll_kind}
+use Rattle.iprop_wire.specs.Frames.{ask_kind, reply_kind, update_kind, piece_kind, total_kind}
 use Rattle.iprop_wire.specs.HeadLaws.{IsHead}
 use Rattle.iprop_wire.specs.Messages.{head_of, head_text}
 use Rattle.iprop_wire.specs.declared.messages.Message.{Message}
@@ -14,7 +16,8 @@ use Rattle.iprop_wire.specs.declared.messages.Message.TheVariants.{Hello, Poll, 
 
 -- ---- which messages there are
 
--- a name fits into a frame; the code, the point and the number of updates are known; the length of a dump can be written
+-- a name fits into a frame; the code, the point and the number of updates are known; the length of a dump can be
+-- written
 abbrev pub IsMessage : Message → Type 0
 IsMessage (Hello name) = length name ≤ most_behind
 IsMessage (Poll asked) = IsPoint asked

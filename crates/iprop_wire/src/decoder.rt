@@ -3,10 +3,12 @@
 ghost use Rattle.std.specs.Prelude.{◌≡◌, ◌≤◌, ◌<◌, ◌++◌, ℕ, Ok, Err, true, IfOk, OnOk, length};
 ghost use Rattle.byteorder.specs.Endian.{big_number};
 ghost use Rattle.iprop_wire.specs.Answers.{Advances, IsBegun, Settles, begun, need, refused};
-ghost use Rattle.iprop_wire.specs.Decoding.{Broken, Going, Spent, State, Takes, Waits, fed, fresh, handed_out, is_going, is_idle, is_length, settled, waiting_in};
+ghost use Rattle.iprop_wire.specs.Decoding.{Broken, Going, Spent, State, Takes, Waits, fed, fresh};
+ghost use Rattle.iprop_wire.specs.Decoding.{handed_out, is_going, is_idle, is_length, settled, waiting_in};
 ghost use Rattle.iprop_wire.specs.Due.{is_due};
 ghost use Rattle.iprop_wire.specs.declared.faults.FrameFault.{FrameFault};
-ghost use Rattle.iprop_wire.specs.declared.faults.FrameFault.TheVariants.{BadFrame as IsBadFrame, MemoryOut as IsMemoryOut};
+ghost use Rattle.iprop_wire.specs.declared.faults.FrameFault.TheVariants.{BadFrame as IsBadFrame};
+ghost use Rattle.iprop_wire.specs.declared.faults.FrameFault.TheVariants.{MemoryOut as IsMemoryOut};
 ghost use Rattle.iprop_wire.specs.declared.messages.Message.{Message};
 
 use crate::due::{Due, is_due_message};
@@ -90,7 +92,8 @@ fn take_some(
     bytes: &[u8],
 ) -> Result<Option<Message>, FrameFault>
     requires { IsBegun progress.old }
-    ensures settles { Settles result (settled (begun progress.old) (held.old.items ++ bytes.now)) (begun progress.new) held.new.items }
+    ensures settles { Settles result (settled (begun progress.old) (held.old.items ++ bytes.now))
+        (begun progress.new) held.new.items }
     ensures kept { OnOk result (IsBegun progress.new) }
 {
     push_bytes(held, bytes)?;

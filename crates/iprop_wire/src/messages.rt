@@ -6,7 +6,8 @@ ghost use Rattle.std.specs.List.{All, flat_map};
 ghost use Rattle.kdb_format.specs.Spellings.{big};
 ghost use Rattle.princ_rows.specs.Entries.{IsSent};
 ghost use Rattle.iprop_wire.specs.Frames.{frame_text, most_behind, reply_kind};
-ghost use Rattle.iprop_wire.specs.Messages.{FitsFrames, dump_frames, head_of, head_text, message_text, pieces_text, update_text};
+ghost use Rattle.iprop_wire.specs.Messages.{FitsFrames, dump_frames, head_of, head_text};
+ghost use Rattle.iprop_wire.specs.Messages.{message_text, pieces_text, update_text};
 
 use crate::formats::{Head, HeadFormat, PointFormat, TotalFormat};
 use kdb_base::{Blob, MemoryOut, Point};

@@ -7,7 +7,10 @@ ghost use Rattle.kdb_format.specs.Readings.{big_at, whole};
 ghost use Rattle.princ_rows.specs.Entries.{IsSent};
 ghost use Rattle.princ_rows.specs.declared.replies.ReplyCode.TheVariants.{UpdateOk};
 ghost use Rattle.iprop_wire.specs.Answers.{Closes, ClosesFirst, IsBegun, begun};
-ghost use Rattle.iprop_wire.specs.Decoding.{Nothing, Waits, after_ask, after_dump_frame, after_first_frame, after_frame, after_head, after_piece, after_total, after_update, after_update_frame, head_at, is_nothing, is_of_dump, may_begin, may_come, or_broken};
+ghost use Rattle.iprop_wire.specs.Decoding.{Nothing, Waits, after_ask, after_dump_frame};
+ghost use Rattle.iprop_wire.specs.Decoding.{after_first_frame, after_frame, after_head, after_piece};
+ghost use Rattle.iprop_wire.specs.Decoding.{after_total, after_update, after_update_frame, head_at};
+ghost use Rattle.iprop_wire.specs.Decoding.{is_nothing, is_of_dump, may_begin, may_come, or_broken};
 ghost use Rattle.iprop_wire.specs.Due.{is_due_begun};
 ghost use Rattle.iprop_wire.specs.declared.messages.Message.TheVariants.{Hello, Poll, Reply};
 
@@ -200,7 +203,8 @@ impl Progress {
     ) -> Result<Option<Message>, FrameFault>
         requires before { All IsSent self.old.updates.items }
         requires some { 0 < left }
-        ensures closes { Closes result (after_update_frame asked left self.old.updates.items kind behind.now) (begun self.new) }
+        ensures closes { Closes result (after_update_frame asked left self.old.updates.items kind behind.now)
+            (begun self.new) }
         ensures kept { OnOk result (IsBegun self.new) }
     {
         if kind != UPDATE {
@@ -227,7 +231,8 @@ impl Progress {
 
     /// Takes the frame that ends a dump.
     fn take_total(&mut self, alloc: Global, behind: &[u8]) -> Result<Option<Message>, FrameFault>
-        ensures closes { Closes result (or_broken (whole (big_at 8) behind.now) (after_total self.old.text.items)) (begun self.new) }
+        ensures closes { Closes result (or_broken (whole (big_at 8) behind.now) (after_total self.old.text.items))
+            (begun self.new) }
         ensures kept { OnOk result (IsBegun self.new) }
     {
         let total = read_whole::<TotalFormat>(alloc, behind)?;

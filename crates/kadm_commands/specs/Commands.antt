@@ -73,14 +73,16 @@ pub record IsModPolicy (c : ModPolicy) : Type 0 where
 -- ---- commands
 
 unfoldable pub IsCommand : List ℕ → Command → Type 0
-IsCommand realm (command.AddPrinc c) = IsOwnName realm c.name × IfSome c.keys IsNewKeys × IfSome c.policy IsPolicyChoice × AreOptions c.options
+IsCommand realm (command.AddPrinc c) =
+    IsOwnName realm c.name × IfSome c.keys IsNewKeys × IfSome c.policy IsPolicyChoice × AreOptions c.options
 IsCommand realm (command.ModPrinc c) = IsOwnName realm c.name × IfSome c.policy IsPolicyChoice × AreOptions c.options
 IsCommand realm (command.ChangeKeys c) = IsOwnName realm c.name × IsNewKeys c.keys
 IsCommand realm (command.RenPrinc c) = IsOwnName realm c.name × IsOwnName realm c.new_name
 IsCommand realm (command.DelPrinc name) = IsOwnName realm name
 IsCommand realm (command.GetPrinc name) = IsOwnName realm name
 IsCommand realm (command.PurgeKeys c) = IsOwnName realm c.name × IfSome c.keep IsKvno
-IsCommand realm (command.SetString c) = IsOwnName realm c.name × IsTrue (is_string_key c.key) × IsTrue (is_string_value c.value)
+IsCommand realm (command.SetString c) =
+    IsOwnName realm c.name × IsTrue (is_string_key c.key) × IsTrue (is_string_value c.value)
 IsCommand realm (command.DelString c) = IsOwnName realm c.name × IsTrue (is_string_key c.key)
 IsCommand realm (command.GetStrings name) = IsOwnName realm name
 IsCommand realm (command.Extract name) = IsOwnName realm name

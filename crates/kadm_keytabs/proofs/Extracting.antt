@@ -38,7 +38,8 @@ extract_call client name clock random due = call_of client None (command.Extract
 
 -- of the causes only two can hold
 refusal_is : (s : State) (client name : NameParts) (clock : Moment) (random : List ℕ) (due : Bool)
-    → refusal s (extract_call client name clock random due) ≡ refused_by (is_protected s.realm name) (named_in s.princs name)
+    → refusal s (extract_call client name clock random due)
+    ≡ refused_by (is_protected s.realm name) (named_in s.princs name)
 unfolding refusal causes_with first entry_of target bytes_put
 refusal_is s client name clock random due = by (is_protected s.realm name) (named_in s.princs name)
   where
@@ -51,7 +52,8 @@ refusal_is s client name clock random due = by (is_protected s.realm name) (name
     by false (Some q) = refl
 
 reply_is : (s : State) (client name : NameParts) (clock : Moment) (random : List ℕ) (due : Bool) (r : Option Refusal)
-    → (unless_refused s (extract_call client name clock random due) r).reply ≡ reply_for s (extract_call client name clock random due) name r (named_in s.princs name)
+    → (unless_refused s (extract_call client name clock random due) r).reply
+    ≡ reply_for s (extract_call client name clock random due) name r (named_in s.princs name)
 unfolding unless_refused performed entry_of target
 reply_is s client name clock random due None = refl
 reply_is s client name clock random due (Some why) = refl
@@ -69,7 +71,8 @@ pub extract_step : (s : State) (client name : NameParts) (clock : Moment) (rando
 unfolding step
 extract_step s client name clock random due =
     reply_is s client name clock random due (refusal s (extract_call client name clock random due))
-    ∙ ap (λ (r : Option Refusal). reply_for s (extract_call client name clock random due) name r (named_in s.princs name)) (refusal_is s client name clock random due)
+    ∙ ap (λ (r : Option Refusal). reply_for s (extract_call client name clock random due) name r
+    (named_in s.princs name)) (refusal_is s client name clock random due)
     ∙ told_is s (extract_call client name clock random due) name (is_protected s.realm name) (named_in s.princs name)
 
 -- ---- which keys a reply has
@@ -92,7 +95,8 @@ replied_in : Answer → Reply
 replied_in (Replied reply) = reply
 replied_in other = reply.Refused Protected
 
-extract_answer : (at : Seen) (client name : NameParts) (clock : Moment) (random : List ℕ) (cmd : Command) → cmd ≡ command.Extract name
+extract_answer : (at : Seen) (client name : NameParts) (clock : Moment) (random : List ℕ) (cmd : Command)
+    → cmd ≡ command.Extract name
     → answer_at (command_ask client None cmd clock random) at ≡ Replied (reply_with (keys_told at.state name))
 unfolding outcome commanded
 extract_answer at client name clock random cmd is =
@@ -101,15 +105,19 @@ extract_answer at client name clock random cmd is =
     ∙ ap Replied (extract_step at.state client name clock random (due_at ask at))
 
 -- what the primary answered are the keys
-pub keys_answered : {E : Type 0} (result : Result (Result (List Extract) Refusal) E) (at : Seen) (client name : NameParts) (clock : Moment) (random : List ℕ) (cmd : Command) (reply given : Reply)
-    → cmd ≡ command.Extract name → answer_at (command_ask client None cmd clock random) at ≡ Replied reply → given ≡ reply
+pub keys_answered : {E : Type 0} (result : Result (Result (List Extract) Refusal) E) (at : Seen)
+    (client name : NameParts) (clock : Moment) (random : List ℕ) (cmd : Command) (reply given : Reply)
+    → cmd ≡ command.Extract name → answer_at (command_ask client None cmd clock random) at ≡ Replied reply
+    → given ≡ reply
     → IfOk result (λ told. given ≡ reply_with told) → IfOk result (λ told. told ≡ keys_told at.state name)
 unfolding replied_in
 keys_answered (Ok told) at client name clock random cmd reply given is answered same has =
-    same_told told (keys_told at.state name) (sym has ∙ same ∙ ap replied_in (sym answered ∙ extract_answer at client name clock random cmd is))
+    same_told told (keys_told at.state name)
+    (sym has ∙ same ∙ ap replied_in (sym answered ∙ extract_answer at client name clock random cmd is))
 keys_answered (Err e) at client name clock random cmd reply given is answered same has = tt
 
-pub is_extract : (realm : List ℕ) (name : NameParts) (cmd : Command) → cmd ≡ command.Extract name → IsOwnName realm name → IsCommand realm cmd
+pub is_extract : (realm : List ℕ) (name : NameParts) (cmd : Command) → cmd ≡ command.Extract name → IsOwnName realm name
+    → IsCommand realm cmd
 unfolding IsCommand
 is_extract realm name cmd is own = subst (IsCommand realm) (sym is) own
 

@@ -42,6 +42,7 @@ addition_by name secs entries (Err why) = refusal_answer why
 abbrev pub secs_at : State → Moment → ℕ
 secs_at s clock = (later_moment s.point.time clock).secs
 
--- The entries that were there, and behind them those of the principal's keys as they stand, with the time of this moment of the clock.
+-- The entries that were there, and behind them those of the principal's keys as they stand, with the time of this
+-- moment of the clock.
 abbrev pub Adds : State → NameParts → Moment → List Told → Answer → Type 0
 Adds s name clock entries answer = answer ≡ addition_by name (secs_at s clock) entries (keys_told s name)

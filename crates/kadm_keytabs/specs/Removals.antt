@@ -16,10 +16,11 @@ is_asked name (One version) t = is_of name t && nat_eq t.version version
 is_asked name All t = is_of name t
 is_asked name Older t = is_of name t
 
--- The keytab without the named entries, or a refusal where there is no entry of the name, or none of the name and the version. That there
--- is nothing older to remove is no refusal.
+-- The keytab without the named entries, or a refusal where there is no entry of the name, or none of the name and the
+-- version. That there is nothing older to remove is no refusal.
 abbrev pub removal_of : NameParts → Which → List Told → Answer
-removal_of name which entries = if list_any (is_asked name which) entries then keytab_answer (left name which entries) else refusal_answer UnknownEntry
+removal_of name which entries = if list_any (is_asked name which) entries then keytab_answer (left name which entries)
+    else refusal_answer UnknownEntry
 
 abbrev pub Removes : NameParts → Which → List Told → Answer → Type 0
 Removes name which entries answer = answer ≡ removal_of name which entries

@@ -55,12 +55,13 @@ ask_for w now random = command_ask w.client None (renew_command w.name w.etypes)
 
 -- ---- what a run comes to
 
--- The primary is asked so from here, and answers its own answer: the places that it makes, and the state behind them, are those of its history.
+-- The primary is asked so from here, and answers its own answer: the places that it makes, and the state behind them,
+-- are those of its history.
 abbrev pub IsAsked : Ask → Seen → Type 0
 IsAsked ask at = Performs at.place at.state ask (answer_at ask at) (made_at ask at)
 
--- what is answered, what the primary is asked for it and from where, the places that are made, the place with its state after them, and what the
--- clock and the random source have left
+-- what is answered, what the primary is asked for it and from where, the places that are made, the place with its state
+-- after them, and what the clock and the random source have left
 pub record Renewal : Type 0 where
   pub answer : Answer
   pub asked : Option Ask
@@ -88,12 +89,13 @@ abbrev pub keys_behind : Option Refusal → Result (List Extract) Refusal → Re
 keys_behind (Some why) told = Err why
 keys_behind None told = told
 
--- What is answered to a keytab with these entries: the entries, and behind them those of the principal's keys in the state after the command,
--- with the seconds of its moment; or its refusal.
+-- What is answered to a keytab with these entries: the entries, and behind them those of the principal's keys in the
+-- state after the command, with the seconds of its moment; or its refusal.
 abbrev pub answer_of : Wanted → Moment → List ℕ → Seen → List Told → Answer
 answer_of w now random at entries =
     addition_by w.name (moment_at now at.place).secs entries
-    (keys_behind (refusal_in (answer_at (ask_for w now random) at)) (keys_told (after_ask (ask_for w now random) at).state w.name))
+    (keys_behind (refusal_in (answer_at (ask_for w now random) at))
+    (keys_told (after_ask (ask_for w now random) at).state w.name))
 
 -- the places of the command, done with what is drawn next
 abbrev pub places_for : Wanted → Draws → Seen → List Place
@@ -112,7 +114,8 @@ renewal_of w draws at entries = record {
 
 -- A refusal that comes first: nothing is done and nothing is drawn.
 abbrev pub no_renewal : Refusal → Draws → Seen → Renewal
-no_renewal why draws at = record { answer = refusal_answer why; asked = None; from = at; made = []; later = at; draws = draws }
+no_renewal why draws at =
+    record { answer = refusal_answer why; asked = None; from = at; made = []; later = at; draws = draws }
 
 -- ---- by the input
 
@@ -130,7 +133,8 @@ pub record IsOfNone (refusal : ℕ → Renewal) (text : List ℕ) (r : Renewal) 
 
 -- what a run over this input comes to
 abbrev pub Renews : Wanted → Draws → Seen → List ℕ → Renewal → Type 0
-Renews w draws at text r = IsOfKeytab (renewal_of w draws at) text r ⊎ IsOfNone (λ place. no_renewal (BadKeytab place) draws at) text r
+Renews w draws at text r =
+    IsOfKeytab (renewal_of w draws at) text r ⊎ IsOfNone (λ place. no_renewal (BadKeytab place) draws at) text r
 
 -- ---- how it ends where nothing fails
 
@@ -139,7 +143,8 @@ pub record IsOpenAt (o : Opened) (at : Seen) : Type 0 where
   pub place_is : place_of o ≡ at.place
   pub shows : HasState o at.state
 
-pub record EndsRenewed (renews : Renewal → Type 0) (refused : Bool) (old new : Option (List ℕ)) (o : Opened) (left : Option Draws) : Type 0 where
+pub record EndsRenewed (renews : Renewal → Type 0) (refused : Bool) (old new : Option (List ℕ)) (o : Opened)
+    (left : Option Draws) : Type 0 where
   pub renewal : Renewal
   pub is : renews renewal
   pub refused_is : refused ≡ renewal.answer.refused
@@ -150,7 +155,8 @@ pub record EndsRenewed (renews : Renewal → Type 0) (refused : Bool) (old new :
 -- ---- where it may stop early
 
 -- within such a run: nothing of the answer was written, or a part of it was, and then the change stands
-pub record StopsWithin (renews : Renewal → Type 0) (taken : Option (List ℕ)) (before : Place) (out : Option (List ℕ)) (first : Place) (others : List Place) : Type 0 where
+pub record StopsWithin (renews : Renewal → Type 0) (taken : Option (List ℕ)) (before : Place) (out : Option (List ℕ))
+    (first : Place) (others : List Place) : Type 0 where
   pub renewal : Renewal
   pub is : renews renewal
   pub stops : StopsAt taken renewal.answer.text before renewal.made renewal.later.place out first others
@@ -164,7 +170,8 @@ MayStop renews taken before out first others =
 unfoldable pub RenewalStops : Wanted → Option (List ℕ) → Option (List ℕ) → Option Draws → Seen → Stage
 RenewalStops w taken None told at out first others = ⊤
 RenewalStops w taken (Some text) None at out first others = ⊤
-RenewalStops w taken (Some text) (Some draws) at out first others = MayStop (Renews w draws at text) taken at.place out first others
+RenewalStops w taken (Some text) (Some draws) at out first others =
+    MayStop (Renews w draws at text) taken at.place out first others
 
 -- ---- what a crash may leave at any moment of it
 
@@ -174,7 +181,8 @@ pub record LeavesMade (renews : Renewal → Type 0) (before : Place) (c : Files)
   pub is : renews renewal
   pub leaves : LeavesPart before renewal.made c
 
--- whatever the input, the clock and the random bytes are: a place that this command makes at some moment and with some block, or the one before them
+-- whatever the input, the clock and the random bytes are: a place that this command makes at some moment and with some
+-- block, or the one before them
 pub record LeavesAsked (w : Wanted) (at : Seen) (c : Files) : Type 0 where
   pub clock : Moment
   pub clock_is : IsMoment clock
@@ -190,4 +198,5 @@ LeavesOfCommand w at c = (recovers c ≡ Ok at.place) ⊎ LeavesAsked w at c
 unfoldable pub RenewalLeaves : Wanted → Option (List ℕ) → Option Draws → Seen → Files → Type 0
 RenewalLeaves w None told at c = LeavesOfCommand w at c
 RenewalLeaves w (Some text) None at c = LeavesOfCommand w at c
-RenewalLeaves w (Some text) (Some draws) at c = (recovers c ≡ Ok at.place) ⊎ LeavesMade (Renews w draws at text) at.place c
+RenewalLeaves w (Some text) (Some draws) at c =
+    (recovers c ≡ Ok at.place) ⊎ LeavesMade (Renews w draws at text) at.place c

@@ -34,7 +34,8 @@ abbrev pub fresh_keys : List Extract → List ℕ → List Etype → List Extrac
 fresh_keys old random etypes = map (extract_at (version_told old + 1)) (random_keys random etypes)
 
 -- the principal has keys that may be told, and these are to follow them
-pub record AreFresh (s : State) (name : NameParts) (random : List ℕ) (etypes : List Etype) (keys : List Extract) : Type 0 where
+pub record AreFresh (s : State) (name : NameParts) (random : List ℕ) (etypes : List Etype)
+    (keys : List Extract) : Type 0 where
   pub old : List Extract
   pub told : keys_told s name ≡ Ok old
   pub are : keys ≡ fresh_keys old random etypes
@@ -59,8 +60,10 @@ abbrev pub AreItsPlaces : Wanted → Option Draws → Seen → List Place → Ty
 AreItsPlaces w None at made = ⊤
 AreItsPlaces w (Some draws) at made = made ≡ places_for w draws at
 
--- a crash leaves the place before the command, or one that it makes; and whatever is told, one that it makes at some moment, with some block
-pub record IsCommandSafe {D : Type 0} (g : Ghosts D) (old new : D) (w : Wanted) (told : Option Draws) (at : Seen) : Type 0 where
+-- a crash leaves the place before the command, or one that it makes; and whatever is told, one that it makes at some
+-- moment, with some block
+pub record IsCommandSafe {D : Type 0} (g : Ghosts D) (old new : D) (w : Wanted) (told : Option Draws)
+    (at : Seen) : Type 0 where
   pub made : List Place
   pub are : AreItsPlaces w told at made
   pub safe : IsCrashSafe g old new (LeavesPart at.place made)
@@ -78,7 +81,8 @@ AreRunPlaces w None at text made = ⊤
 AreRunPlaces w (Some draws) at text made = (made ≡ []) ⊎ AreMadeBy (Renews w draws at text) made
 
 -- a crash leaves the place before the run, or one that it makes; and whatever is told, one of the command, as above
-pub record IsRunSafe {D : Type 0} (g : Ghosts D) (old new : D) (w : Wanted) (told : Option Draws) (at : Seen) (text : List ℕ) : Type 0 where
+pub record IsRunSafe {D : Type 0} (g : Ghosts D) (old new : D) (w : Wanted) (told : Option Draws) (at : Seen)
+    (text : List ℕ) : Type 0 where
   pub made : List Place
   pub are : AreRunPlaces w told at text made
   pub safe : IsCrashSafe g old new (LeavesPart at.place made)

@@ -108,7 +108,8 @@ fn answer_input(
 ) -> Result<Answer, MemoryOut>
     requires name { IsOwnName primary.now.kept.realm name.now }
     requires whole { primary.now.kept.broken ≡ false }
-    ensures { (s : State) → HasState primary.now s → IfOk result (λ answer. Answers (Adds s name.now moment) kept.now answer) }
+    ensures { (s : State) → HasState primary.now s
+        → IfOk result (λ answer. Answers (Adds s name.now moment) kept.now answer) }
 {
     match read_keytab_input(alloc, kept) {
         Ok(list) => answer_list(alloc, primary, name, moment, list),
@@ -127,9 +128,9 @@ fn answer_input(
 ///
 /// # Errors
 ///
-/// `ReadFault` and `WriteFault` only where that object's count of faults rose, `InputTooLong` where 4294967296 bytes were
-/// taken and no end had come, `MemoryOut` where memory is wanted and not given. All memory is taken before the first
-/// byte is written.
+/// `ReadFault` and `WriteFault` only where that object's count of faults rose, `InputTooLong` where 4294967296 bytes
+/// were taken and no end had come, `MemoryOut` where memory is wanted and not given. All memory is taken before the
+/// first byte is written.
 pub fn ktadd_standing<S: Source, K: Sink>(
     alloc: Global,
     primary: &Primary,
@@ -142,12 +143,15 @@ pub fn ktadd_standing<S: Source, K: Sink>(
     requires whole { primary.now.kept.broken ≡ false }
     // All is said for the state that the rows show with the master keys that were found.
     ensures ended { (s : State) (text : List ℕ) → HasState primary.now s → S.left source.old ≡ Some text
-        → IfOk result (λ refused. IsWritten (Answers (Adds s name.now moment) text) refused (K.taken sink.old) (K.taken sink.new)) }
+        → IfOk result (λ refused.
+        IsWritten (Answers (Adds s name.now moment) text) refused (K.taken sink.old) (K.taken sink.new)) }
     ensures cut { (s : State) (text : List ℕ) → HasState primary.now s → S.left source.old ≡ Some text
-        → result ≡ Err SessionHalt.WriteFault → IsPartWritten (Answers (Adds s name.now moment) text) (K.taken sink.old) (K.taken sink.new) }
+        → result ≡ Err SessionHalt.WriteFault
+        → IsPartWritten (Answers (Adds s name.now moment) text) (K.taken sink.old) (K.taken sink.new) }
     ensures unwritten { IfErr result (λ halt. halt ≢ SessionHalt.WriteFault → sink.new ≡ sink.old) }
     ensures read { OnOk result (IsReadWhole (S.left source.old) (S.left source.new)) }
-    ensures too_long { result ≡ Err SessionHalt.InputTooLong → WereTaken 4294967296 (S.left source.old) (S.left source.new) }
+    ensures too_long { result ≡ Err SessionHalt.InputTooLong
+        → WereTaken 4294967296 (S.left source.old) (S.left source.new) }
     ensures halt { IfErr result IsFilterHalt }
     ensures reads { Counts (S.faults source.old) (S.faults source.new) (result ≡ Err SessionHalt.ReadFault) }
     ensures writes { Counts (K.faults sink.old) (K.faults sink.new) (result ≡ Err SessionHalt.WriteFault) }

@@ -77,13 +77,14 @@ fn read_piece<S: Source>(
 ///
 /// # Errors
 ///
-/// `ReadFault` only where the source's count of faults rose, `InputTooLong` where 4294967296 bytes were taken and no end
-/// had come, `MemoryOut` where memory is wanted and not given.
+/// `ReadFault` only where the source's count of faults rose, `InputTooLong` where 4294967296 bytes were taken and no
+/// end had come, `MemoryOut` where memory is wanted and not given.
 pub fn read_input<S: Source>(alloc: Global, source: &mut S) -> Result<Blob, SessionHalt>
     ensures kept { IfOk result (λ kept. IsKept (S.left source.old) kept) }
     ensures short { IfOk result (λ kept. length kept ≤ most_kept) }
     ensures read { OnOk result (IsReadWhole (S.left source.old) (S.left source.new)) }
-    ensures too_long { result ≡ Err SessionHalt.InputTooLong → WereTaken 4294967296 (S.left source.old) (S.left source.new) }
+    ensures too_long { result ≡ Err SessionHalt.InputTooLong
+        → WereTaken 4294967296 (S.left source.old) (S.left source.new) }
     ensures halt { IfErr result IsInputHalt }
     ensures faults { Counts (S.faults source.old) (S.faults source.new) (result ≡ Err SessionHalt.ReadFault) }
 {
@@ -108,8 +109,8 @@ pub fn read_input<S: Source>(alloc: Global, source: &mut S) -> Result<Blob, Sess
 ///
 /// # Errors
 ///
-/// `BadKeytab` where it has more than 1048576 bytes, with that place, and where it breaks the grammar; `MemoryOut` where
-/// memory is wanted and not given.
+/// `BadKeytab` where it has more than 1048576 bytes, with that place, and where it breaks the grammar; `MemoryOut`
+/// where memory is wanted and not given.
 pub fn read_keytab_input(alloc: Global, kept: &[u8]) -> Result<KeytabList, KeytabFault>
     ensures ok { IfOk result (λ list. IsKeytabInput kept.now list) }
     ensures bad { (place : ℕ) → result ≡ Err (BadKeytab place) → IsBadInput kept.now place }

@@ -61,7 +61,8 @@ fn judge_ready(
     requires judged { is_judged ready.now.command ≡ true }
     requires random { length random.now ≡ 2048 }
     requires whole { primary.now.kept.broken ≡ false }
-    ensures decided { IfOk result (λ j. IsDecided primary.now (command_ask client.now None ready.now.command now random.now) j.reply j.change) }
+    ensures decided { IfOk result
+        (λ j. IsDecided primary.now (command_ask client.now None ready.now.command now random.now) j.reply j.change) }
     ensures may { (change : Changes) → IfOk result (λ j. j.change ≡ Some change → MayMake primary.now now change) }
 {
     match primary.decide(alloc, client, None, ready, now, random) {
@@ -92,7 +93,8 @@ pub(crate) fn judge_renewal(
     requires etypes { AreEtypes etypes.now }
     requires random { length random.now ≡ 2048 }
     requires whole { primary.now.kept.broken ≡ false }
-    ensures decided { IfOk result (λ j. IsDecided primary.now (ask_for (wanted client.now name.now etypes.now) now random.now) j.reply j.change) }
+    ensures decided { IfOk result
+        (λ j. IsDecided primary.now (ask_for (wanted client.now name.now etypes.now) now random.now) j.reply j.change) }
     ensures may { (change : Changes) → IfOk result (λ j. j.change ≡ Some change → MayMake primary.now now change) }
 {
     let command = renew_command(alloc, name, etypes)?;
@@ -111,11 +113,15 @@ pub(crate) fn carry_out<D: Disk>(
     requires on { D.tells → IsOnDisk primary.old.kept (D.view disk.old) }
     requires whole { primary.old.kept.broken ≡ false }
     requires may { (change : Changes) → judged.change ≡ Some change → MayMake primary.old now change }
-    ensures stands { (ask : Ask) (s : State) → clock_of ask ≡ now → IsDecided primary.old ask judged.reply judged.change → HasState primary.old s → OnOk result (IsOpenAt primary.new (after_ask ask (seen (place_of primary.old) s))) }
-    ensures crash { (ask : Ask) (s : State) → clock_of ask ≡ now → IsDecided primary.old ask judged.reply judged.change → HasState primary.old s → IsCrashSafe D.Disk disk.old disk.new (LeavesPart (place_of primary.old) (places (made_at ask (seen (place_of primary.old) s)))) }
+    ensures stands { (ask : Ask) (s : State) → clock_of ask ≡ now → IsDecided primary.old ask judged.reply judged.change
+        → HasState primary.old s → OnOk result (IsOpenAt primary.new (after_ask ask (seen (place_of primary.old) s))) }
+    ensures crash { (ask : Ask) (s : State) → clock_of ask ≡ now → IsDecided primary.old ask judged.reply judged.change
+        → HasState primary.old s → IsCrashSafe D.Disk disk.old disk.new
+        (LeavesPart (place_of primary.old) (places (made_at ask (seen (place_of primary.old) s)))) }
     ensures on { D.tells → OnOk result (IsOnDisk primary.new.kept (D.view disk.new)) }
     ensures whole { OnOk result (primary.new.kept.broken ≡ false) }
-    ensures memory { result ≡ Err SessionHalt.MemoryOut → (disk.new ≡ disk.old) × (place_of primary.new ≡ place_of primary.old) }
+    ensures memory { result ≡ Err SessionHalt.MemoryOut
+        → (disk.new ≡ disk.old) × (place_of primary.new ≡ place_of primary.old) }
     ensures halt { IfErr result IsPerformHalt }
     ensures not_drawn { IfErr result (λ halt. halt ≢ SessionHalt.DrawFault) }
     ensures call { IsCall D.Disk disk.old disk.new (result ≡ Err SessionHalt.DiskFault) }

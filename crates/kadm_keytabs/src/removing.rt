@@ -69,9 +69,9 @@ fn answer_input(alloc: Global, name: &Name, which: Which, kept: &[u8]) -> Result
 ///
 /// # Errors
 ///
-/// `ReadFault` and `WriteFault` only where that object's count of faults rose, `InputTooLong` where 4294967296 bytes were
-/// taken and no end had come, `MemoryOut` where memory is wanted and not given. All memory is taken before the first
-/// byte is written.
+/// `ReadFault` and `WriteFault` only where that object's count of faults rose, `InputTooLong` where 4294967296 bytes
+/// were taken and no end had come, `MemoryOut` where memory is wanted and not given. All memory is taken before the
+/// first byte is written.
 pub fn ktremove<S: Source, K: Sink>(
     alloc: Global,
     name: &Name,
@@ -80,12 +80,15 @@ pub fn ktremove<S: Source, K: Sink>(
     sink: &mut K,
 ) -> Result<bool, SessionHalt>
     ensures ended { (text : List ℕ) → S.left source.old ≡ Some text
-        → IfOk result (λ refused. IsWritten (Answers (Removes name.now which) text) refused (K.taken sink.old) (K.taken sink.new)) }
+        → IfOk result (λ refused.
+        IsWritten (Answers (Removes name.now which) text) refused (K.taken sink.old) (K.taken sink.new)) }
     ensures cut { (text : List ℕ) → S.left source.old ≡ Some text
-        → result ≡ Err SessionHalt.WriteFault → IsPartWritten (Answers (Removes name.now which) text) (K.taken sink.old) (K.taken sink.new) }
+        → result ≡ Err SessionHalt.WriteFault
+        → IsPartWritten (Answers (Removes name.now which) text) (K.taken sink.old) (K.taken sink.new) }
     ensures unwritten { IfErr result (λ halt. halt ≢ SessionHalt.WriteFault → sink.new ≡ sink.old) }
     ensures read { OnOk result (IsReadWhole (S.left source.old) (S.left source.new)) }
-    ensures too_long { result ≡ Err SessionHalt.InputTooLong → WereTaken 4294967296 (S.left source.old) (S.left source.new) }
+    ensures too_long { result ≡ Err SessionHalt.InputTooLong
+        → WereTaken 4294967296 (S.left source.old) (S.left source.new) }
     ensures halt { IfErr result IsFilterHalt }
     ensures reads { Counts (S.faults source.old) (S.faults source.new) (result ≡ Err SessionHalt.ReadFault) }
     ensures writes { Counts (K.faults sink.old) (K.faults sink.new) (result ≡ Err SessionHalt.WriteFault) }

@@ -1,11 +1,14 @@
 //! New keys of a principal, made and added to a keytab.
 
-ghost use Rattle.std.specs.Prelude.{◌≡◌, ◌≢◌, ◌⊎◌, false, ℕ, List, Option, Some, None, Err, IfErr, IfOk, OnErr, OnOk, length, map};
+ghost use Rattle.std.specs.Prelude.{◌≡◌, ◌≢◌, ◌⊎◌, false, ℕ, List, Option, Some, None};
+ghost use Rattle.std.specs.Prelude.{Err, IfErr, IfOk, OnErr, OnOk, length, map};
 ghost use Rattle.kadm_commands.specs.Commands.{AreEtypes, IsOwnName};
 ghost use Rattle.kadm_keytabs.specs.Additions.{addition_by, keys_told};
 ghost use Rattle.kadm_keytabs.specs.Answers.{refusal_answer};
-ghost use Rattle.kadm_keytabs.specs.Renewals.{EndsRenewed, IsAsked, IsOpenAt, RenewalLeaves, RenewalStops, Renews, answer_of, ask_for, keys_behind, refused_in, renewal_of, wanted};
-ghost use Rattle.kadm_keytabs.specs.Renewing.{AreFresh, IsCommandSafe, IsMade, IsOfInput, IsRenewed, IsRunSafe, extract_at, fresh_keys, version_told};
+ghost use Rattle.kadm_keytabs.specs.Renewals.{EndsRenewed, IsAsked, IsOpenAt, RenewalLeaves, RenewalStops, Renews};
+ghost use Rattle.kadm_keytabs.specs.Renewals.{answer_of, ask_for, keys_behind, refused_in, renewal_of, wanted};
+ghost use Rattle.kadm_keytabs.specs.Renewing.{AreFresh, IsCommandSafe, IsMade, IsOfInput, IsRenewed};
+ghost use Rattle.kadm_keytabs.specs.Renewing.{IsRunSafe, extract_at, fresh_keys, version_told};
 ghost use Rattle.kdb_base.specs.declared.outcomes.Refusal.TheVariants.{BadKeytab};
 ghost use Rattle.kdb_disk.specs.Frames.{IsCall, IsCrashSafe};
 ghost use Rattle.kdb_disk.specs.Moments.{LeavesOnly};
@@ -94,7 +97,8 @@ fn fresh_keys(
     requires etypes { AreEtypes etypes.now }
     requires random { length random.now ≡ 2048 }
     requires whole { primary.now.kept.broken ≡ false }
-    ensures { (s : State) → HasState primary.now s → IfOk result (λ keys. AreFresh s name.now random.now etypes.now keys) }
+    ensures { (s : State) → HasState primary.now s
+        → IfOk result (λ keys. AreFresh s name.now random.now etypes.now keys) }
 {
     match keys_told(alloc, primary, name, now) {
         Ok(Ok(old)) => keys_after(alloc, old.as_slice(), random, etypes),
@@ -128,8 +132,12 @@ fn keys_behind(
     requires etypes { AreEtypes etypes.now }
     requires random { length random.now ≡ 2048 }
     requires whole { primary.now.kept.broken ≡ false }
-    ensures { (s : State) → HasState primary.now s → answer_at (ask_for (wanted client.now name.now etypes.now) now random.now) (seen (place_of primary.now) s) ≡ Replied reply.now
-        → IfOk result (λ told. told ≡ keys_behind (refused_in reply.now) (keys_told (after_ask (ask_for (wanted client.now name.now etypes.now) now random.now) (seen (place_of primary.now) s)).state name.now)) }
+    ensures { (s : State) → HasState primary.now s
+        → answer_at (ask_for (wanted client.now name.now etypes.now) now random.now) (seen (place_of primary.now) s)
+        ≡ Replied reply.now
+        → IfOk result (λ told. told ≡ keys_behind (refused_in reply.now)
+        (keys_told (after_ask (ask_for (wanted client.now name.now etypes.now) now random.now)
+        (seen (place_of primary.now) s)).state name.now)) }
 {
     match refused_in(reply) {
         Some(why) => Ok(Err(why)),
@@ -156,9 +164,13 @@ fn answer_judged(
     requires etypes { AreEtypes etypes.now }
     requires random { length random.now ≡ 2048 }
     requires whole { primary.now.kept.broken ≡ false }
-    ensures { (s : State) → HasState primary.now s → answer_at (ask_for (wanted client.now name.now etypes.now) now random.now) (seen (place_of primary.now) s) ≡ Replied reply.now
+    ensures { (s : State) → HasState primary.now s
+        → answer_at (ask_for (wanted client.now name.now etypes.now) now random.now) (seen (place_of primary.now) s)
+        ≡ Replied reply.now
         → IfOk result (λ answer. answer ≡ addition_by name.now (moment_at now (place_of primary.now)).secs list
-        (keys_behind (refused_in reply.now) (keys_told (after_ask (ask_for (wanted client.now name.now etypes.now) now random.now) (seen (place_of primary.now) s)).state name.now))) }
+        (keys_behind (refused_in reply.now)
+        (keys_told (after_ask (ask_for (wanted client.now name.now etypes.now) now random.now)
+        (seen (place_of primary.now) s)).state name.now))) }
 {
     // A moment has microseconds of one second.
     let _micros = now.usecs();
@@ -191,9 +203,12 @@ fn prepare_renewal(
     requires etypes { AreEtypes etypes.now }
     requires random { length random.now ≡ 2048 }
     requires whole { primary.now.kept.broken ≡ false }
-    ensures decided { IfOk result (λ r. IsDecided primary.now (ask_for (wanted client.now name.now etypes.now) now random.now) r.judged.reply r.judged.change) }
-    ensures may { (change : Changes) → IfOk result (λ r. r.judged.change ≡ Some change → MayMake primary.now now change) }
-    ensures answer { (s : State) → HasState primary.now s → IfOk result (λ r. r.answer ≡ answer_of (wanted client.now name.now etypes.now) now random.now (seen (place_of primary.now) s) list) }
+    ensures decided { IfOk result (λ r. IsDecided primary.now
+        (ask_for (wanted client.now name.now etypes.now) now random.now) r.judged.reply r.judged.change) }
+    ensures may { (change : Changes)
+        → IfOk result (λ r. r.judged.change ≡ Some change → MayMake primary.now now change) }
+    ensures answer { (s : State) → HasState primary.now s → IfOk result (λ r. r.answer
+        ≡ answer_of (wanted client.now name.now etypes.now) now random.now (seen (place_of primary.now) s) list) }
 {
     decisions_are_asked();
     let judged = judge_renewal(alloc, primary, client, name, etypes, now, random)?;
@@ -216,11 +231,17 @@ fn make_renewal<D: Disk>(
     requires whole { primary.old.kept.broken ≡ false }
     requires may { (change : Changes) → renewal.judged.change ≡ Some change → MayMake primary.old now change }
     ensures same { IfOk result (λ answer. answer ≡ renewal.answer) }
-    ensures stands { (ask : Ask) (s : State) → clock_of ask ≡ now → IsDecided primary.old ask renewal.judged.reply renewal.judged.change → HasState primary.old s → OnOk result (IsOpenAt primary.new (after_ask ask (seen (place_of primary.old) s))) }
-    ensures crash { (ask : Ask) (s : State) → clock_of ask ≡ now → IsDecided primary.old ask renewal.judged.reply renewal.judged.change → HasState primary.old s → IsCrashSafe D.Disk disk.old disk.new (LeavesPart (place_of primary.old) (places (made_at ask (seen (place_of primary.old) s)))) }
+    ensures stands { (ask : Ask) (s : State) → clock_of ask ≡ now
+        → IsDecided primary.old ask renewal.judged.reply renewal.judged.change → HasState primary.old s
+        → OnOk result (IsOpenAt primary.new (after_ask ask (seen (place_of primary.old) s))) }
+    ensures crash { (ask : Ask) (s : State) → clock_of ask ≡ now
+        → IsDecided primary.old ask renewal.judged.reply renewal.judged.change
+        → HasState primary.old s → IsCrashSafe D.Disk disk.old disk.new
+        (LeavesPart (place_of primary.old) (places (made_at ask (seen (place_of primary.old) s)))) }
     ensures on { D.tells → OnOk result (IsOnDisk primary.new.kept (D.view disk.new)) }
     ensures whole { OnOk result (primary.new.kept.broken ≡ false) }
-    ensures memory { result ≡ Err SessionHalt.MemoryOut → (disk.new ≡ disk.old) × (place_of primary.new ≡ place_of primary.old) }
+    ensures memory { result ≡ Err SessionHalt.MemoryOut
+        → (disk.new ≡ disk.old) × (place_of primary.new ≡ place_of primary.old) }
     ensures halt { IfErr result IsPerformHalt }
     ensures not_drawn { IfErr result (λ halt. halt ≢ SessionHalt.DrawFault) }
     ensures call { IsCall D.Disk disk.old disk.new (result ≡ Err SessionHalt.DiskFault) }
@@ -249,13 +270,19 @@ fn renew_at<D: Disk>(
     requires random { length random.now ≡ 2048 }
     requires on { D.tells → IsOnDisk primary.old.kept (D.view disk.old) }
     requires whole { primary.old.kept.broken ≡ false }
-    ensures answer { (s : State) → HasState primary.old s → IfOk result (λ answer. answer ≡ answer_of (wanted client.now name.now etypes.now) now random.now (seen (place_of primary.old) s) list) }
-    ensures stands { (s : State) → HasState primary.old s → OnOk result (IsOpenAt primary.new (after_ask (ask_for (wanted client.now name.now etypes.now) now random.now) (seen (place_of primary.old) s))) }
-    ensures crash { (s : State) → HasState primary.old s → IsCrashSafe D.Disk disk.old disk.new (LeavesPart (place_of primary.old) (places (made_at (ask_for (wanted client.now name.now etypes.now) now random.now) (seen (place_of primary.old) s)))) }
-    ensures done { (s : State) → HasState primary.old s → (disk.new ≡ disk.old) ⊎ IsAsked (ask_for (wanted client.now name.now etypes.now) now random.now) (seen (place_of primary.old) s) }
+    ensures answer { (s : State) → HasState primary.old s → IfOk result (λ answer. answer
+        ≡ answer_of (wanted client.now name.now etypes.now) now random.now (seen (place_of primary.old) s) list) }
+    ensures stands { (s : State) → HasState primary.old s → OnOk result (IsOpenAt primary.new
+        (after_ask (ask_for (wanted client.now name.now etypes.now) now random.now) (seen (place_of primary.old) s))) }
+    ensures crash { (s : State)
+        → HasState primary.old s → IsCrashSafe D.Disk disk.old disk.new (LeavesPart (place_of primary.old) (places
+        (made_at (ask_for (wanted client.now name.now etypes.now) now random.now) (seen (place_of primary.old) s)))) }
+    ensures done { (s : State) → HasState primary.old s → (disk.new ≡ disk.old)
+        ⊎ IsAsked (ask_for (wanted client.now name.now etypes.now) now random.now) (seen (place_of primary.old) s) }
     ensures on { D.tells → OnOk result (IsOnDisk primary.new.kept (D.view disk.new)) }
     ensures whole { OnOk result (primary.new.kept.broken ≡ false) }
-    ensures memory { result ≡ Err SessionHalt.MemoryOut → (disk.new ≡ disk.old) × (place_of primary.new ≡ place_of primary.old) }
+    ensures memory { result ≡ Err SessionHalt.MemoryOut
+        → (disk.new ≡ disk.old) × (place_of primary.new ≡ place_of primary.old) }
     ensures halt { IfErr result IsPerformHalt }
     ensures not_drawn { IfErr result (λ halt. halt ≢ SessionHalt.DrawFault) }
     ensures call { IsCall D.Disk disk.old disk.new (result ≡ Err SessionHalt.DiskFault) }
@@ -291,14 +318,22 @@ fn renew_list<D: Disk, C: Clock, E: Entropy>(
     requires etypes { AreEtypes etypes.now }
     requires on { D.tells → IsOnDisk primary.old.kept (D.view disk.old) }
     requires whole { primary.old.kept.broken ≡ false }
-    ensures made { (s : State) (draws : Draws) → HasState primary.old s → told_draws (C.moments clock.old) (E.stream entropy.old) ≡ Some draws
-        → IfOk result (λ answer. IsMade (renewal_of (wanted client.now name.now etypes.now) draws (seen (place_of primary.old) s) list) answer primary.new (told_draws (C.moments clock.new) (E.stream entropy.new))) }
-    ensures safe { (s : State) → HasState primary.old s → IsCommandSafe D.Disk disk.old disk.new (wanted client.now name.now etypes.now) (told_draws (C.moments clock.old) (E.stream entropy.old)) (seen (place_of primary.old) s) }
-    ensures done { (s : State) (draws : Draws) → HasState primary.old s → told_draws (C.moments clock.old) (E.stream entropy.old) ≡ Some draws
-        → (disk.new ≡ disk.old) ⊎ IsAsked (ask_for (wanted client.now name.now etypes.now) (moment_in draws) (block_in draws)) (seen (place_of primary.old) s) }
+    ensures made { (s : State) (draws : Draws) → HasState primary.old s
+        → told_draws (C.moments clock.old) (E.stream entropy.old) ≡ Some draws
+        → IfOk result (λ answer.
+        IsMade (renewal_of (wanted client.now name.now etypes.now) draws (seen (place_of primary.old) s) list) answer
+        primary.new (told_draws (C.moments clock.new) (E.stream entropy.new))) }
+    ensures safe { (s : State)
+        → HasState primary.old s → IsCommandSafe D.Disk disk.old disk.new (wanted client.now name.now etypes.now)
+        (told_draws (C.moments clock.old) (E.stream entropy.old)) (seen (place_of primary.old) s) }
+    ensures done { (s : State) (draws : Draws) → HasState primary.old s
+        → told_draws (C.moments clock.old) (E.stream entropy.old) ≡ Some draws
+        → (disk.new ≡ disk.old) ⊎ IsAsked (ask_for (wanted client.now name.now etypes.now) (moment_in draws)
+        (block_in draws)) (seen (place_of primary.old) s) }
     ensures on { D.tells → OnOk result (IsOnDisk primary.new.kept (D.view disk.new)) }
     ensures whole { OnOk result (primary.new.kept.broken ≡ false) }
-    ensures memory { result ≡ Err SessionHalt.MemoryOut → (disk.new ≡ disk.old) × (place_of primary.new ≡ place_of primary.old) }
+    ensures memory { result ≡ Err SessionHalt.MemoryOut
+        → (disk.new ≡ disk.old) × (place_of primary.new ≡ place_of primary.old) }
     ensures drawn { result ≡ Err SessionHalt.DrawFault → (disk.new ≡ disk.old) × (primary.new ≡ primary.old) }
     ensures halt { IfErr result IsPerformHalt }
     ensures call { IsCall D.Disk disk.old disk.new (result ≡ Err SessionHalt.DiskFault) }
@@ -352,14 +387,22 @@ fn renew_input<D: Disk, C: Clock, E: Entropy>(
     requires etypes { AreEtypes etypes.now }
     requires on { D.tells → IsOnDisk primary.old.kept (D.view disk.old) }
     requires whole { primary.old.kept.broken ≡ false }
-    ensures renewed { (s : State) (draws : Draws) → HasState primary.old s → told_draws (C.moments clock.old) (E.stream entropy.old) ≡ Some draws
-        → IfOk result (λ answer. IsRenewed (Renews (wanted client.now name.now etypes.now) draws (seen (place_of primary.old) s) kept.now) answer primary.new (told_draws (C.moments clock.new) (E.stream entropy.new))) }
-    ensures safe { (s : State) → HasState primary.old s → IsRunSafe D.Disk disk.old disk.new (wanted client.now name.now etypes.now) (told_draws (C.moments clock.old) (E.stream entropy.old)) (seen (place_of primary.old) s) kept.now }
-    ensures done { (s : State) (draws : Draws) → HasState primary.old s → told_draws (C.moments clock.old) (E.stream entropy.old) ≡ Some draws
-        → (disk.new ≡ disk.old) ⊎ IsAsked (ask_for (wanted client.now name.now etypes.now) (moment_in draws) (block_in draws)) (seen (place_of primary.old) s) }
+    ensures renewed { (s : State) (draws : Draws) → HasState primary.old s
+        → told_draws (C.moments clock.old) (E.stream entropy.old) ≡ Some draws
+        → IfOk result (λ answer.
+        IsRenewed (Renews (wanted client.now name.now etypes.now) draws (seen (place_of primary.old) s) kept.now) answer
+        primary.new (told_draws (C.moments clock.new) (E.stream entropy.new))) }
+    ensures safe { (s : State)
+        → HasState primary.old s → IsRunSafe D.Disk disk.old disk.new (wanted client.now name.now etypes.now)
+        (told_draws (C.moments clock.old) (E.stream entropy.old)) (seen (place_of primary.old) s) kept.now }
+    ensures done { (s : State) (draws : Draws) → HasState primary.old s
+        → told_draws (C.moments clock.old) (E.stream entropy.old) ≡ Some draws
+        → (disk.new ≡ disk.old) ⊎ IsAsked (ask_for (wanted client.now name.now etypes.now) (moment_in draws)
+        (block_in draws)) (seen (place_of primary.old) s) }
     ensures on { D.tells → OnOk result (IsOnDisk primary.new.kept (D.view disk.new)) }
     ensures whole { OnOk result (primary.new.kept.broken ≡ false) }
-    ensures memory { result ≡ Err SessionHalt.MemoryOut → (disk.new ≡ disk.old) × (place_of primary.new ≡ place_of primary.old) }
+    ensures memory { result ≡ Err SessionHalt.MemoryOut
+        → (disk.new ≡ disk.old) × (place_of primary.new ≡ place_of primary.old) }
     ensures drawn { result ≡ Err SessionHalt.DrawFault → (disk.new ≡ disk.old) × (primary.new ≡ primary.old) }
     ensures halt { IfErr result IsPerformHalt }
     ensures call { IsCall D.Disk disk.old disk.new (result ≡ Err SessionHalt.DiskFault) }
@@ -375,19 +418,19 @@ fn renew_input<D: Disk, C: Clock, E: Entropy>(
     }
 }
 
-/// Reads a keytab from the source, makes new random keys of the principal, one of each of these types, as `cpw -randkey`
-/// of the administrator at the machine itself, and writes the keytab with an entry for each of them behind the others.
-/// A block of 2048 random bytes is drawn once the input was read as a keytab, and then the clock is read. The time of
-/// the new entries is that of the change: the clock's, or that of the last change where it is later. It answers whether
-/// a refusal was written in its place: `BadKeytab` where the input is no keytab of at most 1048576 bytes, and then
-/// nothing is drawn; else that of the command, and then nothing is changed.
+/// Reads a keytab from the source, makes new random keys of the principal, one of each of these types, as `cpw
+/// -randkey` of the administrator at the machine itself, and writes the keytab with an entry for each of them behind
+/// the others. A block of 2048 random bytes is drawn once the input was read as a keytab, and then the clock is read.
+/// The time of the new entries is that of the change: the clock's, or that of the last change where it is later. It
+/// answers whether a refusal was written in its place: `BadKeytab` where the input is no keytab of at most 1048576
+/// bytes, and then nothing is drawn; else that of the command, and then nothing is changed.
 ///
 /// # Errors
 ///
 /// `ReadFault`, `WriteFault`, `DiskFault` and `DrawFault` only where that object's count of faults rose, `InputTooLong`
 /// where 4294967296 bytes were taken and no end had come, `MemoryOut` where memory is wanted and not given. After all
-/// but `WriteFault` nothing was written, and after all but that and `DiskFault` nothing was changed: all memory is taken
-/// before the change, and the change stands before the first byte is written.
+/// but `WriteFault` nothing was written, and after all but that and `DiskFault` nothing was changed: all memory is
+/// taken before the change, and the change stands before the first byte is written.
 pub fn ktadd_renewing<S: Source, K: Sink, D: Disk, C: Clock, E: Entropy>(
     alloc: Global,
     primary: &mut Primary,
@@ -408,30 +451,40 @@ pub fn ktadd_renewing<S: Source, K: Sink, D: Disk, C: Clock, E: Entropy>(
     // the random bytes are told, what was written, the place, the state and what is left of both are what is said.
     ensures ended { (s : State) (text : List ℕ) (draws : Draws) → HasState primary.old s → S.left source.old ≡ Some text
         → told_draws (C.moments clock.old) (E.stream entropy.old) ≡ Some draws
-        → IfOk result (λ refused. EndsRenewed (Renews (wanted client.now name.now etypes.now) draws (seen (place_of primary.old) s) text) refused (K.taken sink.old) (K.taken sink.new) primary.new (told_draws (C.moments clock.new) (E.stream entropy.new))) }
+        → IfOk result (λ refused.
+        EndsRenewed (Renews (wanted client.now name.now etypes.now) draws (seen (place_of primary.old) s) text) refused
+        (K.taken sink.old) (K.taken sink.new) primary.new (told_draws (C.moments clock.new) (E.stream entropy.new))) }
     ensures on { D.tells → OnOk result (IsOnDisk primary.new.kept (D.view disk.new)) }
     ensures whole { OnOk result (primary.new.kept.broken ≡ false) }
 
-    // Where it stops early, the keys of which a byte was written are in every image. At any moment a crash leaves the place
-    // before, or one that the command makes, whatever the input, the clock and the random bytes are.
+    // Where it stops early, the keys of which a byte was written are in every image. At any moment a crash leaves the
+    // place before, or one that the command makes, whatever the input, the clock and the random bytes are.
     ensures stopped { D.tells → (s : State) → HasState primary.old s → OnErr result
-        (IsStopped (RenewalStops (wanted client.now name.now etypes.now) (K.taken sink.old) (S.left source.old) (told_draws (C.moments clock.old) (E.stream entropy.old)) (seen (place_of primary.old) s)) (K.taken sink.new) (D.view disk.new)) }
+        (IsStopped (RenewalStops (wanted client.now name.now etypes.now) (K.taken sink.old) (S.left source.old)
+        (told_draws (C.moments clock.old) (E.stream entropy.old)) (seen (place_of primary.old) s)) (K.taken sink.new)
+        (D.view disk.new)) }
     ensures moments { D.tells → (s : State) → HasState primary.old s → LeavesOnly (D.view disk.old) (D.view disk.new)
-        (RenewalLeaves (wanted client.now name.now etypes.now) (S.left source.old) (told_draws (C.moments clock.old) (E.stream entropy.old)) (seen (place_of primary.old) s)) }
+        (RenewalLeaves (wanted client.now name.now etypes.now) (S.left source.old)
+        (told_draws (C.moments clock.old) (E.stream entropy.old)) (seen (place_of primary.old) s)) }
     // Where a file was touched, the command is an event of the primary's history.
-    ensures done { (s : State) (draws : Draws) → HasState primary.old s → told_draws (C.moments clock.old) (E.stream entropy.old) ≡ Some draws
-        → (disk.new ≡ disk.old) ⊎ IsAsked (ask_for (wanted client.now name.now etypes.now) (moment_in draws) (block_in draws)) (seen (place_of primary.old) s) }
+    ensures done { (s : State) (draws : Draws) → HasState primary.old s
+        → told_draws (C.moments clock.old) (E.stream entropy.old) ≡ Some draws
+        → (disk.new ≡ disk.old) ⊎ IsAsked (ask_for (wanted client.now name.now etypes.now) (moment_in draws)
+        (block_in draws)) (seen (place_of primary.old) s) }
 
-    // For want of memory, of random bytes or of input nothing was done, and but for a fault of the sink itself nothing was
-    // written.
-    ensures memory { result ≡ Err SessionHalt.MemoryOut → (disk.new ≡ disk.old) × (place_of primary.new ≡ place_of primary.old) }
+    // For want of memory, of random bytes or of input nothing was done, and but for a fault of the sink itself nothing
+    // was written.
+    ensures memory { result ≡ Err SessionHalt.MemoryOut
+        → (disk.new ≡ disk.old) × (place_of primary.new ≡ place_of primary.old) }
     ensures drawn { result ≡ Err SessionHalt.DrawFault → (disk.new ≡ disk.old) × (primary.new ≡ primary.old) }
-    ensures unread { IfErr result (λ halt. IsOfInput halt → (disk.new ≡ disk.old) × (primary.new ≡ primary.old) × (clock.new ≡ clock.old) × (entropy.new ≡ entropy.old)) }
+    ensures unread { IfErr result (λ halt. IsOfInput halt
+        → (disk.new ≡ disk.old) × (primary.new ≡ primary.old) × (clock.new ≡ clock.old) × (entropy.new ≡ entropy.old)) }
     ensures unwritten { IfErr result (λ halt. halt ≢ SessionHalt.WriteFault → sink.new ≡ sink.old) }
 
     // What was taken from the source, and the causes.
     ensures read { OnOk result (IsReadWhole (S.left source.old) (S.left source.new)) }
-    ensures too_long { result ≡ Err SessionHalt.InputTooLong → WereTaken 4294967296 (S.left source.old) (S.left source.new) }
+    ensures too_long { result ≡ Err SessionHalt.InputTooLong
+        → WereTaken 4294967296 (S.left source.old) (S.left source.new) }
     ensures call { IsCall D.Disk disk.old disk.new (result ≡ Err SessionHalt.DiskFault) }
     ensures reads { Counts (S.faults source.old) (S.faults source.new) (result ≡ Err SessionHalt.ReadFault) }
     ensures writes { Counts (K.faults sink.old) (K.faults sink.new) (result ≡ Err SessionHalt.WriteFault) }

@@ -14,7 +14,8 @@ bytes_of (line ∷ lines) = written line ++ bytes_of lines
 -- no line holds a line feed, and each is ended by one, but the last may lack it where it has a byte
 unfoldable pub AreLines : List Line → Type 0
 AreLines [] = ⊤
-AreLines (line ∷ lines) = (lacks_feed line.bytes ≡ true) × (line.ended ≡ false → (lines ≡ []) × (line.bytes ≢ [])) × AreLines lines
+AreLines (line ∷ lines) =
+    (lacks_feed line.bytes ≡ true) × (line.ended ≡ false → (lines ≡ []) × (line.bytes ≢ [])) × AreLines lines
 
 pub record IsInputOf (bytes : List ℕ) (lines : List Line) : Type 0 where
   pub whole : bytes_of lines ≡ bytes

@@ -1,5 +1,6 @@
 -- The lines of an input, and what a reader with a bounded memory sees of them.
-use Rattle.std.specs.Prelude.{ℕ, ◌==◌, Bool, true, false, List, [], ◌∷◌, Option, Some, None, length, map, nat_lt, if◌then◌else◌}
+use Rattle.std.specs.Prelude.{ℕ, ◌==◌, Bool, true, false, List, [], ◌∷◌, Option}
+use Rattle.std.specs.Prelude.{Some, None, length, map, nat_lt, if◌then◌else◌}
 use Rattle.kdb_base.specs.Limits.{longest_line}
 
 -- a line: its bytes before the line feed or the end, and whether a line feed ended it

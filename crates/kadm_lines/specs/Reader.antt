@@ -1,5 +1,6 @@
 -- A reader of lines, and what its answers say of the lines that come.
-use Rattle.std.specs.Prelude.{ℕ, ◌+◌, ◌-◌, ◌*◌, ◌≡◌, IsTrue, Bool, true, false, List, [], ◌∷◌, ◌++◌, Option, Some, None, length, option_map, if◌then◌else◌, ⊤}
+use Rattle.std.specs.Prelude.{ℕ, ◌+◌, ◌-◌, ◌*◌, ◌≡◌, IsTrue, Bool, true, false, List, [], ◌∷◌}
+use Rattle.std.specs.Prelude.{◌++◌, Option, Some, None, length, option_map, if◌then◌else◌, ⊤}
 use Rattle.kadm_lines.specs.Lines.{Seen, lines_from}
 use Rattle.kadm_lines.specs.declared.readers.NextLine.{NextLine}
 use Rattle.kadm_lines.specs.declared.readers.NextLine.TheVariants.{Line, TooLong, End}

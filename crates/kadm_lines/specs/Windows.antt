@@ -1,5 +1,6 @@
 -- The bytes that a reader holds.
-use Rattle.std.specs.Prelude.{ℕ, ◌==◌, ◌≡◌, ◌≤◌, length, slice_range, Bool, true, false, List, [], ◌∷◌, ◌++◌, if◌then◌else◌}
+use Rattle.std.specs.Prelude.{ℕ, ◌==◌, ◌≡◌, ◌≤◌, length, slice_range, Bool}
+use Rattle.std.specs.Prelude.{true, false, List, [], ◌∷◌, ◌++◌, if◌then◌else◌}
 
 -- no byte of these is a line feed
 unfoldable pub lacks_feed : List ℕ → Bool

@@ -1,4 +1,5 @@
-ghost use Rattle.std.specs.Prelude.{◌≡◌, ◌≢◌, ◌+◌, ◌-◌, ◌*◌, ◌<◌, ◌≤◌, [], true, false, None, length, option_map, IfOk, IfSome, OnErr, OnOk, IsTrue};
+ghost use Rattle.std.specs.Prelude.{◌≡◌, ◌≢◌, ◌+◌, ◌-◌, ◌*◌, ◌<◌, ◌≤◌, [], true, false, None};
+ghost use Rattle.std.specs.Prelude.{length, option_map, IfOk, IfSome, OnErr, OnOk, IsTrue};
 ghost use Rattle.kdb_base.specs.Limits.{longest_line};
 ghost use Rattle.kdb_base.specs.Causes.{Rose};
 ghost use Rattle.kdb_ports.specs.Told.{IsSpent};
@@ -54,7 +55,13 @@ impl Model for LineReader {
 
     ghost Value = { ReaderState };
 
-    ghost view = { λ r. record { text = r.window.text; skipping = r.skipping; pending = r.window.pending; over = r.over; taken = r.taken } };
+    ghost view = { λ r. record {
+      text = r.window.text;
+      skipping = r.skipping;
+      pending = r.window.pending;
+      over = r.over;
+      taken = r.taken;
+    } };
 
     ghost invariant = { λ r. (r.taken ≤ 4294967296) × (IsTrue r.over → r.taken < 4294967296) };
 }
@@ -83,7 +90,8 @@ impl LineReader {
 
     /// Answers the line whose bytes were cut off as the text.
     fn judge(&mut self) -> NextLine
-        ensures line { Answers result self.new.text (line_seen self.old.skipping (record { bytes = self.old.text; ended = true })) }
+        ensures line { Answers result self.new.text
+            (line_seen self.old.skipping (record { bytes = self.old.text; ended = true })) }
         ensures short { length self.new.text ≤ longest_line }
         ensures no_text { has_text result ≡ false → self.new.text ≡ [] }
         ensures more { is_last result ≡ false }
@@ -170,7 +178,8 @@ impl LineReader {
         ensures same { to_come self.new (S.left source.new) ≡ to_come self.old (S.left source.old) }
         ensures text { self.new.text ≡ [] }
         ensures spent { IsTrue self.new.over → IsSpent (S.left source.new) }
-        ensures taken { option_map (λ xs. length xs + self.old.taken) (S.left source.old) ≡ option_map (λ xs. length xs + self.new.taken) (S.left source.new) }
+        ensures taken { option_map (λ xs. length xs + self.old.taken) (S.left source.old)
+            ≡ option_map (λ xs. length xs + self.new.taken) (S.left source.new) }
         ensures falls { OnOk result (turns_left self.new < turns_left self.old) }
         ensures work { work_left self.new ≤ work_left self.old }
         ensures room { self.new.taken ≤ 4294967296 }
@@ -197,19 +206,22 @@ impl LineReader {
     /// it is not read again. A fault of the source, and an input that is too long, lose no line: what
     /// was to come still comes. A loop of calls ends, since `work_left` falls with each line.
     pub fn advance<S: Source>(&mut self, source: &mut S) -> Result<NextLine, IntakeFault>
-        ensures next { IfOk result (λ n. Advances n self.new.text (to_come self.old (S.left source.old)) (to_come self.new (S.left source.new))) }
+        ensures next { IfOk result (λ n.
+            Advances n self.new.text (to_come self.old (S.left source.old)) (to_come self.new (S.left source.new))) }
         ensures kept { OnErr result (to_come self.new (S.left source.new) ≡ to_come self.old (S.left source.old)) }
         ensures short { length self.new.text ≤ longest_line }
         ensures no_text { IfOk result (λ n. has_text n ≡ false → self.new.text ≡ []) }
         ensures err_text { OnErr result (self.new.text ≡ []) }
         ensures done { IfOk result (λ n. is_last n ≡ true → IsDone self.new) }
-        ensures spent { IsTrue self.new.over → (IsTrue self.old.over → IsSpent (S.left source.old)) → IsSpent (S.left source.new) }
+        ensures spent { IsTrue self.new.over → (IsTrue self.old.over → IsSpent (S.left source.old))
+            → IsSpent (S.left source.new) }
         ensures stays { IsTrue self.old.over → IsTrue self.new.over }
         ensures rests { IsTrue self.old.over → source.new ≡ source.old }
         // A line that was taken whole is answered before the source is read again.
         ensures held { lacks_feed self.old.pending ≡ false → source.new ≡ source.old }
         ensures held_given { lacks_feed self.old.pending ≡ false → OnErr result ⊥ }
-        ensures taken { option_map (λ xs. length xs + self.old.taken) (S.left source.old) ≡ option_map (λ xs. length xs + self.new.taken) (S.left source.new) }
+        ensures taken { option_map (λ xs. length xs + self.old.taken) (S.left source.old)
+            ≡ option_map (λ xs. length xs + self.new.taken) (S.left source.new) }
         ensures room { self.new.taken ≤ 4294967296 }
         ensures below { IsTrue self.new.over → self.new.taken < 4294967296 }
         ensures too_long { result ≡ Err IntakeFault.InputTooLong → self.new.taken ≡ 4294967296 }

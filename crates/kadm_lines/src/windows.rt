@@ -1,4 +1,5 @@
-ghost use Rattle.std.specs.Prelude.{◌≡◌, ◌+◌, ◌-◌, ◌<◌, ◌≤◌, [], true, false, None, length, take, drop, slice_range, IfOk, IfSome, OnErr, OnOk, IsTrue};
+ghost use Rattle.std.specs.Prelude.{◌≡◌, ◌+◌, ◌-◌, ◌<◌, ◌≤◌, [], true, false, None, length};
+ghost use Rattle.std.specs.Prelude.{take, drop, slice_range, IfOk, IfSome, OnErr, OnOk, IsTrue};
 ghost use Rattle.kdb_base.specs.Limits.{longest_line};
 ghost use Rattle.kdb_base.specs.Causes.{HasCause};
 ghost use Rattle.kdb_ports.specs.Told.{before_told, IsSpent};
@@ -51,7 +52,8 @@ fn read_into<S: Source>(
     requires bound { to ≤ length bytes.old }
     ensures kept { take from bytes.new ≡ take from bytes.old }
     ensures bound { IfOk result (λ n. n ≤ to - from) }
-    ensures bytes { IfOk result (λ n. S.left source.old ≡ before_told (slice_range bytes.new from (from + n)) (S.left source.new)) }
+    ensures bytes { IfOk result
+        (λ n. S.left source.old ≡ before_told (slice_range bytes.new from (from + n)) (S.left source.new)) }
     ensures end { IfOk result (λ n. n ≡ 0 → IsSpent (S.left source.new)) }
     ensures err { OnErr result (S.left source.new ≡ S.left source.old) }
     ensures cause { HasCause (S.faults source.old) (S.faults source.new) result }
@@ -79,7 +81,11 @@ impl Model for Window {
 
     ghost Value = { WindowState };
 
-    ghost view = { λ w. record { text = slice_range w.bytes.items w.text w.text_end; pending = slice_range w.bytes.items w.start w.end; room = 131072 - w.end } };
+    ghost view = { λ w. record {
+      text = slice_range w.bytes.items w.text w.text_end;
+      pending = slice_range w.bytes.items w.start w.end;
+      room = 131072 - w.end;
+    } };
 
     ghost invariant = { λ w. IsWindow w.bytes.items w.text w.text_end w.start w.clear w.end };
 }
@@ -203,7 +209,8 @@ impl Window {
         ensures bound { IfOk result (λ n. n ≤ limit) }
         ensures count { IfOk result (λ n. length self.new.pending ≡ length self.old.pending + n) }
         ensures kept { OnOk result (take (length self.old.pending) self.new.pending ≡ self.old.pending) }
-        ensures bytes { IfOk result (λ n. S.left source.old ≡ before_told (drop (length self.old.pending) self.new.pending) (S.left source.new)) }
+        ensures bytes { IfOk result (λ n.
+            S.left source.old ≡ before_told (drop (length self.old.pending) self.new.pending) (S.left source.new)) }
         ensures end { IfOk result (λ n. n ≡ 0 → IsSpent (S.left source.new)) }
         ensures err { OnErr result (S.left source.new ≡ S.left source.old) }
         ensures err_pending { OnErr result (self.new.pending ≡ self.old.pending) }

@@ -1,5 +1,5 @@
--- What a load comes to, by the place that is open, the text of the input and the moment of the clock: what is answered, which place is made,
--- and where it may stop.
+-- What a load comes to, by the place that is open, the text of the input and the moment of the clock: what is answered,
+-- which place is made, and where it may stop.
 use Rattle.std.specs.Prelude.{ℕ, ◌≡◌, ◌⊎◌, Bool, true, false, List, [], ◌∷◌, Option, Some, Result, Ok, Err}
 use Rattle.dump_text.specs.Judged.{judged}
 use Rattle.dump_text.specs.declared.dumps.Dump.{Dump}
@@ -50,7 +50,8 @@ pub record LacksTime (p : Place) (clock : Moment) (dump : Dump) (why : Refusal) 
 
 -- why the dump is not loaded, where the stash stands in this file
 abbrev pub IsLoadCause : Place → ℕ → Moment → Dump → Refusal → Type 0
-IsLoadCause p file clock dump why = IsDumpCause p.stash file p.realm (load_time clock p).secs dump why ⊎ LacksTime p clock dump why
+IsLoadCause p file clock dump why =
+    IsDumpCause p.stash file p.realm (load_time clock p).secs dump why ⊎ LacksTime p clock dump why
 
 -- by what the text is: its first bad line is told before all else
 abbrev pub LoadsTo : Place → ℕ → Moment → Result Dump ℕ → LoadEnd → Type 0
@@ -82,15 +83,17 @@ Holds (Loaded dump) clock old new = HasLoaded old new dump.rows clock
 Holds (NotLoaded why) clock old new = new ≡ old
 
 -- it went through: what the sink has taken, whether a refusal was written, and what is open
-pub record LoadsAs (end : LoadEnd) (clock : Moment) (old new : Opened) (taken out : Option (List ℕ)) (refused : Bool) : Type 0 where
+pub record LoadsAs (end : LoadEnd) (clock : Moment) (old new : Opened) (taken out : Option (List ℕ))
+    (refused : Bool) : Type 0 where
   pub out_is : out ≡ after_told taken (reply_text (load_reply end clock (place_of old)))
   pub refused_is : refused ≡ is_refused end
   pub holds : Holds end clock old new
 
--- Where it may stop: nothing was written, and a crash leaves the place before or the loaded one. Or a part of the reply was, and it leaves the
--- last place alone.
+-- Where it may stop: nothing was written, and a crash leaves the place before or the loaded one. Or a part of the reply
+-- was, and it leaves the last place alone.
 abbrev pub load_stage : LoadEnd → Moment → Place → Option (List ℕ) → Stage
-load_stage end clock p taken = StopsAt taken (reply_text (load_reply end clock p)) p (places_loaded end clock p) (place_loaded end clock p)
+load_stage end clock p taken =
+    StopsAt taken (reply_text (load_reply end clock p)) p (places_loaded end clock p) (place_loaded end clock p)
 
 -- whatever the input is: the files recover to the place before, or to that with other rows and a log begun anew
 pub record HasRows (p q : Place) : Type 0 where
@@ -106,7 +109,8 @@ pub record LeavesSome (p : Place) (c : Files) : Type 0 where
 -- ---- where the input and the clock are told
 
 -- over what is open, this is the moment, and the load comes to this
-pub record ComesTo (o : Opened) (left : Option (List ℕ)) (moments : Option (ℕ → Moment)) (clock : Moment) (end : LoadEnd) : Type 0 where
+pub record ComesTo (o : Opened) (left : Option (List ℕ)) (moments : Option (ℕ → Moment)) (clock : Moment)
+    (end : LoadEnd) : Type 0 where
   pub text : List ℕ
   pub text_is : left ≡ Some text
   pub told : ℕ → Moment

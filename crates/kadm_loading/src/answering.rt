@@ -88,16 +88,22 @@ fn load_printed<K: Sink, D: Disk>(
     requires on { D.tells → IsOnDisk primary.old.kept (D.view disk.old) }
     requires whole { primary.old.kept.broken ≡ false }
     requires stands { D.tells → RecoversTo (place_of primary.old) (D.view disk.old) }
-    requires printed { HasTimeLeft (place_of primary.old) → printed.now.text ≡ reply_text (Done (reset_point now (place_of primary.old))) }
+    requires printed { HasTimeLeft (place_of primary.old)
+        → printed.now.text ≡ reply_text (Done (reset_point now (place_of primary.old))) }
     ensures ended { (end : LoadEnd) → LoadsTo (place_of primary.old) primary.old.kept.control.stash now (Ok dump) end
         → IfOk result (LoadsAs end now primary.old primary.new (K.taken sink.old) (K.taken sink.new)) }
     ensures comes { OnOk result (HasEnd primary.old now (Ok dump)) }
     ensures kept { result ≡ Ok true → (primary.new ≡ primary.old) × (disk.new ≡ disk.old) }
-    ensures stopped { D.tells → (end : LoadEnd) → LoadsTo (place_of primary.old) primary.old.kept.control.stash now (Ok dump) end
-        → OnErr result (IsStopped (load_stage end now (place_of primary.old) (K.taken sink.old)) (K.taken sink.new) (D.view disk.new)) }
-    ensures rests { IfErr result (λ halt. SparesOutput halt → (K.taken sink.new ≡ K.taken sink.old) × (disk.new ≡ disk.old)) }
-    ensures moments { D.tells → (end : LoadEnd) → LoadsTo (place_of primary.old) primary.old.kept.control.stash now (Ok dump) end
-        → LeavesOnly (D.view disk.old) (D.view disk.new) (LeavesPart (place_of primary.old) (places_loaded end now (place_of primary.old))) }
+    ensures stopped { D.tells → (end : LoadEnd)
+        → LoadsTo (place_of primary.old) primary.old.kept.control.stash now (Ok dump) end
+        → OnErr result (IsStopped (load_stage end now (place_of primary.old) (K.taken sink.old)) (K.taken sink.new)
+        (D.view disk.new)) }
+    ensures rests { IfErr result
+        (λ halt. SparesOutput halt → (K.taken sink.new ≡ K.taken sink.old) × (disk.new ≡ disk.old)) }
+    ensures moments { D.tells → (end : LoadEnd)
+        → LoadsTo (place_of primary.old) primary.old.kept.control.stash now (Ok dump) end
+        → LeavesOnly (D.view disk.old) (D.view disk.new)
+        (LeavesPart (place_of primary.old) (places_loaded end now (place_of primary.old))) }
     ensures crash { D.tells → LeavesOnly (D.view disk.old) (D.view disk.new) (LeavesSome (place_of primary.old)) }
     ensures on { D.tells → OnOk result (IsOnDisk primary.new.kept (D.view disk.new)) }
     ensures whole { OnOk result (primary.new.kept.broken ≡ false) }
@@ -130,11 +136,16 @@ fn load_dump<K: Sink, D: Disk>(
         → IfOk result (LoadsAs end now primary.old primary.new (K.taken sink.old) (K.taken sink.new)) }
     ensures comes { OnOk result (HasEnd primary.old now (Ok dump)) }
     ensures kept { result ≡ Ok true → (primary.new ≡ primary.old) × (disk.new ≡ disk.old) }
-    ensures stopped { D.tells → (end : LoadEnd) → LoadsTo (place_of primary.old) primary.old.kept.control.stash now (Ok dump) end
-        → OnErr result (IsStopped (load_stage end now (place_of primary.old) (K.taken sink.old)) (K.taken sink.new) (D.view disk.new)) }
-    ensures rests { IfErr result (λ halt. SparesOutput halt → (K.taken sink.new ≡ K.taken sink.old) × (disk.new ≡ disk.old)) }
-    ensures moments { D.tells → (end : LoadEnd) → LoadsTo (place_of primary.old) primary.old.kept.control.stash now (Ok dump) end
-        → LeavesOnly (D.view disk.old) (D.view disk.new) (LeavesPart (place_of primary.old) (places_loaded end now (place_of primary.old))) }
+    ensures stopped { D.tells → (end : LoadEnd)
+        → LoadsTo (place_of primary.old) primary.old.kept.control.stash now (Ok dump) end
+        → OnErr result (IsStopped (load_stage end now (place_of primary.old) (K.taken sink.old)) (K.taken sink.new)
+        (D.view disk.new)) }
+    ensures rests { IfErr result
+        (λ halt. SparesOutput halt → (K.taken sink.new ≡ K.taken sink.old) × (disk.new ≡ disk.old)) }
+    ensures moments { D.tells → (end : LoadEnd)
+        → LoadsTo (place_of primary.old) primary.old.kept.control.stash now (Ok dump) end
+        → LeavesOnly (D.view disk.old) (D.view disk.new)
+        (LeavesPart (place_of primary.old) (places_loaded end now (place_of primary.old))) }
     ensures crash { D.tells → LeavesOnly (D.view disk.old) (D.view disk.new) (LeavesSome (place_of primary.old)) }
     ensures on { D.tells → OnOk result (IsOnDisk primary.new.kept (D.view disk.new)) }
     ensures whole { OnOk result (primary.new.kept.broken ≡ false) }
@@ -164,11 +175,16 @@ pub(crate) fn answer<K: Sink, D: Disk>(
         → IfOk result (LoadsAs end now primary.old primary.new (K.taken sink.old) (K.taken sink.new)) }
     ensures comes { OnOk result (HasEnd primary.old now read) }
     ensures kept { result ≡ Ok true → (primary.new ≡ primary.old) × (disk.new ≡ disk.old) }
-    ensures stopped { D.tells → (end : LoadEnd) → LoadsTo (place_of primary.old) primary.old.kept.control.stash now read end
-        → OnErr result (IsStopped (load_stage end now (place_of primary.old) (K.taken sink.old)) (K.taken sink.new) (D.view disk.new)) }
-    ensures rests { IfErr result (λ halt. SparesOutput halt → (K.taken sink.new ≡ K.taken sink.old) × (disk.new ≡ disk.old)) }
-    ensures moments { D.tells → (end : LoadEnd) → LoadsTo (place_of primary.old) primary.old.kept.control.stash now read end
-        → LeavesOnly (D.view disk.old) (D.view disk.new) (LeavesPart (place_of primary.old) (places_loaded end now (place_of primary.old))) }
+    ensures stopped { D.tells → (end : LoadEnd)
+        → LoadsTo (place_of primary.old) primary.old.kept.control.stash now read end
+        → OnErr result (IsStopped (load_stage end now (place_of primary.old) (K.taken sink.old)) (K.taken sink.new)
+        (D.view disk.new)) }
+    ensures rests { IfErr result
+        (λ halt. SparesOutput halt → (K.taken sink.new ≡ K.taken sink.old) × (disk.new ≡ disk.old)) }
+    ensures moments { D.tells → (end : LoadEnd)
+        → LoadsTo (place_of primary.old) primary.old.kept.control.stash now read end
+        → LeavesOnly (D.view disk.old) (D.view disk.new)
+        (LeavesPart (place_of primary.old) (places_loaded end now (place_of primary.old))) }
     ensures crash { D.tells → LeavesOnly (D.view disk.old) (D.view disk.new) (LeavesSome (place_of primary.old)) }
     ensures on { D.tells → OnOk result (IsOnDisk primary.new.kept (D.view disk.new)) }
     ensures whole { OnOk result (primary.new.kept.broken ≡ false) }

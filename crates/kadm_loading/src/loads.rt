@@ -1,6 +1,7 @@
 //! A load: what the input holds takes the place of all that is open.
 
-ghost use Rattle.std.specs.Prelude.{◌≡◌, ◌≢◌, ℕ, List, Option, Some, true, false, Err, IfErr, IfOk, OnErr, OnOk, Ok, option_map};
+ghost use Rattle.std.specs.Prelude.{◌≡◌, ◌≢◌, ℕ, List, Option, Some, true, false};
+ghost use Rattle.std.specs.Prelude.{Err, IfErr, IfOk, OnErr, OnOk, Ok, option_map};
 ghost use Rattle.kadm_loading.specs.Halts.{SparesOutput};
 ghost use Rattle.session_base.specs.Wholes.{IsReadWhole, WereTaken};
 ghost use Rattle.kadm_loading.specs.Loads.{ComesTo, HasComeTo, LeavesSome, LoadEnd, LoadsAs, load_stage, places_loaded};
@@ -48,28 +49,36 @@ pub fn load_input<S: Source, K: Sink, D: Disk, C: Clock>(
     requires whole { primary.old.kept.broken ≡ false }
     // Where the input and the clock are told, it goes through as the text, what is open and the moment have it: the
     // reply, and the place with its state.
-    ensures ended { (now : Moment) (end : LoadEnd) → ComesTo primary.old (S.left source.old) (C.moments clock.old) now end
+    ensures ended { (now : Moment) (end : LoadEnd)
+        → ComesTo primary.old (S.left source.old) (C.moments clock.old) now end
         → IfOk result (LoadsAs end now primary.old primary.new (K.taken sink.old) (K.taken sink.new)) }
-    ensures comes { (text : List ℕ) (told : ℕ → Moment) → S.left source.old ≡ Some text → C.moments clock.old ≡ Some told
+    ensures comes { (text : List ℕ) (told : ℕ → Moment) → S.left source.old ≡ Some text
+        → C.moments clock.old ≡ Some told
         → OnOk result (HasComeTo primary.old (S.left source.old) (C.moments clock.old)) }
     // A refusal changes nothing.
     ensures kept { result ≡ Ok true → (primary.new ≡ primary.old) × (disk.new ≡ disk.old) }
-    // Where it stopped, nothing was written, and a crash leaves the place before or the loaded one; or a part of the reply
-    // was, and it leaves the last place alone.
-    ensures stopped { D.tells → (now : Moment) (end : LoadEnd) → ComesTo primary.old (S.left source.old) (C.moments clock.old) now end
-        → OnErr result (IsStopped (load_stage end now (place_of primary.old) (K.taken sink.old)) (K.taken sink.new) (D.view disk.new)) }
+    // Where it stopped, nothing was written, and a crash leaves the place before or the loaded one; or a part of the
+    // reply was, and it leaves the last place alone.
+    ensures stopped { D.tells → (now : Moment) (end : LoadEnd)
+        → ComesTo primary.old (S.left source.old) (C.moments clock.old) now end
+        → OnErr result (IsStopped (load_stage end now (place_of primary.old) (K.taken sink.old)) (K.taken sink.new)
+        (D.view disk.new)) }
     // Where neither the sink nor the disk failed, nothing was written and nothing was done.
-    ensures rests { IfErr result (λ halt. SparesOutput halt → (K.taken sink.new ≡ K.taken sink.old) × (disk.new ≡ disk.old)) }
+    ensures rests { IfErr result
+        (λ halt. SparesOutput halt → (K.taken sink.new ≡ K.taken sink.old) × (disk.new ≡ disk.old)) }
     // A crash at any moment leaves the place before or the loaded one.
-    ensures moments { D.tells → (now : Moment) (end : LoadEnd) → ComesTo primary.old (S.left source.old) (C.moments clock.old) now end
-        → LeavesOnly (D.view disk.old) (D.view disk.new) (LeavesPart (place_of primary.old) (places_loaded end now (place_of primary.old))) }
+    ensures moments { D.tells → (now : Moment) (end : LoadEnd)
+        → ComesTo primary.old (S.left source.old) (C.moments clock.old) now end
+        → LeavesOnly (D.view disk.old) (D.view disk.new)
+        (LeavesPart (place_of primary.old) (places_loaded end now (place_of primary.old))) }
     // Whatever the input is, it leaves the place before, or that with other rows and a log begun anew.
     ensures crash { D.tells → LeavesOnly (D.view disk.old) (D.view disk.new) (LeavesSome (place_of primary.old)) }
     ensures on { D.tells → OnOk result (IsOnDisk primary.new.kept (D.view disk.new)) }
     ensures whole { OnOk result (primary.new.kept.broken ≡ false) }
     ensures clock { OnOk result (C.moments clock.new ≡ option_map later_moments (C.moments clock.old)) }
     ensures read { OnOk result (IsReadWhole (S.left source.old) (S.left source.new)) }
-    ensures too_long { result ≡ Err SessionHalt.InputTooLong → WereTaken 4294967296 (S.left source.old) (S.left source.new) }
+    ensures too_long { result ≡ Err SessionHalt.InputTooLong
+        → WereTaken 4294967296 (S.left source.old) (S.left source.new) }
 
     // The causes.
     ensures not_drawn { IfErr result (λ halt. halt ≢ SessionHalt.DrawFault) }

@@ -1,6 +1,7 @@
 //! A dump read from an input, which is read to its end.
 
-ghost use Rattle.std.specs.Prelude.{◌≡◌, ◌≤◌, ◌<◌, ◌++◌, [], List, ℕ, Err, IfErr, IfOk, IfSome, OnOk, length, option_map};
+ghost use Rattle.std.specs.Prelude.{◌≡◌, ◌≤◌, ◌<◌, ◌++◌, [], List, ℕ, Err, IfErr};
+ghost use Rattle.std.specs.Prelude.{IfOk, IfSome, OnOk, length, option_map};
 ghost use Rattle.dump_text.specs.Judged.{judged};
 ghost use Rattle.dump_text.specs.Reader.{judged_with};
 ghost use Rattle.session_base.specs.Wholes.{IsReadWhole, WereTaken};
@@ -48,7 +49,8 @@ fn feed_next<S: Source>(
     requires some { 0 < room }
     requires bound { room ≤ length buffer.old }
     ensures bound { IfOk result (λ n. n ≤ room) }
-    ensures judged { OnOk result (option_map (judged_with reader.new) (S.left source.new) ≡ option_map (judged_with reader.old) (S.left source.old)) }
+    ensures judged { OnOk result (option_map (judged_with reader.new) (S.left source.new)
+        ≡ option_map (judged_with reader.old) (S.left source.old)) }
     ensures taken { IfOk result (λ n. WereTaken n (S.left source.old) (S.left source.new)) }
     ensures end { IfOk result (λ n. n ≡ 0 → IsSpent (S.left source.new)) }
     ensures halt { IfErr result IsReadHalt }
@@ -71,9 +73,11 @@ fn feed_all<S: Source>(
     buffer: &mut [u8],
 ) -> Result<(), SessionHalt>
     requires { length buffer.old ≡ 65536 }
-    ensures judged { (text : List ℕ) → S.left source.old ≡ Some text → OnOk result (judged_with reader.new [] ≡ judged_with reader.old text) }
+    ensures judged { (text : List ℕ) → S.left source.old ≡ Some text
+        → OnOk result (judged_with reader.new [] ≡ judged_with reader.old text) }
     ensures read { OnOk result (IsReadWhole (S.left source.old) (S.left source.new)) }
-    ensures too_long { result ≡ Err SessionHalt.InputTooLong → WereTaken 4294967296 (S.left source.old) (S.left source.new) }
+    ensures too_long { result ≡ Err SessionHalt.InputTooLong
+        → WereTaken 4294967296 (S.left source.old) (S.left source.new) }
     ensures halt { IfErr result IsReadHalt }
     ensures faults { Counts (S.faults source.old) (S.faults source.new) (result ≡ Err SessionHalt.ReadFault) }
 {
@@ -114,9 +118,11 @@ fn read_with<S: Source>(
     buffer: &mut [u8],
 ) -> Result<Result<Dump, u32>, SessionHalt>
     requires { length buffer.old ≡ 65536 }
-    ensures judged { (text : List ℕ) → S.left source.old ≡ Some text → IfOk result (λ read. read ≡ judged_with reader text) }
+    ensures judged { (text : List ℕ) → S.left source.old ≡ Some text
+        → IfOk result (λ read. read ≡ judged_with reader text) }
     ensures read { OnOk result (IsReadWhole (S.left source.old) (S.left source.new)) }
-    ensures too_long { result ≡ Err SessionHalt.InputTooLong → WereTaken 4294967296 (S.left source.old) (S.left source.new) }
+    ensures too_long { result ≡ Err SessionHalt.InputTooLong
+        → WereTaken 4294967296 (S.left source.old) (S.left source.new) }
     ensures halt { IfErr result IsReadHalt }
     ensures faults { Counts (S.faults source.old) (S.faults source.new) (result ≡ Err SessionHalt.ReadFault) }
 {
@@ -136,7 +142,8 @@ fn read_through<S: Source>(
     requires { length buffer.old ≡ 65536 }
     ensures judged { (text : List ℕ) → S.left source.old ≡ Some text → IfOk result (λ read. read ≡ judged text) }
     ensures read { OnOk result (IsReadWhole (S.left source.old) (S.left source.new)) }
-    ensures too_long { result ≡ Err SessionHalt.InputTooLong → WereTaken 4294967296 (S.left source.old) (S.left source.new) }
+    ensures too_long { result ≡ Err SessionHalt.InputTooLong
+        → WereTaken 4294967296 (S.left source.old) (S.left source.new) }
     ensures halt { IfErr result IsReadHalt }
     ensures faults { Counts (S.faults source.old) (S.faults source.new) (result ≡ Err SessionHalt.ReadFault) }
 {
@@ -158,7 +165,8 @@ pub(crate) fn read_dump<S: Source>(
 ) -> Result<Result<Dump, u32>, SessionHalt>
     ensures judged { (text : List ℕ) → S.left source.old ≡ Some text → IfOk result (λ read. read ≡ judged text) }
     ensures read { OnOk result (IsReadWhole (S.left source.old) (S.left source.new)) }
-    ensures too_long { result ≡ Err SessionHalt.InputTooLong → WereTaken 4294967296 (S.left source.old) (S.left source.new) }
+    ensures too_long { result ≡ Err SessionHalt.InputTooLong
+        → WereTaken 4294967296 (S.left source.old) (S.left source.new) }
     ensures halt { IfErr result IsReadHalt }
     ensures faults { Counts (S.faults source.old) (S.faults source.new) (result ≡ Err SessionHalt.ReadFault) }
 {

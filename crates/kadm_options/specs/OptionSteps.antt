@@ -38,7 +38,8 @@ pub record IsBroken (named : List ℕ → Option Opening) (word : List ℕ) (old
 
 -- the options have ended before the word
 pub record EndsBefore (named : List ℕ → Option Opening) (word : List ℕ) (old new : Reader) : Type 0 where
-  pub ends : (words : List (List ℕ)) → parts_with named old (word ∷ words) ≡ Some (record { options = new.options.items; rest = word ∷ words })
+  pub ends : (words : List (List ℕ))
+      → parts_with named old (word ∷ words) ≡ Some (record { options = new.options.items; rest = word ∷ words })
 
 abbrev pub Steps : (List ℕ → Option Opening) → List ℕ → Reader → Reader → Step → Type 0
 Steps named word old new Taken = IsTaken named word old new

@@ -1,5 +1,6 @@
 -- The values of options.
-use Rattle.std.specs.Prelude.{ℕ, ◌≡◌, ◌≤◌, ◌⊎◌, Bool, true, ◌&&◌, nat_le, List, [], ◌∷◌, Option, Some, None, is_some, if◌then◌else◌}
+use Rattle.std.specs.Prelude.{ℕ, ◌≡◌, ◌≤◌, ◌⊎◌, Bool, true, ◌&&◌, nat_le, List, []}
+use Rattle.std.specs.Prelude.{◌∷◌, Option, Some, None, is_some, if◌then◌else◌}
 use Rattle.std.specs.List.{filter_map, slice_get}
 use Rattle.std.specs.Str.{bytes_eq}
 use Rattle.std.specs.Option.{option_and_then}
@@ -15,7 +16,8 @@ use Rattle.kadm_options.specs.declared.options.Given.TheVariants.{Flag, Alone, V
 use Rattle.kadm_options.specs.declared.options.OptionName.{OptionName}
 use Rattle.kadm_options.specs.declared.options.OptionName.TheVariants.{Policy, ClearPolicy}
 use Rattle.kadm_options.specs.declared.options.ValueKind.{ValueKind}
-use Rattle.kadm_options.specs.declared.options.ValueKind.TheVariants.{Time, Duration, PolicyName, Word, EtypeList, OneEtype, Number}
+use Rattle.kadm_options.specs.declared.options.ValueKind.TheVariants.{Time, Duration, PolicyName, Word}
+use Rattle.kadm_options.specs.declared.options.ValueKind.TheVariants.{EtypeList, OneEtype, Number}
 use Rattle.kdb_base.specs.declared.keys.Etype.{Etype}
 use Rattle.kdb_base.specs.declared.outcomes.Field.{Field}
 use Rattle.policy_rules.specs.Names.{is_policy_name}
@@ -72,7 +74,8 @@ is_named option other = bytes_eq (option_word other) (option_word option)
 abbrev pub GivesSeconds : OptionName → Given → ℕ → Type 0
 GivesSeconds option (Flag change) secs = ⊥
 GivesSeconds option (Alone other) secs = ⊥
-GivesSeconds option (Value setting word) secs = (is_named option setting.option ≡ true) × SpellsValue setting.kind word secs
+GivesSeconds option (Value setting word) secs =
+    (is_named option setting.option ≡ true) × SpellsValue setting.kind word secs
 
 -- what the first option gives that has this name and gives seconds
 unfoldable pub SpellsField : OptionName → List Given → Option ℕ → Type 0

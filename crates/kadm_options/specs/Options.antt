@@ -1,10 +1,15 @@
 -- The options of a line: their words, and how a line gives them.
-use Rattle.std.specs.Prelude.{ℕ, ◌≡◌, Bool, true, false, not, ◌==◌, ◌||◌, nat_le, List, [], ◌∷◌, ◌++◌, codes, count_by, find, Option, Some, None, option_map, if◌then◌else◌}
+use Rattle.std.specs.Prelude.{ℕ, ◌≡◌, Bool, true, false, not, ◌==◌, ◌||◌, nat_le, List, [], ◌∷◌, ◌++◌}
+use Rattle.std.specs.Prelude.{codes, count_by, find, Option, Some, None, option_map, if◌then◌else◌}
 use Rattle.std.specs.List.{list_all, list_any}
 use Rattle.std.specs.Str.{bytes_eq}
 use Rattle.kadm_values.specs.Flags.{flag_change}
 use Rattle.kadm_options.specs.declared.options.OptionName.{OptionName}
-use Rattle.kadm_options.specs.declared.options.OptionName.TheVariants.{NoKey, RandKey, Password, KeepOld, Enctypes, Force, ShortForce, Policy, ClearPolicy, Expire, PwExpire, MaxLife, MaxRenewLife, MinLife, MinLength, MinClasses, History, KeepKvno, MasterPassword, UlogSize}
+use Rattle.kadm_options.specs.declared.options.OptionName.TheVariants.{NoKey, RandKey, Password, KeepOld, Enctypes}
+use Rattle.kadm_options.specs.declared.options.OptionName.TheVariants.{Force, ShortForce, Policy, ClearPolicy}
+use Rattle.kadm_options.specs.declared.options.OptionName.TheVariants.{Expire, PwExpire, MaxLife, MaxRenewLife}
+use Rattle.kadm_options.specs.declared.options.OptionName.TheVariants.{MinLife, MinLength, MinClasses, History}
+use Rattle.kadm_options.specs.declared.options.OptionName.TheVariants.{KeepKvno, MasterPassword, UlogSize}
 use Rattle.kadm_options.specs.declared.options.Setting.{Setting}
 use Rattle.kadm_options.specs.declared.options.Opening.{Opening}
 use Rattle.kadm_options.specs.declared.options.Opening.TheVariants as opening
@@ -81,7 +86,8 @@ unfoldable pub ends_options : List ℕ → Bool
 ends_options word = is_dashes word || not (is_signed word)
 
 -- the words of an option, and those of the options behind it
-pub record LedByOption (named : List ℕ → Option Opening) (option : Given) (SpellsRest : List (List ℕ) → Type 0) (words : List (List ℕ)) : Type 0 where
+pub record LedByOption (named : List ℕ → Option Opening) (option : Given) (SpellsRest : List (List ℕ) → Type 0)
+    (words : List (List ℕ)) : Type 0 where
   pub word : List ℕ
   pub behind : List (List ℕ)
   pub goes_on : ends_options word ≡ false
@@ -133,7 +139,8 @@ options_from named (Some setting) [] = None
 options_from named None (word ∷ words) =
     if ends_options word then Some (no_options (word ∷ words))
     else by_opening (named word) (options_from named None words) (λ setting. options_from named (Some setting) words)
-options_from named (Some setting) (word ∷ words) = joined (given.Value setting word ∷ []) (options_from named None words)
+options_from named (Some setting) (word ∷ words) =
+    joined (given.Value setting word ∷ []) (options_from named None words)
 
 -- nothing where a word says nothing, or a value is missing
 abbrev pub options_in : (List ℕ → Option Opening) → List (List ℕ) → Option OptionParts
@@ -141,7 +148,8 @@ options_in named words = options_from named None words
 
 -- ---- each at most once
 
--- what an option decides: -nokey, -randkey and -pw decide the same, how keys are made, and so do -policy and -clearpolicy
+-- what an option decides: -nokey, -randkey and -pw decide the same, how keys are made, and so do -policy and
+-- -clearpolicy
 unfoldable pub choice_of : OptionName → OptionName
 choice_of RandKey = NoKey
 choice_of Password = NoKey
@@ -150,7 +158,8 @@ choice_of option = option
 
 unfoldable pub choices : List OptionName
 choices =
-    NoKey ∷ KeepOld ∷ Enctypes ∷ Force ∷ ShortForce ∷ Policy ∷ Expire ∷ PwExpire ∷ MaxLife ∷ MaxRenewLife ∷ MinLife ∷ MinLength ∷ MinClasses ∷ History
+    NoKey ∷ KeepOld ∷ Enctypes ∷ Force ∷ ShortForce ∷ Policy ∷ Expire ∷ PwExpire ∷ MaxLife ∷ MaxRenewLife ∷ MinLife
+    ∷ MinLength ∷ MinClasses ∷ History
     ∷ KeepKvno ∷ MasterPassword ∷ UlogSize ∷ []
 
 abbrev pub choice_given : Given → Option OptionName

@@ -58,7 +58,8 @@ impl Reader {
     }
 
     fn take_value(&mut self, alloc: Global, setting: Setting, word: &[u8]) -> Result<(), MemoryOut>
-        ensures options { OnOk result (self.new.options.items ≡ self.old.options.items ++ Given.Value setting word.now ∷ []) }
+        ensures options { OnOk result
+            (self.new.options.items ≡ self.old.options.items ++ Given.Value setting word.now ∷ []) }
         ensures pending { OnOk result (self.new.pending ≡ None) }
     {
         let value = Blob::from_bytes(alloc, word)?;
@@ -121,7 +122,8 @@ pub fn read_options(
     flags: bool,
     words: &[Blob],
 ) -> Result<Option<LeadingOptions>, MemoryOut>
-    ensures parts { IfOk result (λ found. option_map (parts_of words.now) found ≡ options_in (option_named known.now flags) words.now) }
+    ensures parts { IfOk result
+        (λ found. option_map (parts_of words.now) found ≡ options_in (option_named known.now flags) words.now) }
     ensures within { IfOk result (λ found. IfSome found (λ x. x.count ≤ length words.now)) }
 {
     let mut reader = Reader {

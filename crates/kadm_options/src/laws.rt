@@ -1,7 +1,8 @@
 //! Laws of options. They do no work.
 
 ghost use Rattle.std.specs.Prelude.{List, ℕ, ◌≡◌, ◌↔◌, Option, Some, None};
-ghost use Rattle.kadm_options.specs.OptionValues.{AreReadable, IsFirstBad, SpellsField, SpellsValue, SpellsWithin, SpellsWordOf, first_bad_in, number_within, seconds_given, word_given};
+ghost use Rattle.kadm_options.specs.OptionValues.{AreReadable, IsFirstBad, SpellsField, SpellsValue, SpellsWithin};
+ghost use Rattle.kadm_options.specs.OptionValues.{SpellsWordOf, first_bad_in, number_within, seconds_given, word_given};
 ghost use Rattle.kadm_options.specs.Options.{OptionParts, SpellsParts, options_in};
 ghost use Rattle.kadm_options.specs.declared.options.Given.{Given};
 ghost use Rattle.kadm_options.specs.declared.options.Opening.{Opening};
@@ -22,7 +23,8 @@ pub fn word_spells_one_value()
 
 /// The first bad value is found just where there is one.
 pub fn first_bad_value_is_found()
-    ensures bad { (options : List Given) (field : Field) → (first_bad_in options ≡ Some field) ↔ IsFirstBad options field }
+    ensures bad { (options : List Given) (field : Field)
+        → (first_bad_in options ≡ Some field) ↔ IsFirstBad options field }
     ensures readable { (options : List Given) → (first_bad_in options ≡ None) ↔ AreReadable options }
 {}
 

@@ -3,7 +3,9 @@
 ghost use Rattle.std.specs.Prelude.{◌≡◌, count_by, find, nat_le};
 ghost use Rattle.std.specs.List.{list_all, list_any};
 ghost use Rattle.std.specs.Str.{bytes_eq};
-ghost use Rattle.kadm_options.specs.Options.{are_single, choice_given, choice_of, choices, ends_options, flag_opening, is_chosen, is_dashes, is_for, is_given, is_of, is_signed, is_this, opening_word, option_named, option_word};
+ghost use Rattle.kadm_options.specs.Options.{are_single, choice_given, choice_of, choices, ends_options};
+ghost use Rattle.kadm_options.specs.Options.{flag_opening, is_chosen, is_dashes, is_for, is_given, is_of};
+ghost use Rattle.kadm_options.specs.Options.{is_signed, is_this, opening_word, option_named, option_word};
 
 use kadm_values::bytes::is_same;
 use kadm_values::{FlagChange, read_flag};

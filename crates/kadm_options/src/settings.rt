@@ -3,7 +3,9 @@
 ghost use Rattle.std.specs.Prelude.{◌≡◌, ◌≤◌, IfOk, IfSome, is_some, option_map};
 ghost use Rattle.kadm_values.specs.EtypeWords.{etypes_in};
 ghost use Rattle.std.specs.List.{filter_map};
-ghost use Rattle.kadm_options.specs.OptionValues.{bad_in, first_bad_in, flag_of, is_readable, number_within, policy_by, policy_given, seconds_by, seconds_given, seconds_of, word_by, word_given};
+ghost use Rattle.kadm_options.specs.OptionValues.{bad_in, first_bad_in, flag_of, is_readable};
+ghost use Rattle.kadm_options.specs.OptionValues.{number_within, policy_by, policy_given, seconds_by};
+ghost use Rattle.kadm_options.specs.OptionValues.{seconds_given, seconds_of, word_by, word_given};
 
 use crate::options::{Given, OptionName, ValueKind, same_option};
 use kadm_values::{FlagChange, read_duration, read_etype, read_etypes, read_number, read_time};

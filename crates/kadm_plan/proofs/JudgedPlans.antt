@@ -1,7 +1,8 @@
 -- What a judged command tells of a state.
 use Rattle.std.proofs.Common.{◌≡◌, List, Option, ap, subst, ◌∙◌}
 use Rattle.std.specs.Prelude.{Result, Ok, Err, Some, option_map}
-use Rattle.command_plans.specs.Given.{IsAnswer, IsApplied, IsCallOf, IsChange, IsGiven, IsJudged, IsPlan, IsSeenBy, MayApply}
+use Rattle.command_plans.specs.Given.{IsAnswer, IsApplied, IsCallOf, IsChange}
+use Rattle.command_plans.specs.Given.{IsGiven, IsJudged, IsPlan, IsSeenBy, MayApply}
 use Rattle.command_plans.specs.declared.given.Given.{Given}
 use Rattle.command_plans.specs.declared.planned.Planned.{Planned}
 use Rattle.command_plans.specs.declared.planned.Planned.TheVariants.{Answer, Change}
@@ -44,8 +45,10 @@ why_of other (Ok planned) = other
 why_of other (Err (Refused why)) = why
 why_of other (Err (Halt halt)) = other
 
-pub planned_on : (plan : Result Planned Refusal) (a b : Planned) → plan ≡ Ok a → (let answer : Result Planned Stop = Ok a in answer) ≡ Ok b → plan ≡ Ok b
+pub planned_on : (plan : Result Planned Refusal) (a b : Planned) → plan ≡ Ok a
+    → (let answer : Result Planned Stop = Ok a in answer) ≡ Ok b → plan ≡ Ok b
 planned_on plan a b is same = is ∙ ap Ok (ap (planned_of a) same)
 
-pub refused_on : (plan : Result Planned Refusal) (a b : Refusal) → plan ≡ Err a → (let answer : Result Planned Stop = Err (Refused a) in answer) ≡ Err (Refused b) → plan ≡ Err b
+pub refused_on : (plan : Result Planned Refusal) (a b : Refusal) → plan ≡ Err a
+    → (let answer : Result Planned Stop = Err (Refused a) in answer) ≡ Err (Refused b) → plan ≡ Err b
 refused_on plan a b is same = is ∙ ap Err (ap (why_of a) same)

@@ -17,7 +17,8 @@ use row_keys::laws::changed_rows_show;
 /// Rows that show a state show the next one behind the change that is planned: the change has the effect of the
 /// model's step.
 pub fn changes_show_the_next_state()
-    ensures { (rows : RowLists) (s : State) (call : Call) (op : Op) → is_planned call.command ≡ true → Shows rows s → IsChange rows s call op → Shows (effect (Some op) rows) (step s call).state }
+    ensures { (rows : RowLists) (s : State) (call : Call) (op : Op) → is_planned call.command ≡ true → Shows rows s
+        → IsChange rows s call op → Shows (effect (Some op) rows) (step s call).state }
 {
     accepted_change_takes_effect();
     changes_spare_the_own_keys();

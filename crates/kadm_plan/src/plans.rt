@@ -91,9 +91,18 @@ pub fn plan(
     requires command { IsCommand view.now.realm.now ready.now.command }
     requires planned { is_planned ready.now.command ≡ true }
     requires random { length random.now ≡ 2048 }
-    ensures refused { (s : State) (call : Call) (why : Refuses) → IsSeenBy view.now.rows.now view.now.masters.now view.now.realm.now moment s → IsCallOf s client.now (option_map (λ acl. acl.now) acl.entry) ready.now.command moment random.now call → result ≡ Err (stop.Refused why) → refusal s call ≡ Some why }
-    ensures answer { (s : State) (call : Call) (reply : Replies) → IsSeenBy view.now.rows.now view.now.masters.now view.now.realm.now moment s → IsCallOf s client.now (option_map (λ acl. acl.now) acl.entry) ready.now.command moment random.now call → result ≡ Ok (Answer reply) → IsAnswer s call reply }
-    ensures change { (s : State) (call : Call) (op : Operation) → IsSeenBy view.now.rows.now view.now.masters.now view.now.realm.now moment s → IsCallOf s client.now (option_map (λ acl. acl.now) acl.entry) ready.now.command moment random.now call → result ≡ Ok (Change op) → IsChange view.now.rows.now s call op }
+    ensures refused { (s : State) (call : Call) (why : Refuses)
+        → IsSeenBy view.now.rows.now view.now.masters.now view.now.realm.now moment s
+        → IsCallOf s client.now (option_map (λ acl. acl.now) acl.entry) ready.now.command moment random.now call
+        → result ≡ Err (stop.Refused why) → refusal s call ≡ Some why }
+    ensures answer { (s : State) (call : Call) (reply : Replies)
+        → IsSeenBy view.now.rows.now view.now.masters.now view.now.realm.now moment s
+        → IsCallOf s client.now (option_map (λ acl. acl.now) acl.entry) ready.now.command moment random.now call
+        → result ≡ Ok (Answer reply) → IsAnswer s call reply }
+    ensures change { (s : State) (call : Call) (op : Operation)
+        → IsSeenBy view.now.rows.now view.now.masters.now view.now.realm.now moment s
+        → IsCallOf s client.now (option_map (λ acl. acl.now) acl.entry) ready.now.command moment random.now call
+        → result ≡ Ok (Change op) → IsChange view.now.rows.now s call op }
     // The change has a spelling, and may be made whatever the rows show.
     ensures applies { (op : Operation) → result ≡ Ok (Change op) → IsApplied view.now.rows.now op }
     ensures halted { (halt : Halts) → result ≡ Err (stop.Halt halt) → halt ≡ IsMemoryOut }

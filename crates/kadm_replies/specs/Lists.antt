@@ -21,7 +21,8 @@ strings_text list = flat_map string_line list
 -- a key's version, its encryption type and its bytes in hexadecimal, with letters in lower case
 unfoldable pub extract_line : Extract → List ℕ
 extract_line e =
-    field_line (codes "key") (decimal e.kvno ++ (codes " " ++ (etype_text e.key.etype ++ (codes " " ++ encode_lower e.key.bytes))))
+    field_line (codes "key")
+    (decimal e.kvno ++ (codes " " ++ (etype_text e.key.etype ++ (codes " " ++ encode_lower e.key.bytes))))
 
 unfoldable pub extracts_text : List Extract → List ℕ
 extracts_text list = flat_map extract_line list

@@ -1,5 +1,6 @@
 -- The lines of master keys.
-use Rattle.std.specs.Prelude.{ℕ, ◌+◌, Bool, List, [], ◌++◌, codes, count_by, Option, Some, None, is_some, not, if◌then◌else◌}
+use Rattle.std.specs.Prelude.{ℕ, ◌+◌, Bool, List, [], ◌++◌, codes, count_by}
+use Rattle.std.specs.Prelude.{Option, Some, None, is_some, not, if◌then◌else◌}
 use Rattle.std.specs.Fmt.{decimal}
 use Rattle.std.specs.List.{flat_map}
 use Rattle.kadm_values.specs.Points.{point_text}
@@ -17,7 +18,8 @@ added_text point version = codes "ok " ++ (point_text point ++ (codes " mkvno " 
 
 unfoldable pub used_text : Point → ℕ → ℕ → List ℕ
 used_text point version secs =
-    codes "ok " ++ (point_text point ++ (codes " mkvno " ++ (decimal version ++ (codes " from " ++ (time_text secs ++ line_feed)))))
+    codes "ok "
+    ++ (point_text point ++ (codes " mkvno " ++ (decimal version ++ (codes " from " ++ (time_text secs ++ line_feed)))))
 
 -- ---- list_mkeys
 
@@ -32,7 +34,8 @@ mark_text active = if active then codes " *" else []
 -- a version, its encryption type, its activation, and a mark behind the active one
 unfoldable pub master_line : MasterRow → List ℕ
 master_line row =
-    data_line (decimal row.version ++ (codes " " ++ (etype_text row.etype ++ (codes " " ++ (activation_text row.secs ++ mark_text row.active)))))
+    data_line (decimal row.version
+    ++ (codes " " ++ (etype_text row.etype ++ (codes " " ++ (activation_text row.secs ++ mark_text row.active)))))
 
 unfoldable pub masters_text : List MasterRow → List ℕ
 masters_text rows = flat_map master_line rows
@@ -72,5 +75,6 @@ purged_text point rows = codes "ok " ++ (point_before point ++ (decimal (count_b
 -- those that are gone are not counted among the processed
 unfoldable pub totals_text : Totals → List ℕ
 totals_text t =
-    codes "ok " ++ (decimal (t.updated + t.already) ++ (codes " principals processed: " ++ (decimal t.updated ++ (codes " updated, "
+    codes "ok "
+    ++ (decimal (t.updated + t.already) ++ (codes " principals processed: " ++ (decimal t.updated ++ (codes " updated, "
     ++ (decimal t.already ++ (codes " already current, " ++ (decimal t.gone ++ codes " gone\n")))))))

@@ -30,7 +30,8 @@ times_text expire pw_expire pw_changed =
 
 -- the greatest life and the greatest renewable life
 unfoldable pub lives_text : ℕ → ℕ → List ℕ
-lives_text max_life max_renew = field_line (codes "maxlife") (decimal max_life) ++ field_line (codes "maxrenewlife") (decimal max_renew)
+lives_text max_life max_renew =
+    field_line (codes "maxlife") (decimal max_life) ++ field_line (codes "maxrenewlife") (decimal max_renew)
 
 -- when and by whom it was changed last
 unfoldable pub modified_text : ℕ → List ℕ → List ℕ

@@ -4,7 +4,15 @@ use Rattle.std.specs.Fmt.{decimal}
 use Rattle.kadm_replies.specs.Texts.{line_feed, time_text}
 use Rattle.kdb_base.specs.Outcomes.{field_word}
 use Rattle.kdb_base.specs.declared.outcomes.Refusal.{Refusal}
-use Rattle.kdb_base.specs.declared.outcomes.Refusal.TheVariants.{BadLine, BadName, Duplicate, UnknownPrincipal, UnknownPolicy, PolicyInUse, Denied, Protected, PassTooShort, PassClasses, PassReused, PassTooSoon, BadValue, RecordTooLarge, TooManyMasters, UnknownMaster, NoActiveMaster, StashMissing, StashWrong, NotADatabase, AlreadyThere, Damaged, TimeEnd, DumpBad, Busy, Closed, LineTooLong, KeysFull, RowsFull, StringsFull, UnknownString, LockedDown, BadKeytab, UnknownEntry}
+use Rattle.kdb_base.specs.declared.outcomes.Refusal.TheVariants.{BadLine, BadName, Duplicate, UnknownPrincipal}
+use Rattle.kdb_base.specs.declared.outcomes.Refusal.TheVariants.{UnknownPolicy, PolicyInUse, Denied, Protected}
+use Rattle.kdb_base.specs.declared.outcomes.Refusal.TheVariants.{PassTooShort, PassClasses, PassReused, PassTooSoon}
+use Rattle.kdb_base.specs.declared.outcomes.Refusal.TheVariants.{BadValue, RecordTooLarge, TooManyMasters}
+use Rattle.kdb_base.specs.declared.outcomes.Refusal.TheVariants.{UnknownMaster, NoActiveMaster, StashMissing}
+use Rattle.kdb_base.specs.declared.outcomes.Refusal.TheVariants.{StashWrong, NotADatabase, AlreadyThere, Damaged}
+use Rattle.kdb_base.specs.declared.outcomes.Refusal.TheVariants.{TimeEnd, DumpBad, Busy, Closed, LineTooLong}
+use Rattle.kdb_base.specs.declared.outcomes.Refusal.TheVariants.{KeysFull, RowsFull, StringsFull, UnknownString}
+use Rattle.kdb_base.specs.declared.outcomes.Refusal.TheVariants.{LockedDown, BadKeytab, UnknownEntry}
 
 -- the number and the name of a refusal
 unfoldable pub refusal_named : Refusal → List ℕ

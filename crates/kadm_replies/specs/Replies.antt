@@ -1,7 +1,9 @@
 -- The text of a reply.
 use Rattle.std.specs.Prelude.{ℕ, List, [], ◌++◌, codes}
 use Rattle.kadm_commands.specs.declared.replies.Reply.{Reply}
-use Rattle.kadm_commands.specs.declared.replies.Reply.TheVariants.{Done, Shown, Listed, Strings, Extracted, PolicyShown, Privileges, MasterAdded, MasterUsed, MastersListed, MastersPurged, Rekeyed, Stashed, Refused}
+use Rattle.kadm_commands.specs.declared.replies.Reply.TheVariants.{Done, Shown, Listed, Strings, Extracted, PolicyShown}
+use Rattle.kadm_commands.specs.declared.replies.Reply.TheVariants.{Privileges, MasterAdded, MasterUsed, MastersListed}
+use Rattle.kadm_commands.specs.declared.replies.Reply.TheVariants.{MastersPurged, Rekeyed, Stashed, Refused}
 use Rattle.kadm_replies.specs.Lists.{extracts_text, letters_text, names_text, rules_text, strings_text}
 use Rattle.kadm_replies.specs.Masters.{added_text, masters_text, purged_text, purges_text, totals_text, used_text}
 use Rattle.kadm_replies.specs.Princs.{shown_text}

@@ -2,7 +2,8 @@
 
 ghost use Rattle.std.specs.Prelude.{◌≡◌, ◌++◌, IfOk, OnOk, string_bytes};
 ghost use Rattle.hex.specs.Hex.{encode_lower};
-ghost use Rattle.kadm_replies.specs.Lists.{extract_line, extracts_text, letters_text, names_text, rules_text, strings_text};
+ghost use Rattle.kadm_replies.specs.Lists.{extract_line, extracts_text, letters_text};
+ghost use Rattle.kadm_replies.specs.Lists.{names_text, rules_text, strings_text};
 
 use crate::texts::{etype_text, push_field, push_line, push_number};
 use kdb_base::{Blob, Extract, MemoryOut};

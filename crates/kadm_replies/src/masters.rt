@@ -2,7 +2,9 @@
 
 ghost use Rattle.std.specs.Prelude.{◌≡◌, ◌++◌, IfOk, OnOk, codes, count_by};
 ghost use Rattle.kadm_replies.specs.Texts.{field_line};
-ghost use Rattle.kadm_replies.specs.Masters.{activation_text, added_text, is_purged, mark_text, master_line, masters_text, point_before, purge_line, purged_text, purges_text, serving_text, totals_text, used_text};
+ghost use Rattle.kadm_replies.specs.Masters.{activation_text, added_text, is_purged, mark_text, master_line};
+ghost use Rattle.kadm_replies.specs.Masters.{masters_text, point_before, purge_line, purged_text};
+ghost use Rattle.kadm_replies.specs.Masters.{purges_text, serving_text, totals_text, used_text};
 
 use crate::texts::{etype_text, push, push_field, time_text};
 use kadm_commands::{MasterRow, PurgeRow, Totals};
@@ -117,7 +119,8 @@ fn push_kept(
     version: &[u8],
     cause: Cause,
 ) -> Result<(), MemoryOut>
-    ensures { OnOk result (out.new.items ≡ out.old.items ++ field_line (codes "kept") (version.now ++ (codes " " ++ serving_text cause))) }
+    ensures { OnOk result (out.new.items
+        ≡ out.old.items ++ field_line (codes "kept") (version.now ++ (codes " " ++ serving_text cause))) }
 {
     let cause = serving_text(alloc, cause)?;
     let mut text = Vec::new(alloc);

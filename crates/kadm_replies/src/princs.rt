@@ -2,7 +2,8 @@
 
 ghost use Rattle.std.specs.Prelude.{◌≡◌, ◌++◌, OnOk};
 ghost use Rattle.std.specs.List.{flat_map};
-ghost use Rattle.kadm_replies.specs.Princs.{key_line, lives_text, modified_text, policy_text, rest_text, salt_text, shown_key_line, shown_text, times_text};
+ghost use Rattle.kadm_replies.specs.Princs.{key_line, lives_text, modified_text, policy_text, rest_text};
+ghost use Rattle.kadm_replies.specs.Princs.{salt_text, shown_key_line, shown_text, times_text};
 
 use crate::flags::flags_text;
 use crate::texts::{etype_text, push, push_field, push_number, push_time, time_text};

@@ -79,7 +79,8 @@ fn push_moment(alloc: Global, out: &mut Vec<u8>, secs: u32) -> Result<(), Memory
 
 // A file and a place of it.
 fn push_place(alloc: Global, out: &mut Vec<u8>, file: u8, place: u64) -> Result<(), MemoryOut>
-    ensures { OnOk result (out.new.items ≡ out.old.items ++ (cause_field (decimal file) ++ cause_field (decimal place))) }
+    ensures { OnOk result
+        (out.new.items ≡ out.old.items ++ (cause_field (decimal file) ++ cause_field (decimal place))) }
 {
     push_count(alloc, out, u64::from(file))?;
     push_count(alloc, out, place)?;

@@ -22,12 +22,15 @@ plain_text (b ∷ text) e =
 
 pub local_spelled : (realm : List ℕ) → Spells (codes "admin/local") realm (local_client realm)
 unfolding SpellsParts is_plain is_refused is_sign
-local_spelled realm = inl ((codes "admin", codes "local", plain_text (codes "admin") refl, plain_text (codes "local") refl, refl), refl)
+local_spelled realm =
+    inl ((codes "admin", codes "local", plain_text (codes "admin") refl, plain_text (codes "local") refl, refl), refl)
 
 pub local_named : (realm : List ℕ) → IsRealm realm → IsName (local_client realm)
 unfolding printed_parts printed_text printed_byte is_sign can_stand is_refused
-local_named realm is = is_name_in (codes "admin" ∷ codes "local" ∷ []) realm is (λ e. absurd cc) (omega arith) refl (omega arith)
+local_named realm is =
+    is_name_in (codes "admin" ∷ codes "local" ∷ []) realm is (λ e. absurd cc) (omega arith) refl (omega arith)
 
-pub answered : (result : Result NameParts NameFault) (answer name : NameParts) → result ≡ Ok answer → AnswersName name result → answer ≡ name
+pub answered : (result : Result NameParts NameFault) (answer name : NameParts) → result ≡ Ok answer
+    → AnswersName name result → answer ≡ name
 unfolding AnswersName
 answered result answer name is h = subst (λ (r : Result NameParts NameFault). AnswersName name r) is h

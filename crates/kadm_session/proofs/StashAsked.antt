@@ -56,7 +56,8 @@ stash_is (command.RekeyPrincs glob) e = absurd cc
 stash_is command.Dump e = absurd cc
 
 -- what holds of the command holds of the one that was given
-pub as_stash : (P : Command → Type 0) (given cmd : Command) → given ≡ cmd → is_stash given ≡ true → P command.Stash → P cmd
+pub as_stash : (P : Command → Type 0) (given cmd : Command) → given ≡ cmd → is_stash given ≡ true
+    → P command.Stash → P cmd
 as_stash P given cmd same is holds = subst P (sym (stash_is given is) ∙ same) holds
 
 or_left : (a b : Bool) → b ≡ false → (a || b) ≡ true → a ≡ true
@@ -64,13 +65,15 @@ or_left true b e both = refl
 or_left false b e both = absurd cc
 
 -- another event is judged
-pub judged_else : (given cmd : Command) → given ≡ cmd → is_stash given ≡ false → is_event cmd ≡ true → is_judged cmd ≡ true
+pub judged_else : (given cmd : Command) → given ≡ cmd → is_stash given ≡ false → is_event cmd ≡ true
+    → is_judged cmd ≡ true
 judged_else given cmd same not event = or_left (is_judged cmd) (is_stash cmd) (ap is_stash (sym same) ∙ not) event
 
 -- ---- the state stays
 
 -- whatever is written, the state stays
-stays_by : (kind : Kind) (clock : Moment) (p : Place) (before after : State) (bytes : List ℕ) → Leads clock p before after (planned kind None bytes) → after ≡ before
+stays_by : (kind : Kind) (clock : Moment) (p : Place) (before after : State) (bytes : List ℕ)
+    → Leads clock p before after (planned kind None bytes) → after ≡ before
 stays_by Keeps clock p before after bytes e = e
 stays_by Enters clock p before after bytes e = e
 stays_by Stashes clock p before after bytes e = e
@@ -81,39 +84,53 @@ stash_stays : (p : Place) (s : State) (clock : Moment) (random : List ℕ) (answ
 unfolding kept_op kept_entry_of kept_masters_of
 stash_stays p s clock random answer made h =
     let ask = ask_at command.Stash clock random (seen p s) in
-    stays_by (outcome_at ask (seen p s)).kind clock p s (outcome_at ask (seen p s)).state (stash_of s (moment_at clock p)) h.leads
+    stays_by (outcome_at ask (seen p s)).kind clock p s (outcome_at ask (seen p s)).state
+    (stash_of s (moment_at clock p)) h.leads
 
 -- ---- where it stands
 
 -- the call of this client is the ask of a line
-asked : (client : NameParts) (o : Opened) (s : State) (clock : Moment) (random : List ℕ) → client ≡ local_client o.kept.realm
+asked : (client : NameParts) (o : Opened) (s : State) (clock : Moment) (random : List ℕ)
+    → client ≡ local_client o.kept.realm
     → command_ask client None command.Stash clock random ≡ ask_at command.Stash clock random (seen (place_of o) s)
 asked client o s clock random same = ap (λ (name : NameParts). command_ask name None command.Stash clock random) same
 
-done_as : {E : Type 0} (o new : Opened) (s : State) (client : NameParts) (clock : Moment) (random : List ℕ) (r : Result Reply E) (told : Reply) → client ≡ local_client o.kept.realm → r ≡ Ok told
-    → IfOk r (λ x. Does (place_of o) s (Perform (command_ask client None command.Stash clock random)) (Replied x) (place_of new))
-    → Does (place_of o) s (Perform (ask_at command.Stash clock random (seen (place_of o) s))) (Replied told) (place_of new)
+done_as : {E : Type 0} (o new : Opened) (s : State) (client : NameParts) (clock : Moment) (random : List ℕ)
+    (r : Result Reply E) (told : Reply) → client ≡ local_client o.kept.realm → r ≡ Ok told
+    → IfOk r (λ x.
+    Does (place_of o) s (Perform (command_ask client None command.Stash clock random)) (Replied x) (place_of new))
+    → Does (place_of o) s (Perform (ask_at command.Stash clock random (seen (place_of o) s))) (Replied told)
+    (place_of new)
 done_as {E} o new s client clock random r told same is done =
-    subst (λ (ask : Ask). Does (place_of o) s (Perform ask) (Replied told) (place_of new)) (asked client o s clock random same)
-    (subst (λ (x : Result Reply E). IfOk x (λ y. Does (place_of o) s (Perform (command_ask client None command.Stash clock random)) (Replied y) (place_of new))) is done)
+    subst (λ (ask : Ask). Does (place_of o) s (Perform ask) (Replied told) (place_of new))
+    (asked client o s clock random same)
+    (subst (λ (x : Result Reply E). IfOk x (λ y. Does (place_of o) s
+    (Perform (command_ask client None command.Stash clock random)) (Replied y) (place_of new))) is done)
 
-pub stash_stands : {E : Type 0} (o new : Opened) (s : State) (client : NameParts) (clock : Moment) (random : List ℕ) (r : Result Reply E) (told : Reply) → client ≡ local_client o.kept.realm → r ≡ Ok told
-    → IfOk r (λ x. Does (place_of o) s (Perform (command_ask client None command.Stash clock random)) (Replied x) (place_of new))
-    → HasState new s → StandsAt new (after_ask (ask_at command.Stash clock random (seen (place_of o) s)) (seen (place_of o) s))
+pub stash_stands : {E : Type 0} (o new : Opened) (s : State) (client : NameParts) (clock : Moment) (random : List ℕ)
+    (r : Result Reply E) (told : Reply) → client ≡ local_client o.kept.realm → r ≡ Ok told
+    → IfOk r (λ x.
+    Does (place_of o) s (Perform (command_ask client None command.Stash clock random)) (Replied x) (place_of new))
+    → HasState new s
+    → StandsAt new (after_ask (ask_at command.Stash clock random (seen (place_of o) s)) (seen (place_of o) s))
 stash_stands {E} o new s client clock random r told same is done has =
     let does = done_as o new s client clock random r told same is done in
     record {
       place_is = does.is ∙ ap (λ (made : List Stage). end_of (place_of o) (places made)) does.makes.is;
-      shows = subst (HasState new) (sym (stash_stays (place_of o) s clock random (Replied told) does.made does.makes)) has;
+      shows =
+          subst (HasState new) (sym (stash_stays (place_of o) s clock random (Replied told) does.made does.makes)) has;
     }
 
-pub stash_performs : {E : Type 0} (o new : Opened) (s : State) (client : NameParts) (clock : Moment) (random : List ℕ) (r : Result Reply E) (told printed : Reply) → client ≡ local_client o.kept.realm → r ≡ Ok told → printed ≡ told
-    → IfOk r (λ x. Does (place_of o) s (Perform (command_ask client None command.Stash clock random)) (Replied x) (place_of new))
+pub stash_performs : {E : Type 0} (o new : Opened) (s : State) (client : NameParts) (clock : Moment) (random : List ℕ)
+    (r : Result Reply E) (told printed : Reply) → client ≡ local_client o.kept.realm → r ≡ Ok told → printed ≡ told
+    → IfOk r (λ x.
+    Does (place_of o) s (Perform (command_ask client None command.Stash clock random)) (Replied x) (place_of new))
     → Performed (ask_at command.Stash clock random (seen (place_of o) s)) (seen (place_of o) s) (Replied printed)
 stash_performs {E} o new s client clock random r told printed same is as_told done =
     let does = done_as o new s client clock random r told same is done in
     let ask = ask_at command.Stash clock random (seen (place_of o) s) in
-    subst (λ (x : Reply). Performed ask (seen (place_of o) s) (Replied x)) (sym as_told) (performed_own (place_of o) s ask (Replied told) does.made does.makes)
+    subst (λ (x : Reply). Performed ask (seen (place_of o) s) (Replied x)) (sym as_told)
+    (performed_own (place_of o) s ask (Replied told) does.made does.makes)
 
 -- the realm stays
 pub stash_realm : (o new : Opened) (s : State) → HasState o s → HasState new s → new.kept.realm ≡ o.kept.realm
@@ -122,8 +139,11 @@ stash_realm o new s has later = sym later.shows.realm ∙ has.shows.realm
 -- ---- what a crash leaves
 
 -- the same of a call by this client
-pub stash_crash : {D : Type 0} (g : Ghosts D) (old new : D) (o : Opened) (s : State) (client : NameParts) (clock : Moment) (random : List ℕ) → client ≡ local_client o.kept.realm
+pub stash_crash : {D : Type 0} (g : Ghosts D) (old new : D) (o : Opened) (s : State) (client : NameParts)
+    (clock : Moment) (random : List ℕ) → client ≡ local_client o.kept.realm
     → IsCrashSafe g old new (MayLeave (place_of o) s (Perform (command_ask client None command.Stash clock random)))
-    → IsCrashSafe g old new (MayLeave (place_of o) s (Perform (ask_at command.Stash clock random (seen (place_of o) s))))
+    → IsCrashSafe g old new
+    (MayLeave (place_of o) s (Perform (ask_at command.Stash clock random (seen (place_of o) s))))
 stash_crash g old new o s client clock random same safe =
-    subst (λ (a : Ask). IsCrashSafe g old new (MayLeave (place_of o) s (Perform a))) (asked client o s clock random same) safe
+    subst (λ (a : Ask). IsCrashSafe g old new (MayLeave (place_of o) s (Perform a)))
+    (asked client o s clock random same) safe

@@ -23,7 +23,8 @@ use Rattle.store_files.specs.Found.{recovers}
 
 -- ---- one ask
 
--- The primary is asked so from here and answers this: the places that it makes, and the state behind them, are those of its history.
+-- The primary is asked so from here and answers this: the places that it makes, and the state behind them, are those of
+-- its history.
 abbrev pub Performed : Ask → Seen → Answer → Type 0
 Performed ask at answer = Performs at.place at.state ask answer (made_at ask at)
 
@@ -45,28 +46,32 @@ IfGoesOn (Some why) Next End = End
 unfoldable pub AreRekeyings : List (List ℕ) → Moment → Progress → Type 0
 AreRekeyings [] clock p = ⊤
 AreRekeyings (word ∷ words) clock p =
-    IsDone (ask_next clock word p) p.at × IfGoesOn (one_more clock word p).why (AreRekeyings words clock (one_more clock word p)) ⊤
+    IsDone (ask_next clock word p) p.at
+    × IfGoesOn (one_more clock word p).why (AreRekeyings words clock (one_more clock word p)) ⊤
 
 -- So many of them were done, and the place is as before the next one, or one at which its event stopped.
 unfoldable pub RekeyingsReach : List (List ℕ) → Moment → Progress → Place → Type 0
 RekeyingsReach [] clock p q = q ≡ p.at.place
 RekeyingsReach (word ∷ words) clock p q =
     MayReach p.at.place p.at.state (Perform (ask_next clock word p)) q
-    ⊎ (IsDone (ask_next clock word p) p.at × IfGoesOn (one_more clock word p).why (RekeyingsReach words clock (one_more clock word p) q) ⊥)
+    ⊎ (IsDone (ask_next clock word p) p.at
+    × IfGoesOn (one_more clock word p).why (RekeyingsReach words clock (one_more clock word p) q) ⊥)
 
 -- ---- one line
 
--- What a line asks for was done at the moment that came next: nothing, one event, or one after another. The log is begun anew where a later
--- time is left. A dump is no event.
+-- What a line asks for was done at the moment that came next: nothing, one event, or one after another. The log is
+-- begun anew where a later time is left. A dump is no event.
 abbrev pub IsPerformed : Asked → Draws → Seen → Type 0
 IsPerformed Nothing draws at = ⊤
 IsPerformed (Refused refusal) draws at = ⊤
 IsPerformed (Does command) draws at = IsMoment (moment_in draws) × IsDone (ask_of command draws at) at
 IsPerformed (Rekeys glob) draws at =
-    IsMoment (moment_in draws) × AreRekeyings (names_told glob (princ_names at.state.princs)) (moment_in draws) (begun at draws.stream)
+    IsMoment (moment_in draws)
+    × AreRekeyings (names_told glob (princ_names at.state.princs)) (moment_in draws) (begun at draws.stream)
 IsPerformed ResetsLog draws at =
     IsMoment (moment_in draws)
-    × (is_at_time_end at ≡ false → Resets at.place (moment_in draws) (stage (renewed_place (moment_in draws) at.place) Anew ∷ []))
+    × (is_at_time_end at ≡ false
+    → Resets at.place (moment_in draws) (stage (renewed_place (moment_in draws) at.place) Anew ∷ []))
 IsPerformed WritesDump draws at = ⊤
 
 -- the events of a line stopped at this place
@@ -76,7 +81,8 @@ EventsReach (Refused refusal) draws at q = ⊥
 EventsReach (Does command) draws at q = MayReach at.place at.state (Perform (ask_of command draws at)) q
 EventsReach (Rekeys glob) draws at q =
     RekeyingsReach (names_told glob (princ_names at.state.princs)) (moment_in draws) (begun at draws.stream) q
-EventsReach ResetsLog draws at q = (is_at_time_end at ≡ false) × MayReach at.place at.state (ResetLog (moment_in draws)) q
+EventsReach ResetsLog draws at q =
+    (is_at_time_end at ≡ false) × MayReach at.place at.state (ResetLog (moment_in draws)) q
 EventsReach WritesDump draws at q = ⊥
 
 -- The place is as before the line, or one at which its events stopped.
@@ -88,13 +94,16 @@ LineReaches asked draws at q = (q ≡ at.place) ⊎ (IsMoment (moment_in draws) 
 -- each was performed from where the one before it led to
 unfoldable pub ArePerformed : List Asked → Draws → Seen → Type 0
 ArePerformed [] draws at = ⊤
-ArePerformed (asked ∷ commands) draws at = IsPerformed asked draws at × ArePerformed commands (draws_after asked draws at) (seen_after asked draws at)
+ArePerformed (asked ∷ commands) draws at =
+    IsPerformed asked draws at × ArePerformed commands (draws_after asked draws at) (seen_after asked draws at)
 
--- So many lines were performed, and the place is as before the next one, or one at which the events of that line stopped.
+-- So many lines were performed, and the place is as before the next one, or one at which the events of that line
+-- stopped.
 unfoldable pub IsReached : List Asked → Draws → Seen → Place → Type 0
 IsReached [] draws at q = q ≡ at.place
 IsReached (asked ∷ commands) draws at q =
-    LineReaches asked draws at q ⊎ (IsPerformed asked draws at × IsReached commands (draws_after asked draws at) (seen_after asked draws at) q)
+    LineReaches asked draws at q
+    ⊎ (IsPerformed asked draws at × IsReached commands (draws_after asked draws at) (seen_after asked draws at) q)
 
 -- the files recover to a place that is reached so
 pub record RecoversWhere (Reaches : Place → Type 0) (c : Files) : Type 0 where

@@ -41,8 +41,8 @@ refused_by other = None
 
 -- ---- one name after another
 
--- Where it stands, the places that were made so far, what was counted, the refusal at which it stopped, and what the source of random
--- bytes has left.
+-- Where it stands, the places that were made so far, what was counted, the refusal at which it stopped, and what the
+-- source of random bytes has left.
 pub record Progress : Type 0 where
   pub at : Seen
   pub made : List Place
@@ -59,7 +59,8 @@ begun at stream = progress at [] no_totals None stream
 -- one name more, by how it is asked
 abbrev pub asked_more : Ask → Progress → Progress
 asked_more ask p =
-    progress (after_ask ask p.at) (p.made ++ places (made_at ask p.at)) (tally (answer_at ask p.at) p.totals) (refused_by (answer_at ask p.at)) (later_bytes 512 p.stream)
+    progress (after_ask ask p.at) (p.made ++ places (made_at ask p.at)) (tally (answer_at ask p.at) p.totals)
+    (refused_by (answer_at ask p.at)) (later_bytes 512 p.stream)
 
 -- with the 512 random bytes that come next
 abbrev pub one_more : Moment → List ℕ → Progress → Progress
@@ -72,7 +73,8 @@ unless_refused (Some why) p later = p
 
 unfoldable pub rekeyed : List (List ℕ) → Moment → Progress → Progress
 rekeyed [] clock p = p
-rekeyed (word ∷ words) clock p = unless_refused (one_more clock word p).why (one_more clock word p) (rekeyed words clock (one_more clock word p))
+rekeyed (word ∷ words) clock p =
+    unless_refused (one_more clock word p).why (one_more clock word p) (rekeyed words clock (one_more clock word p))
 
 abbrev pub totals_or : Option Refusal → Totals → Reply
 totals_or None totals = reply.Rekeyed totals

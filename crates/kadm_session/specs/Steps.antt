@@ -1,5 +1,5 @@
--- What is answered to the lines of an input, and the places that the database goes through. All is a function of the lines, of what the
--- clock and the source of random bytes give, and of a place with the state that its rows show.
+-- What is answered to the lines of an input, and the places that the database goes through. All is a function of the
+-- lines, of what the clock and the source of random bytes give, and of a place with the state that its rows show.
 use Rattle.std.specs.Prelude.{ℕ, Bool, true, false, ◌||◌, List, [], ◌∷◌, ◌++◌, codes, Option, Some, None}
 use Rattle.kadm_commands.specs.declared.commands.Command.{Command}
 use Rattle.kadm_commands.specs.declared.replies.Reply.{Reply}
@@ -42,7 +42,8 @@ reply_in_answer other = None
 
 -- the names of the state that the glob matches, rekeyed one after another at one moment
 abbrev pub rekeyed_by : Option (List ℕ) → Draws → Seen → Progress
-rekeyed_by glob draws at = rekeyed (names_told glob (princ_names at.state.princs)) (moment_in draws) (begun at draws.stream)
+rekeyed_by glob draws at =
+    rekeyed (names_told glob (princ_names at.state.princs)) (moment_in draws) (begun at draws.stream)
 
 -- A skipped line has no reply. A dump is no value of a reply: what is written for it is a text alone.
 unfoldable pub reply_to : Asked → Draws → Seen → Option Reply
@@ -62,8 +63,8 @@ seen_after (Rekeys glob) draws at = (rekeyed_by glob draws at).at
 seen_after ResetsLog draws at = after_reset (moment_in draws) at
 seen_after WritesDump draws at = at
 
--- the places that it makes: none, those of its change, those of the rekeyings, or that of the log begun anew on request; a change has one, or
--- before it that of a log begun anew
+-- the places that it makes: none, those of its change, those of the rekeyings, or that of the log begun anew on
+-- request; a change has one, or before it that of a log begun anew
 unfoldable pub places_by : Asked → Draws → Seen → List Place
 places_by Nothing draws at = []
 places_by (Refused refusal) draws at = []
@@ -77,13 +78,15 @@ abbrev pub halfway : Asked → Draws → Seen → List Place
 halfway (Rekeys glob) draws at = places_by (Rekeys glob) draws at
 halfway other draws at = []
 
--- A line that gives no command reads no clock and draws nothing. Of many that are rekeyed each has its own 512 bytes, up to the first that
--- is refused. A log that is begun anew on request takes a moment alone, and a dump what each command takes.
+-- A line that gives no command reads no clock and draws nothing. Of many that are rekeyed each has its own 512 bytes,
+-- up to the first that is refused. A log that is begun anew on request takes a moment alone, and a dump what each
+-- command takes.
 unfoldable pub draws_after : Asked → Draws → Seen → Draws
 draws_after Nothing draws at = draws
 draws_after (Refused refusal) draws at = draws
 draws_after (Does command) draws at = behind_command draws
-draws_after (Rekeys glob) draws at = record { moments = later_moments draws.moments; stream = (rekeyed_by glob draws at).stream }
+draws_after (Rekeys glob) draws at =
+    record { moments = later_moments draws.moments; stream = (rekeyed_by glob draws at).stream }
 draws_after ResetsLog draws at = behind_moment draws
 draws_after WritesDump draws at = behind_command draws
 
@@ -105,7 +108,8 @@ text_to asked draws at = line_text asked at.place (reply_to asked draws at)
 
 -- ---- one line after another
 
--- all that is answered, whether a refusal is among it, the place and the state in the end, and what the clock and the source have left
+-- all that is answered, whether a refusal is among it, the place and the state in the end, and what the clock and the
+-- source have left
 pub record Said : Type 0 where
   pub bytes : List ℕ
   pub refused : Bool
@@ -113,14 +117,21 @@ pub record Said : Type 0 where
   pub draws : Draws
 
 abbrev pub after_reply : List ℕ → Option Reply → Said → Said
-after_reply text reply later = record { bytes = text ++ later.bytes; refused = is_refusal reply || later.refused; at = later.at; draws = later.draws }
+after_reply text reply later = record {
+  bytes = text ++ later.bytes;
+  refused = is_refusal reply || later.refused;
+  at = later.at;
+  draws = later.draws;
+}
 
 unfoldable pub said : List Asked → Draws → Seen → Said
 said [] draws at = record { bytes = []; refused = false; at = at; draws = draws }
 said (asked ∷ commands) draws at =
-    after_reply (text_to asked draws at) (reply_to asked draws at) (said commands (draws_after asked draws at) (seen_after asked draws at))
+    after_reply (text_to asked draws at) (reply_to asked draws at)
+    (said commands (draws_after asked draws at) (seen_after asked draws at))
 
 -- the places that they make, in their order
 unfoldable pub places_made : List Asked → Draws → Seen → List Place
 places_made [] draws at = []
-places_made (asked ∷ commands) draws at = places_by asked draws at ++ places_made commands (draws_after asked draws at) (seen_after asked draws at)
+places_made (asked ∷ commands) draws at =
+    places_by asked draws at ++ places_made commands (draws_after asked draws at) (seen_after asked draws at)

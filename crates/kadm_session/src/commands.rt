@@ -86,7 +86,8 @@ fn judge_for(
     requires judged { is_judged ready.now.command ≡ true }
     requires random { length random.now ≡ 2048 }
     requires whole { primary.now.kept.broken ≡ false }
-    ensures decided { IfOk result (λ j. IsDecided primary.now (command_ask client.now None ready.now.command now random.now) j.printed.reply j.change) }
+    ensures decided { IfOk result (λ j.
+        IsDecided primary.now (command_ask client.now None ready.now.command now random.now) j.printed.reply j.change) }
     ensures may { (change : Changes) → IfOk result (λ j. j.change ≡ Some change → MayMake primary.now now change) }
     ensures text { IfOk result (λ j. j.printed.text ≡ reply_text j.printed.reply) }
 {
@@ -113,7 +114,8 @@ pub fn judge(
     requires judged { is_judged ready.now.command ≡ true }
     requires random { length random.now ≡ 2048 }
     requires whole { primary.now.kept.broken ≡ false }
-    ensures decided { IfOk result (λ j. IsDecided primary.now (command_ask (local_client primary.now.kept.realm) None ready.now.command now random.now) j.printed.reply j.change) }
+    ensures decided { IfOk result (λ j. IsDecided primary.now (command_ask (local_client primary.now.kept.realm) None
+        ready.now.command now random.now) j.printed.reply j.change) }
     ensures may { (change : Changes) → IfOk result (λ j. j.change ≡ Some change → MayMake primary.now now change) }
     ensures text { IfOk result (λ j. j.printed.text ≡ reply_text j.printed.reply) }
 {
@@ -140,12 +142,17 @@ pub fn carry_out<D: Disk>(
     requires whole { primary.old.kept.broken ≡ false }
     requires may { (change : Changes) → judged.change ≡ Some change → MayMake primary.old now change }
     ensures same { IfOk result (λ printed. printed ≡ judged.printed) }
-    ensures stands { (ask : Ask) (s : State) → clock_of ask ≡ now → IsDecided primary.old ask judged.printed.reply judged.change → HasState primary.old s → OnOk result (StandsAt primary.new (after_ask ask (seen (place_of primary.old) s))) }
-    ensures crash { (ask : Ask) (s : State) → clock_of ask ≡ now → IsDecided primary.old ask judged.printed.reply judged.change → HasState primary.old s → IsCrashSafe D.Disk disk.old disk.new (MayLeave (place_of primary.old) s (Perform ask)) }
+    ensures stands { (ask : Ask) (s : State)
+        → clock_of ask ≡ now → IsDecided primary.old ask judged.printed.reply judged.change → HasState primary.old s
+        → OnOk result (StandsAt primary.new (after_ask ask (seen (place_of primary.old) s))) }
+    ensures crash { (ask : Ask) (s : State)
+        → clock_of ask ≡ now → IsDecided primary.old ask judged.printed.reply judged.change → HasState primary.old s
+        → IsCrashSafe D.Disk disk.old disk.new (MayLeave (place_of primary.old) s (Perform ask)) }
     ensures on { D.tells → OnOk result (IsOnDisk primary.new.kept (D.view disk.new)) }
     ensures whole { OnOk result (primary.new.kept.broken ≡ false) }
     ensures realm { OnOk result (primary.new.kept.realm ≡ primary.old.kept.realm) }
-    ensures memory { result ≡ Err SessionHalt.MemoryOut → (disk.new ≡ disk.old) × (place_of primary.new ≡ place_of primary.old) }
+    ensures memory { result ≡ Err SessionHalt.MemoryOut
+        → (disk.new ≡ disk.old) × (place_of primary.new ≡ place_of primary.old) }
     ensures halt { IfErr result IsPerformHalt }
     ensures not_drawn { IfErr result (λ halt. halt ≢ SessionHalt.DrawFault) }
     ensures call { IsCall D.Disk disk.old disk.new (result ≡ Err SessionHalt.DiskFault) }
@@ -177,14 +184,19 @@ fn perform_judged<D: Disk>(
     requires random { length random.now ≡ 2048 }
     requires on { D.tells → IsOnDisk primary.old.kept (D.view disk.old) }
     requires whole { primary.old.kept.broken ≡ false }
-    ensures performs { (s : State) → HasState primary.old s → IfOk result (λ printed. Performed (ask_at ready.now.command now random.now (seen (place_of primary.old) s)) (seen (place_of primary.old) s) (Replied printed.reply)) }
-    ensures stands { (s : State) → HasState primary.old s → OnOk result (StandsAt primary.new (after_ask (ask_at ready.now.command now random.now (seen (place_of primary.old) s)) (seen (place_of primary.old) s))) }
-    ensures crash { (s : State) → HasState primary.old s → IsCrashSafe D.Disk disk.old disk.new (MayLeave (place_of primary.old) s (Perform (ask_at ready.now.command now random.now (seen (place_of primary.old) s)))) }
+    ensures performs { (s : State) → HasState primary.old s
+        → IfOk result (λ printed. Performed (ask_at ready.now.command now random.now (seen (place_of primary.old) s))
+        (seen (place_of primary.old) s) (Replied printed.reply)) }
+    ensures stands { (s : State) → HasState primary.old s → OnOk result (StandsAt primary.new (after_ask
+        (ask_at ready.now.command now random.now (seen (place_of primary.old) s)) (seen (place_of primary.old) s))) }
+    ensures crash { (s : State) → HasState primary.old s → IsCrashSafe D.Disk disk.old disk.new (MayLeave
+        (place_of primary.old) s (Perform (ask_at ready.now.command now random.now (seen (place_of primary.old) s)))) }
     ensures text { IfOk result (λ printed. printed.text ≡ reply_text printed.reply) }
     ensures on { D.tells → OnOk result (IsOnDisk primary.new.kept (D.view disk.new)) }
     ensures whole { OnOk result (primary.new.kept.broken ≡ false) }
     ensures realm { OnOk result (primary.new.kept.realm ≡ primary.old.kept.realm) }
-    ensures memory { result ≡ Err SessionHalt.MemoryOut → (disk.new ≡ disk.old) × (place_of primary.new ≡ place_of primary.old) }
+    ensures memory { result ≡ Err SessionHalt.MemoryOut
+        → (disk.new ≡ disk.old) × (place_of primary.new ≡ place_of primary.old) }
     ensures halt { IfErr result IsPerformHalt }
     ensures not_drawn { IfErr result (λ halt. halt ≢ SessionHalt.DrawFault) }
     ensures call { IsCall D.Disk disk.old disk.new (result ≡ Err SessionHalt.DiskFault) }
@@ -209,14 +221,19 @@ fn perform_at<D: Disk>(
     requires random { length random.now ≡ 2048 }
     requires on { D.tells → IsOnDisk primary.old.kept (D.view disk.old) }
     requires whole { primary.old.kept.broken ≡ false }
-    ensures performs { (s : State) → HasState primary.old s → IfOk result (λ printed. Performed (ask_at ready.now.command now random.now (seen (place_of primary.old) s)) (seen (place_of primary.old) s) (Replied printed.reply)) }
-    ensures stands { (s : State) → HasState primary.old s → OnOk result (StandsAt primary.new (after_ask (ask_at ready.now.command now random.now (seen (place_of primary.old) s)) (seen (place_of primary.old) s))) }
-    ensures crash { (s : State) → HasState primary.old s → IsCrashSafe D.Disk disk.old disk.new (MayLeave (place_of primary.old) s (Perform (ask_at ready.now.command now random.now (seen (place_of primary.old) s)))) }
+    ensures performs { (s : State) → HasState primary.old s
+        → IfOk result (λ printed. Performed (ask_at ready.now.command now random.now (seen (place_of primary.old) s))
+        (seen (place_of primary.old) s) (Replied printed.reply)) }
+    ensures stands { (s : State) → HasState primary.old s → OnOk result (StandsAt primary.new (after_ask
+        (ask_at ready.now.command now random.now (seen (place_of primary.old) s)) (seen (place_of primary.old) s))) }
+    ensures crash { (s : State) → HasState primary.old s → IsCrashSafe D.Disk disk.old disk.new (MayLeave
+        (place_of primary.old) s (Perform (ask_at ready.now.command now random.now (seen (place_of primary.old) s)))) }
     ensures text { IfOk result (λ printed. printed.text ≡ reply_text printed.reply) }
     ensures on { D.tells → OnOk result (IsOnDisk primary.new.kept (D.view disk.new)) }
     ensures whole { OnOk result (primary.new.kept.broken ≡ false) }
     ensures realm { OnOk result (primary.new.kept.realm ≡ primary.old.kept.realm) }
-    ensures memory { result ≡ Err SessionHalt.MemoryOut → (disk.new ≡ disk.old) × (place_of primary.new ≡ place_of primary.old) }
+    ensures memory { result ≡ Err SessionHalt.MemoryOut
+        → (disk.new ≡ disk.old) × (place_of primary.new ≡ place_of primary.old) }
     ensures halt { IfErr result IsPerformHalt }
     ensures not_drawn { IfErr result (λ halt. halt ≢ SessionHalt.DrawFault) }
     ensures call { IsCall D.Disk disk.old disk.new (result ≡ Err SessionHalt.DiskFault) }
@@ -239,13 +256,17 @@ fn perform_ready<D: Disk, C: Clock, E: Entropy>(
     requires command { IsLineCommand primary.old.kept.realm ready.now.command }
     requires on { D.tells → IsOnDisk primary.old.kept (D.view disk.old) }
     requires whole { primary.old.kept.broken ≡ false }
-    ensures decided { (s : State) → HasState primary.old s → IfOk result (λ printed. Decides (Does ready.now.command) (told_draws (C.moments clock.old) (E.stream entropy.old)) (seen (place_of primary.old) s) (Some printed.reply) primary.new (told_draws (C.moments clock.new) (E.stream entropy.new))) }
-    ensures safe { (s : State) → HasState primary.old s → IsLineSafe D.Disk disk.old disk.new (Does ready.now.command) (told_draws (C.moments clock.old) (E.stream entropy.old)) (seen (place_of primary.old) s) }
+    ensures decided { (s : State) → HasState primary.old s → IfOk result (λ printed. Decides (Does ready.now.command)
+        (told_draws (C.moments clock.old) (E.stream entropy.old)) (seen (place_of primary.old) s)
+        (Some printed.reply) primary.new (told_draws (C.moments clock.new) (E.stream entropy.new))) }
+    ensures safe { (s : State) → HasState primary.old s → IsLineSafe D.Disk disk.old disk.new (Does ready.now.command)
+        (told_draws (C.moments clock.old) (E.stream entropy.old)) (seen (place_of primary.old) s) }
     ensures text { IfOk result (λ printed. printed.text ≡ reply_text printed.reply) }
     ensures on { D.tells → OnOk result (IsOnDisk primary.new.kept (D.view disk.new)) }
     ensures whole { OnOk result (primary.new.kept.broken ≡ false) }
     ensures realm { OnOk result (primary.new.kept.realm ≡ primary.old.kept.realm) }
-    ensures memory { result ≡ Err SessionHalt.MemoryOut → (disk.new ≡ disk.old) × (place_of primary.new ≡ place_of primary.old) }
+    ensures memory { result ≡ Err SessionHalt.MemoryOut
+        → (disk.new ≡ disk.old) × (place_of primary.new ≡ place_of primary.old) }
     ensures drawn { result ≡ Err SessionHalt.DrawFault → (disk.new ≡ disk.old) × (primary.new ≡ primary.old) }
     ensures halt { IfErr result IsPerformHalt }
     ensures call { IsCall D.Disk disk.old disk.new (result ≡ Err SessionHalt.DiskFault) }
@@ -275,13 +296,17 @@ pub(crate) fn perform<D: Disk, C: Clock, E: Entropy>(
     requires command { IsLineCommand primary.old.kept.realm command.now }
     requires on { D.tells → IsOnDisk primary.old.kept (D.view disk.old) }
     requires whole { primary.old.kept.broken ≡ false }
-    ensures decided { (s : State) → HasState primary.old s → IfOk result (λ printed. Decides (Does command.now) (told_draws (C.moments clock.old) (E.stream entropy.old)) (seen (place_of primary.old) s) (Some printed.reply) primary.new (told_draws (C.moments clock.new) (E.stream entropy.new))) }
-    ensures safe { (s : State) → HasState primary.old s → IsLineSafe D.Disk disk.old disk.new (Does command.now) (told_draws (C.moments clock.old) (E.stream entropy.old)) (seen (place_of primary.old) s) }
+    ensures decided { (s : State) → HasState primary.old s → IfOk result (λ printed. Decides (Does command.now)
+        (told_draws (C.moments clock.old) (E.stream entropy.old)) (seen (place_of primary.old) s)
+        (Some printed.reply) primary.new (told_draws (C.moments clock.new) (E.stream entropy.new))) }
+    ensures safe { (s : State) → HasState primary.old s → IsLineSafe D.Disk disk.old disk.new (Does command.now)
+        (told_draws (C.moments clock.old) (E.stream entropy.old)) (seen (place_of primary.old) s) }
     ensures text { IfOk result (λ printed. printed.text ≡ reply_text printed.reply) }
     ensures on { D.tells → OnOk result (IsOnDisk primary.new.kept (D.view disk.new)) }
     ensures whole { OnOk result (primary.new.kept.broken ≡ false) }
     ensures realm { OnOk result (primary.new.kept.realm ≡ primary.old.kept.realm) }
-    ensures memory { result ≡ Err SessionHalt.MemoryOut → (disk.new ≡ disk.old) × (place_of primary.new ≡ place_of primary.old) }
+    ensures memory { result ≡ Err SessionHalt.MemoryOut
+        → (disk.new ≡ disk.old) × (place_of primary.new ≡ place_of primary.old) }
     ensures drawn { result ≡ Err SessionHalt.DrawFault → (disk.new ≡ disk.old) × (primary.new ≡ primary.old) }
     ensures halt { IfErr result IsPerformHalt }
     ensures call { IsCall D.Disk disk.old disk.new (result ≡ Err SessionHalt.DiskFault) }

@@ -36,7 +36,8 @@ pub(crate) fn take_draws<C: Clock, E: Entropy>(
     clock: &mut C,
     entropy: &mut E,
 ) -> Result<(), SessionHalt>
-    ensures taken { OnOk result (told_draws (C.moments clock.new) (E.stream entropy.new) ≡ option_map behind_command (told_draws (C.moments clock.old) (E.stream entropy.old))) }
+    ensures taken { OnOk result (told_draws (C.moments clock.new) (E.stream entropy.new)
+        ≡ option_map behind_command (told_draws (C.moments clock.old) (E.stream entropy.old))) }
     ensures halt { IfErr result (λ halt. (halt ≡ SessionHalt.MemoryOut) ⊎ (halt ≡ SessionHalt.DrawFault)) }
     ensures faults { Counts (E.faults entropy.old) (E.faults entropy.new) (result ≡ Err SessionHalt.DrawFault) }
 {
@@ -74,7 +75,8 @@ pub(crate) fn write_dump<K: Sink>(
 ) -> Result<(), AnswerStop>
     ensures ok { OnOk result (K.taken sink.new ≡ after_told (K.taken sink.old) (dump_answer (place_of primary.now))) }
     ensures err { OnErr result (SaidPart (dump_answer (place_of primary.now)) (K.taken sink.old) (K.taken sink.new)) }
-    ensures memory { result ≡ Err AnswerStop.MemoryOut → SaidPart (dump_lines (place_of primary.now)) (K.taken sink.old) (K.taken sink.new) }
+    ensures memory { result ≡ Err AnswerStop.MemoryOut
+        → SaidPart (dump_lines (place_of primary.now)) (K.taken sink.old) (K.taken sink.new) }
     ensures faults { Counts (K.faults sink.old) (K.faults sink.new) (result ≡ Err AnswerStop.WriteFault) }
 {
     match write_lines(alloc, primary, sink) {

@@ -4,7 +4,8 @@ ghost use Rattle.std.specs.Prelude.{◌≡◌, ◌≢◌, ◌<◌, List, ℕ, Op
 ghost use Rattle.kadm_commands.specs.Commands.{IsCommand};
 ghost use Rattle.kadm_lines.specs.Reader.{work_left};
 ghost use Rattle.session_base.specs.Halts.{Counts, IsReadHalt};
-ghost use Rattle.kadm_session.specs.Input.{asked_else, asked_for, asked_in, is_event, line_bytes, without_return, IsAsked};
+ghost use Rattle.kadm_session.specs.Input.{asked_else, asked_for, asked_in, is_event};
+ghost use Rattle.kadm_session.specs.Input.{line_bytes, without_return, IsAsked};
 ghost use Rattle.kadm_session.specs.Intake.{coming, Comes, IsValid, HasTaken};
 
 use kadm_commands::Command;
@@ -134,10 +135,12 @@ pub fn next_command<S: Source>(
     source: &mut S,
     realm: &[u8],
 ) -> Result<Next, SessionHalt>
-    ensures next { IfOk result (λ next. Comes next (coming realm.now reader.old (S.left source.old)) (coming realm.now reader.new (S.left source.new))) }
+    ensures next { IfOk result (λ next. Comes next (coming realm.now reader.old (S.left source.old))
+        (coming realm.now reader.new (S.left source.new))) }
     ensures valid { IfOk result (IsValid realm.now) }
     ensures end { result ≡ Ok Next.End → IsTrue reader.new.over }
-    ensures takes { (first : Option (List ℕ)) → HasTaken first reader.old (S.left source.old) → HasTaken first reader.new (S.left source.new) }
+    ensures takes { (first : Option (List ℕ)) → HasTaken first reader.old (S.left source.old)
+        → HasTaken first reader.new (S.left source.new) }
     ensures too_long { result ≡ Err SessionHalt.InputTooLong → reader.new.taken ≡ 4294967296 }
     ensures falls { IfOk result (λ next. next ≢ Next.End → work_left reader.new < work_left reader.old) }
     ensures halt { IfErr result IsReadHalt }

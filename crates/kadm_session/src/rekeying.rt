@@ -7,7 +7,8 @@ ghost use Rattle.kadm_session.specs.Deciding.{Decides, IsHalfway, IsLineSafe};
 ghost use Rattle.session_base.specs.Draws.{told_draws};
 ghost use Rattle.session_base.specs.Halts.{Counts, IsPerformHalt};
 ghost use Rattle.kadm_session.specs.Rekeying.{counted, rekey_ask};
-ghost use Rattle.kadm_session.specs.RekeyedNames.{IsMoved, IsMovedBy, IsMoveSafe, IsRekeyed, IsRekeyedPart, IsRekeyedSafe, sum_of};
+ghost use Rattle.kadm_session.specs.RekeyedNames.{IsMoved, IsMovedBy, IsMoveSafe, IsRekeyed};
+ghost use Rattle.kadm_session.specs.RekeyedNames.{IsRekeyedPart, IsRekeyedSafe, sum_of};
 ghost use Rattle.kadm_session.specs.declared.intake.Asked.TheVariants.{Rekeys};
 ghost use Rattle.kdb_disk.specs.Frames.{IsCall, IsCrashSafe};
 ghost use Rattle.kdb_histories.specs.Calls.{Perform};
@@ -76,8 +77,10 @@ fn rekey_with<D: Disk>(
     requires few { sum_of totals < 4294967295 }
     requires on { D.tells → IsOnDisk primary.old.kept (D.view disk.old) }
     requires whole { primary.old.kept.broken ≡ false }
-    ensures done { (s : State) → HasState primary.old s → IfOk result (λ done. IsMoved (rekey_ask now random.now name.now) totals (seen (place_of primary.old) s) done primary.new) }
-    ensures crash { (s : State) → HasState primary.old s → IsCrashSafe D.Disk disk.old disk.new (MayLeave (place_of primary.old) s (Perform (rekey_ask now random.now name.now))) }
+    ensures done { (s : State) → HasState primary.old s → IfOk result
+        (λ done. IsMoved (rekey_ask now random.now name.now) totals (seen (place_of primary.old) s) done primary.new) }
+    ensures crash { (s : State) → HasState primary.old s → IsCrashSafe D.Disk disk.old disk.new
+        (MayLeave (place_of primary.old) s (Perform (rekey_ask now random.now name.now))) }
     ensures few { IfOk result (λ done. IfOk done (λ more. sum_of more ≤ sum_of totals + 1)) }
     ensures on { D.tells → OnOk result (IsOnDisk primary.new.kept (D.view disk.new)) }
     ensures whole { OnOk result (primary.new.kept.broken ≡ false) }
@@ -115,8 +118,11 @@ fn rekey_one<D: Disk, E: Entropy>(
     requires few { sum_of totals < 4294967295 }
     requires on { D.tells → IsOnDisk primary.old.kept (D.view disk.old) }
     requires whole { primary.old.kept.broken ≡ false }
-    ensures done { (s : State) → HasState primary.old s → IfOk result (λ done. IsMovedBy D.Disk disk.old disk.new name.now now (E.stream entropy.old) totals (seen (place_of primary.old) s) done primary.new (E.stream entropy.new)) }
-    ensures safe { (s : State) → HasState primary.old s → IsMoveSafe D.Disk disk.old disk.new name.now now (E.stream entropy.old) (seen (place_of primary.old) s) }
+    ensures done { (s : State) → HasState primary.old s
+        → IfOk result (λ done. IsMovedBy D.Disk disk.old disk.new name.now now (E.stream entropy.old) totals
+        (seen (place_of primary.old) s) done primary.new (E.stream entropy.new)) }
+    ensures safe { (s : State) → HasState primary.old s
+        → IsMoveSafe D.Disk disk.old disk.new name.now now (E.stream entropy.old) (seen (place_of primary.old) s) }
     ensures few { IfOk result (λ done. IfOk done (λ more. sum_of more ≤ sum_of totals + 1)) }
     ensures on { D.tells → OnOk result (IsOnDisk primary.new.kept (D.view disk.new)) }
     ensures whole { OnOk result (primary.new.kept.broken ≡ false) }
@@ -161,13 +167,17 @@ fn rekey_all<D: Disk, E: Entropy>(
     requires few { length names.now < 4294967295 }
     requires on { D.tells → IsOnDisk primary.old.kept (D.view disk.old) }
     requires whole { primary.old.kept.broken ≡ false }
-    ensures done { (s : State) → HasState primary.old s → IfOk result (λ reply. IsRekeyed names.now now (E.stream entropy.old) (seen (place_of primary.old) s) reply primary.new (E.stream entropy.new)) }
-    ensures safe { (s : State) → HasState primary.old s → IsRekeyedSafe D.Disk disk.old disk.new names.now now (E.stream entropy.old) (seen (place_of primary.old) s) }
+    ensures done { (s : State) → HasState primary.old s → IfOk result (λ reply. IsRekeyed names.now now
+        (E.stream entropy.old) (seen (place_of primary.old) s) reply primary.new (E.stream entropy.new)) }
+    ensures safe { (s : State) → HasState primary.old s
+        → IsRekeyedSafe D.Disk disk.old disk.new names.now now (E.stream entropy.old) (seen (place_of primary.old) s) }
     ensures on { D.tells → OnOk result (IsOnDisk primary.new.kept (D.view disk.new)) }
     ensures whole { OnOk result (primary.new.kept.broken ≡ false) }
     ensures realm { OnOk result (primary.new.kept.realm ≡ primary.old.kept.realm) }
-    ensures memory { (s : State) → HasState primary.old s → result ≡ Err SessionHalt.MemoryOut → IsRekeyedPart D.Disk disk.new names.now now (E.stream entropy.old) (seen (place_of primary.old) s) }
-    ensures drawn { (s : State) → HasState primary.old s → result ≡ Err SessionHalt.DrawFault → IsRekeyedPart D.Disk disk.new names.now now (E.stream entropy.old) (seen (place_of primary.old) s) }
+    ensures memory { (s : State) → HasState primary.old s → result ≡ Err SessionHalt.MemoryOut
+        → IsRekeyedPart D.Disk disk.new names.now now (E.stream entropy.old) (seen (place_of primary.old) s) }
+    ensures drawn { (s : State) → HasState primary.old s → result ≡ Err SessionHalt.DrawFault
+        → IsRekeyedPart D.Disk disk.new names.now now (E.stream entropy.old) (seen (place_of primary.old) s) }
     ensures halt { IfErr result IsPerformHalt }
     ensures call { IsCall D.Disk disk.old disk.new (result ≡ Err SessionHalt.DiskFault) }
     ensures faults { Counts (E.faults entropy.old) (E.faults entropy.new) (result ≡ Err SessionHalt.DrawFault) }
@@ -203,7 +213,8 @@ fn rekey_all<D: Disk, E: Entropy>(
 // The names of the principals that a glob matches, as a rekeying goes through them.
 fn names_of(alloc: Global, primary: &Primary, glob: &Option<Blob>) -> Result<NameList, MemoryOut>
     requires whole { primary.now.kept.broken ≡ false }
-    ensures names { (s : State) → HasState primary.now s → IfOk result (λ names. names ≡ names_told glob.now (princ_names s.princs)) }
+    ensures names { (s : State) → HasState primary.now s
+        → IfOk result (λ names. names ≡ names_told glob.now (princ_names s.princs)) }
     ensures printed { IfOk result (All IsPrinted) }
     ensures others { IfOk result (λ names. All (λ name. is_master name ≡ false) names) }
     ensures few { IfOk result (λ names. length names < 4294967295) }
@@ -230,7 +241,8 @@ struct Rekeying {
 // What a rekeying of the principals that a glob matches goes by.
 fn rekeying_of(alloc: Global, primary: &Primary, glob: &Option<Blob>) -> Result<Rekeying, MemoryOut>
     requires whole { primary.now.kept.broken ≡ false }
-    ensures names { (s : State) → HasState primary.now s → IfOk result (λ begun. begun.names ≡ names_told glob.now (princ_names s.princs)) }
+    ensures names { (s : State) → HasState primary.now s
+        → IfOk result (λ begun. begun.names ≡ names_told glob.now (princ_names s.princs)) }
     ensures printed { IfOk result (λ begun. All IsPrinted begun.names) }
     ensures others { IfOk result (λ begun. All (λ name. is_master name ≡ false) begun.names) }
     ensures few { IfOk result (λ begun. length begun.names < 4294967295) }
@@ -252,13 +264,20 @@ fn rekey_matching<D: Disk, C: Clock, E: Entropy>(
 ) -> Result<Reply, SessionHalt>
     requires on { D.tells → IsOnDisk primary.old.kept (D.view disk.old) }
     requires whole { primary.old.kept.broken ≡ false }
-    ensures decided { (s : State) → HasState primary.old s → IfOk result (λ reply. Decides (Rekeys glob.now) (told_draws (C.moments clock.old) (E.stream entropy.old)) (seen (place_of primary.old) s) (Some reply) primary.new (told_draws (C.moments clock.new) (E.stream entropy.new))) }
-    ensures safe { (s : State) → HasState primary.old s → IsLineSafe D.Disk disk.old disk.new (Rekeys glob.now) (told_draws (C.moments clock.old) (E.stream entropy.old)) (seen (place_of primary.old) s) }
+    ensures decided { (s : State) → HasState primary.old s → IfOk result (λ reply. Decides (Rekeys glob.now)
+        (told_draws (C.moments clock.old) (E.stream entropy.old)) (seen (place_of primary.old) s)
+        (Some reply) primary.new (told_draws (C.moments clock.new) (E.stream entropy.new))) }
+    ensures safe { (s : State) → HasState primary.old s → IsLineSafe D.Disk disk.old disk.new (Rekeys glob.now)
+        (told_draws (C.moments clock.old) (E.stream entropy.old)) (seen (place_of primary.old) s) }
     ensures on { D.tells → OnOk result (IsOnDisk primary.new.kept (D.view disk.new)) }
     ensures whole { OnOk result (primary.new.kept.broken ≡ false) }
     ensures realm { OnOk result (primary.new.kept.realm ≡ primary.old.kept.realm) }
-    ensures memory { (s : State) → HasState primary.old s → result ≡ Err SessionHalt.MemoryOut → IsHalfway D.Disk disk.new (Rekeys glob.now) (told_draws (C.moments clock.old) (E.stream entropy.old)) (seen (place_of primary.old) s) }
-    ensures drawn { (s : State) → HasState primary.old s → result ≡ Err SessionHalt.DrawFault → IsHalfway D.Disk disk.new (Rekeys glob.now) (told_draws (C.moments clock.old) (E.stream entropy.old)) (seen (place_of primary.old) s) }
+    ensures memory { (s : State) → HasState primary.old s → result ≡ Err SessionHalt.MemoryOut
+        → IsHalfway D.Disk disk.new (Rekeys glob.now) (told_draws (C.moments clock.old) (E.stream entropy.old))
+        (seen (place_of primary.old) s) }
+    ensures drawn { (s : State) → HasState primary.old s → result ≡ Err SessionHalt.DrawFault
+        → IsHalfway D.Disk disk.new (Rekeys glob.now) (told_draws (C.moments clock.old) (E.stream entropy.old))
+        (seen (place_of primary.old) s) }
     ensures halt { IfErr result IsPerformHalt }
     ensures call { IsCall D.Disk disk.old disk.new (result ≡ Err SessionHalt.DiskFault) }
     ensures faults { Counts (E.faults entropy.old) (E.faults entropy.new) (result ≡ Err SessionHalt.DrawFault) }
@@ -294,14 +313,21 @@ pub(crate) fn rekey<D: Disk, C: Clock, E: Entropy>(
 ) -> Result<Printed, SessionHalt>
     requires on { D.tells → IsOnDisk primary.old.kept (D.view disk.old) }
     requires whole { primary.old.kept.broken ≡ false }
-    ensures decided { (s : State) → HasState primary.old s → IfOk result (λ printed. Decides (Rekeys glob.now) (told_draws (C.moments clock.old) (E.stream entropy.old)) (seen (place_of primary.old) s) (Some printed.reply) primary.new (told_draws (C.moments clock.new) (E.stream entropy.new))) }
-    ensures safe { (s : State) → HasState primary.old s → IsLineSafe D.Disk disk.old disk.new (Rekeys glob.now) (told_draws (C.moments clock.old) (E.stream entropy.old)) (seen (place_of primary.old) s) }
+    ensures decided { (s : State) → HasState primary.old s → IfOk result (λ printed. Decides (Rekeys glob.now)
+        (told_draws (C.moments clock.old) (E.stream entropy.old)) (seen (place_of primary.old) s)
+        (Some printed.reply) primary.new (told_draws (C.moments clock.new) (E.stream entropy.new))) }
+    ensures safe { (s : State) → HasState primary.old s → IsLineSafe D.Disk disk.old disk.new (Rekeys glob.now)
+        (told_draws (C.moments clock.old) (E.stream entropy.old)) (seen (place_of primary.old) s) }
     ensures text { IfOk result (λ printed. printed.text ≡ reply_text printed.reply) }
     ensures on { D.tells → OnOk result (IsOnDisk primary.new.kept (D.view disk.new)) }
     ensures whole { OnOk result (primary.new.kept.broken ≡ false) }
     ensures realm { OnOk result (primary.new.kept.realm ≡ primary.old.kept.realm) }
-    ensures memory { (s : State) → HasState primary.old s → result ≡ Err SessionHalt.MemoryOut → IsHalfway D.Disk disk.new (Rekeys glob.now) (told_draws (C.moments clock.old) (E.stream entropy.old)) (seen (place_of primary.old) s) }
-    ensures drawn { (s : State) → HasState primary.old s → result ≡ Err SessionHalt.DrawFault → IsHalfway D.Disk disk.new (Rekeys glob.now) (told_draws (C.moments clock.old) (E.stream entropy.old)) (seen (place_of primary.old) s) }
+    ensures memory { (s : State) → HasState primary.old s → result ≡ Err SessionHalt.MemoryOut
+        → IsHalfway D.Disk disk.new (Rekeys glob.now) (told_draws (C.moments clock.old) (E.stream entropy.old))
+        (seen (place_of primary.old) s) }
+    ensures drawn { (s : State) → HasState primary.old s → result ≡ Err SessionHalt.DrawFault
+        → IsHalfway D.Disk disk.new (Rekeys glob.now) (told_draws (C.moments clock.old) (E.stream entropy.old))
+        (seen (place_of primary.old) s) }
     ensures halt { IfErr result IsPerformHalt }
     ensures call { IsCall D.Disk disk.old disk.new (result ≡ Err SessionHalt.DiskFault) }
     ensures faults { Counts (E.faults entropy.old) (E.faults entropy.new) (result ≡ Err SessionHalt.DrawFault) }

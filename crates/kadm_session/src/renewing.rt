@@ -38,13 +38,16 @@ fn reset<D: Disk>(
     requires on { D.tells → IsOnDisk primary.old.kept (D.view disk.old) }
     requires whole { primary.old.kept.broken ≡ false }
     ensures same { IfOk result (λ given. given ≡ printed) }
-    ensures stands { (s : State) → HasState primary.old s → OnOk result (StandsAt primary.new (renewed now (seen (place_of primary.old) s))) }
-    ensures crash { (s : State) → HasState primary.old s → IsCrashSafe D.Disk disk.old disk.new (MayLeave (place_of primary.old) s (ResetLog now)) }
+    ensures stands { (s : State) → HasState primary.old s
+        → OnOk result (StandsAt primary.new (renewed now (seen (place_of primary.old) s))) }
+    ensures crash { (s : State) → HasState primary.old s
+        → IsCrashSafe D.Disk disk.old disk.new (MayLeave (place_of primary.old) s (ResetLog now)) }
     ensures time { OnOk result (HasTimeLeft (place_of primary.old)) }
     ensures on { D.tells → OnOk result (IsOnDisk primary.new.kept (D.view disk.new)) }
     ensures whole { OnOk result (primary.new.kept.broken ≡ false) }
     ensures realm { OnOk result (primary.new.kept.realm ≡ primary.old.kept.realm) }
-    ensures memory { result ≡ Err SessionHalt.MemoryOut → (disk.new ≡ disk.old) × (place_of primary.new ≡ place_of primary.old) }
+    ensures memory { result ≡ Err SessionHalt.MemoryOut
+        → (disk.new ≡ disk.old) × (place_of primary.new ≡ place_of primary.old) }
     ensures halt { IfErr result IsPerformHalt }
     ensures not_drawn { IfErr result (λ halt. halt ≢ SessionHalt.DrawFault) }
     ensures call { IsCall D.Disk disk.old disk.new (result ≡ Err SessionHalt.DiskFault) }
@@ -72,13 +75,16 @@ fn renew_at<D: Disk>(
     requires whole { primary.old.kept.broken ≡ false }
     ensures reply { IfOk result (λ printed. printed.reply ≡ Reply.Done (reset_point now (place_of primary.old))) }
     ensures text { IfOk result (λ printed. printed.text ≡ reply_text printed.reply) }
-    ensures stands { (s : State) → HasState primary.old s → OnOk result (StandsAt primary.new (renewed now (seen (place_of primary.old) s))) }
-    ensures crash { (s : State) → HasState primary.old s → IsCrashSafe D.Disk disk.old disk.new (MayLeave (place_of primary.old) s (ResetLog now)) }
+    ensures stands { (s : State) → HasState primary.old s
+        → OnOk result (StandsAt primary.new (renewed now (seen (place_of primary.old) s))) }
+    ensures crash { (s : State) → HasState primary.old s
+        → IsCrashSafe D.Disk disk.old disk.new (MayLeave (place_of primary.old) s (ResetLog now)) }
     ensures time { OnOk result (HasTimeLeft (place_of primary.old)) }
     ensures on { D.tells → OnOk result (IsOnDisk primary.new.kept (D.view disk.new)) }
     ensures whole { OnOk result (primary.new.kept.broken ≡ false) }
     ensures realm { OnOk result (primary.new.kept.realm ≡ primary.old.kept.realm) }
-    ensures memory { result ≡ Err SessionHalt.MemoryOut → (disk.new ≡ disk.old) × (place_of primary.new ≡ place_of primary.old) }
+    ensures memory { result ≡ Err SessionHalt.MemoryOut
+        → (disk.new ≡ disk.old) × (place_of primary.new ≡ place_of primary.old) }
     ensures halt { IfErr result IsPerformHalt }
     ensures not_drawn { IfErr result (λ halt. halt ≢ SessionHalt.DrawFault) }
     ensures call { IsCall D.Disk disk.old disk.new (result ≡ Err SessionHalt.DiskFault) }
@@ -101,13 +107,17 @@ pub(crate) fn renew<D: Disk, C: Clock>(
     requires on { D.tells → IsOnDisk primary.old.kept (D.view disk.old) }
     requires whole { primary.old.kept.broken ≡ false }
     // Whatever the source of random bytes tells, it tells the same behind it.
-    ensures decided { (stream : Option (ℕ → ℕ)) (s : State) → HasState primary.old s → IfOk result (λ printed. Decides ResetsLog (told_draws (C.moments clock.old) stream) (seen (place_of primary.old) s) (Some printed.reply) primary.new (told_draws (C.moments clock.new) stream)) }
-    ensures safe { (stream : Option (ℕ → ℕ)) (s : State) → HasState primary.old s → IsLineSafe D.Disk disk.old disk.new ResetsLog (told_draws (C.moments clock.old) stream) (seen (place_of primary.old) s) }
+    ensures decided { (stream : Option (ℕ → ℕ)) (s : State)
+        → HasState primary.old s → IfOk result (λ printed. Decides ResetsLog (told_draws (C.moments clock.old) stream)
+        (seen (place_of primary.old) s) (Some printed.reply) primary.new (told_draws (C.moments clock.new) stream)) }
+    ensures safe { (stream : Option (ℕ → ℕ)) (s : State) → HasState primary.old s → IsLineSafe D.Disk disk.old disk.new
+        ResetsLog (told_draws (C.moments clock.old) stream) (seen (place_of primary.old) s) }
     ensures text { IfOk result (λ printed. printed.text ≡ reply_text printed.reply) }
     ensures on { D.tells → OnOk result (IsOnDisk primary.new.kept (D.view disk.new)) }
     ensures whole { OnOk result (primary.new.kept.broken ≡ false) }
     ensures realm { OnOk result (primary.new.kept.realm ≡ primary.old.kept.realm) }
-    ensures memory { result ≡ Err SessionHalt.MemoryOut → (disk.new ≡ disk.old) × (place_of primary.new ≡ place_of primary.old) }
+    ensures memory { result ≡ Err SessionHalt.MemoryOut
+        → (disk.new ≡ disk.old) × (place_of primary.new ≡ place_of primary.old) }
     ensures halt { IfErr result IsPerformHalt }
     ensures not_drawn { IfErr result (λ halt. halt ≢ SessionHalt.DrawFault) }
     ensures call { IsCall D.Disk disk.old disk.new (result ≡ Err SessionHalt.DiskFault) }

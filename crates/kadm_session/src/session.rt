@@ -1,8 +1,10 @@
 //! A session: the lines of an input, one after another.
 
-ghost use Rattle.std.specs.Prelude.{◌≡◌, ◌≢◌, ◌<◌, ◌∷◌, ◌||◌, IsTrue, Bool, false, List, [], ℕ, Option, Some, None, Ok, Err, IfErr, IfOk, OnOk, OnErr};
+ghost use Rattle.std.specs.Prelude.{◌≡◌, ◌≢◌, ◌<◌, ◌∷◌, ◌||◌, IsTrue, Bool, false, List, []};
+ghost use Rattle.std.specs.Prelude.{ℕ, Option, Some, None, Ok, Err, IfErr, IfOk, OnOk, OnErr};
 ghost use Rattle.kadm_lines.specs.Reader.{work_left};
-ghost use Rattle.kadm_session.specs.Courses.{Ending, EndsAs, GoesOnFrom, IsAtRest, IsBetweenLines, IsDoneWhole, Leaves, Stops, course, ending, lines_begun, nothing_begun};
+ghost use Rattle.kadm_session.specs.Courses.{Ending, EndsAs, GoesOnFrom, IsAtRest, IsBetweenLines, IsDoneWhole};
+ghost use Rattle.kadm_session.specs.Courses.{Leaves, Stops, course, ending, lines_begun, nothing_begun};
 ghost use Rattle.session_base.specs.Stages.{IsStopped};
 ghost use Rattle.kadm_session.specs.Deciding.{Decides, IsHalfway, IsLineSafe};
 ghost use Rattle.session_base.specs.Draws.{told_draws};
@@ -56,9 +58,9 @@ fn is_refusal(printed: &Option<Printed>) -> bool
 }
 
 // Does what is asked for, and gives the printed reply; none, where a line is skipped, and for a dump, which is written
-// without one. The clock is read, and random bytes are drawn, where a line gives a command; for a log that is begun anew on
-// request the clock alone is read. Where memory is wanted and not there, or no random bytes are given, nothing was done, but
-// that of many that are rekeyed some may be.
+// without one. The clock is read, and random bytes are drawn, where a line gives a command; for a log that is begun
+// anew on request the clock alone is read. Where memory is wanted and not there, or no random bytes are given, nothing
+// was done, but that of many that are rekeyed some may be.
 fn decide<D: Disk, C: Clock, E: Entropy>(
     alloc: Global,
     primary: &mut Primary,
@@ -70,14 +72,19 @@ fn decide<D: Disk, C: Clock, E: Entropy>(
     requires asked { IsAsked primary.old.kept.realm asked.now }
     requires on { D.tells → IsOnDisk primary.old.kept (D.view disk.old) }
     requires whole { primary.old.kept.broken ≡ false }
-    ensures decided { (s : State) → HasState primary.old s → IfOk result (λ printed. Decides asked.now (told_draws (C.moments clock.old) (E.stream entropy.old)) (seen (place_of primary.old) s) (reply_in printed) primary.new (told_draws (C.moments clock.new) (E.stream entropy.new))) }
-    ensures safe { (s : State) → HasState primary.old s → IsLineSafe D.Disk disk.old disk.new asked.now (told_draws (C.moments clock.old) (E.stream entropy.old)) (seen (place_of primary.old) s) }
+    ensures decided { (s : State) → HasState primary.old s → IfOk result (λ printed.
+        Decides asked.now (told_draws (C.moments clock.old) (E.stream entropy.old)) (seen (place_of primary.old) s)
+        (reply_in printed) primary.new (told_draws (C.moments clock.new) (E.stream entropy.new))) }
+    ensures safe { (s : State) → HasState primary.old s → IsLineSafe D.Disk disk.old disk.new asked.now
+        (told_draws (C.moments clock.old) (E.stream entropy.old)) (seen (place_of primary.old) s) }
     ensures text { IfOk result (λ printed. text_in printed ≡ text_of (reply_in printed)) }
     ensures on { D.tells → OnOk result (IsOnDisk primary.new.kept (D.view disk.new)) }
     ensures whole { OnOk result (primary.new.kept.broken ≡ false) }
     ensures realm { OnOk result (primary.new.kept.realm ≡ primary.old.kept.realm) }
-    ensures memory { (s : State) → HasState primary.old s → result ≡ Err SessionHalt.MemoryOut → IsHalfway D.Disk disk.new asked.now (told_draws (C.moments clock.old) (E.stream entropy.old)) (seen (place_of primary.old) s) }
-    ensures drawn { (s : State) → HasState primary.old s → result ≡ Err SessionHalt.DrawFault → IsHalfway D.Disk disk.new asked.now (told_draws (C.moments clock.old) (E.stream entropy.old)) (seen (place_of primary.old) s) }
+    ensures memory { (s : State) → HasState primary.old s → result ≡ Err SessionHalt.MemoryOut → IsHalfway D.Disk
+        disk.new asked.now (told_draws (C.moments clock.old) (E.stream entropy.old)) (seen (place_of primary.old) s) }
+    ensures drawn { (s : State) → HasState primary.old s → result ≡ Err SessionHalt.DrawFault → IsHalfway D.Disk
+        disk.new asked.now (told_draws (C.moments clock.old) (E.stream entropy.old)) (seen (place_of primary.old) s) }
     ensures halt { IfErr result IsPerformHalt }
     ensures call { IsCall D.Disk disk.old disk.new (result ≡ Err SessionHalt.DiskFault) }
     ensures faults { Counts (E.faults entropy.old) (E.faults entropy.new) (result ≡ Err SessionHalt.DrawFault) }
@@ -118,9 +125,12 @@ fn write_answer<K: Sink>(
     printed: &Option<Printed>,
 ) -> Result<(), AnswerStop>
     requires text { text_in printed.now ≡ text_of (reply_in printed.now) }
-    ensures ok { OnOk result (K.taken sink.new ≡ after_told (K.taken sink.old) (line_text asked.now (place_of primary.now) (reply_in printed.now))) }
-    ensures err { OnErr result (SaidPart (line_text asked.now (place_of primary.now) (reply_in printed.now)) (K.taken sink.old) (K.taken sink.new)) }
-    ensures memory { result ≡ Err AnswerStop.MemoryOut → (asked.now ≡ WritesDump) × SaidPart (dump_lines (place_of primary.now)) (K.taken sink.old) (K.taken sink.new) }
+    ensures ok { OnOk result (K.taken sink.new
+        ≡ after_told (K.taken sink.old) (line_text asked.now (place_of primary.now) (reply_in printed.now))) }
+    ensures err { OnErr result (SaidPart (line_text asked.now (place_of primary.now) (reply_in printed.now))
+        (K.taken sink.old) (K.taken sink.new)) }
+    ensures memory { result ≡ Err AnswerStop.MemoryOut → (asked.now ≡ WritesDump)
+        × SaidPart (dump_lines (place_of primary.now)) (K.taken sink.old) (K.taken sink.new) }
     ensures faults { Counts (K.faults sink.old) (K.faults sink.new) (result ≡ Err AnswerStop.WriteFault) }
 {
     if is_dump(asked) {
@@ -147,21 +157,35 @@ fn answer<K: Sink, D: Disk, C: Clock, E: Entropy>(
     requires asked { IsAsked primary.old.kept.realm asked.now }
     requires on { D.tells → IsOnDisk primary.old.kept (D.view disk.old) }
     requires whole { primary.old.kept.broken ≡ false }
-    ensures next { (s : State) (refused : Bool) (more : List Asks) → HasState primary.old s → IfOk result (λ now_refused.
-        GoesOnFrom (course (K.taken sink.old) refused (Some (asked.now ∷ more)) (told_draws (C.moments clock.old) (E.stream entropy.old)) (seen (place_of primary.old) s))
-        primary.new (K.taken sink.new) (refused || now_refused) (Some more) (told_draws (C.moments clock.new) (E.stream entropy.new))) }
+    ensures next { (s : State) (refused : Bool) (more : List Asks) → HasState primary.old s
+        → IfOk result (λ now_refused.
+        GoesOnFrom (course (K.taken sink.old) refused (Some (asked.now ∷ more))
+        (told_draws (C.moments clock.old) (E.stream entropy.old)) (seen (place_of primary.old) s))
+        primary.new (K.taken sink.new) (refused || now_refused) (Some more)
+        (told_draws (C.moments clock.new) (E.stream entropy.new))) }
     ensures stopped { D.tells → (s : State) (refused : Bool) (more : List Asks) → HasState primary.old s → OnErr result
-        (IsStopped (Stops (course (K.taken sink.old) refused (Some (asked.now ∷ more)) (told_draws (C.moments clock.old) (E.stream entropy.old)) (seen (place_of primary.old) s))) (K.taken sink.new) (D.view disk.new)) }
-    ensures moments { D.tells → (s : State) (refused : Bool) (more : List Asks) → HasState primary.old s → LeavesOnly (D.view disk.old) (D.view disk.new)
-        (Leaves (course (K.taken sink.old) refused (Some (asked.now ∷ more)) (told_draws (C.moments clock.old) (E.stream entropy.old)) (seen (place_of primary.old) s))) }
+        (IsStopped (Stops (course (K.taken sink.old) refused (Some (asked.now ∷ more))
+        (told_draws (C.moments clock.old) (E.stream entropy.old)) (seen (place_of primary.old) s))) (K.taken sink.new)
+        (D.view disk.new)) }
+    ensures moments { D.tells → (s : State) (refused : Bool) (more : List Asks) → HasState primary.old s
+        → LeavesOnly (D.view disk.old) (D.view disk.new)
+        (Leaves (course (K.taken sink.old) refused (Some (asked.now ∷ more))
+        (told_draws (C.moments clock.old) (E.stream entropy.old)) (seen (place_of primary.old) s))) }
     ensures on { D.tells → OnOk result (IsOnDisk primary.new.kept (D.view disk.new)) }
     ensures whole { OnOk result (primary.new.kept.broken ≡ false) }
     ensures realm { OnOk result (primary.new.kept.realm ≡ primary.old.kept.realm) }
-    ensures memory { D.tells → (s : State) (refused : Bool) (more : List Asks) → HasState primary.old s → result ≡ Err SessionHalt.MemoryOut
-        → IsAtRest lines_begun (course (K.taken sink.old) refused (Some (asked.now ∷ more)) (told_draws (C.moments clock.old) (E.stream entropy.old)) (seen (place_of primary.old) s)) (K.taken sink.new) (D.view disk.new) }
-    ensures drawn { D.tells → (s : State) (refused : Bool) (more : List Asks) → HasState primary.old s → result ≡ Err SessionHalt.DrawFault
-        → IsAtRest nothing_begun (course (K.taken sink.old) refused (Some (asked.now ∷ more)) (told_draws (C.moments clock.old) (E.stream entropy.old)) (seen (place_of primary.old) s)) (K.taken sink.new) (D.view disk.new) }
-    ensures unsaid { asked.now ≢ WritesDump → IfErr result (λ halt. halt ≢ SessionHalt.WriteFault → sink.new ≡ sink.old) }
+    ensures memory { D.tells → (s : State) (refused : Bool) (more : List Asks) → HasState primary.old s
+        → result ≡ Err SessionHalt.MemoryOut
+        → IsAtRest lines_begun (course (K.taken sink.old) refused (Some (asked.now ∷ more))
+        (told_draws (C.moments clock.old) (E.stream entropy.old)) (seen (place_of primary.old) s)) (K.taken sink.new)
+        (D.view disk.new) }
+    ensures drawn { D.tells → (s : State) (refused : Bool) (more : List Asks) → HasState primary.old s
+        → result ≡ Err SessionHalt.DrawFault
+        → IsAtRest nothing_begun (course (K.taken sink.old) refused (Some (asked.now ∷ more))
+        (told_draws (C.moments clock.old) (E.stream entropy.old)) (seen (place_of primary.old) s)) (K.taken sink.new)
+        (D.view disk.new) }
+    ensures unsaid { asked.now ≢ WritesDump
+        → IfErr result (λ halt. halt ≢ SessionHalt.WriteFault → sink.new ≡ sink.old) }
     ensures halt { IfErr result IsAnswerHalt }
     ensures call { IsCall D.Disk disk.old disk.new (result ≡ Err SessionHalt.DiskFault) }
     ensures writes { Counts (K.faults sink.old) (K.faults sink.new) (result ≡ Err SessionHalt.WriteFault) }
@@ -194,25 +218,43 @@ fn turn<S: Source, K: Sink, D: Disk, C: Clock, E: Entropy>(
     requires on { D.tells → IsOnDisk primary.old.kept (D.view disk.old) }
     requires whole { primary.old.kept.broken ≡ false }
     ensures next { (s : State) (refused : Bool) → HasState primary.old s → IfOk result (λ turn. GoesOn turn
-        (λ now_refused. GoesOnFrom (course (K.taken sink.old) refused (coming primary.old.kept.realm reader.old (S.left source.old)) (told_draws (C.moments clock.old) (E.stream entropy.old)) (seen (place_of primary.old) s))
-        primary.new (K.taken sink.new) (refused || now_refused) (coming primary.new.kept.realm reader.new (S.left source.new)) (told_draws (C.moments clock.new) (E.stream entropy.new)))
+        (λ now_refused.
+        GoesOnFrom (course (K.taken sink.old) refused (coming primary.old.kept.realm reader.old (S.left source.old))
+        (told_draws (C.moments clock.old) (E.stream entropy.old)) (seen (place_of primary.old) s))
+        primary.new (K.taken sink.new) (refused || now_refused) (coming primary.new.kept.realm reader.new
+        (S.left source.new)) (told_draws (C.moments clock.new) (E.stream entropy.new)))
         (NoCommand (coming primary.old.kept.realm reader.old (S.left source.old)))) }
     ensures stopped { D.tells → (s : State) (refused : Bool) → HasState primary.old s → OnErr result
-        (IsStopped (Stops (course (K.taken sink.old) refused (coming primary.old.kept.realm reader.old (S.left source.old)) (told_draws (C.moments clock.old) (E.stream entropy.old)) (seen (place_of primary.old) s))) (K.taken sink.new) (D.view disk.new)) }
-    ensures moments { D.tells → (s : State) (refused : Bool) → HasState primary.old s → LeavesOnly (D.view disk.old) (D.view disk.new)
-        (Leaves (course (K.taken sink.old) refused (coming primary.old.kept.realm reader.old (S.left source.old)) (told_draws (C.moments clock.old) (E.stream entropy.old)) (seen (place_of primary.old) s))) }
+        (IsStopped (Stops (course (K.taken sink.old) refused (coming primary.old.kept.realm reader.old
+        (S.left source.old)) (told_draws (C.moments clock.old) (E.stream entropy.old)) (seen (place_of primary.old) s)))
+        (K.taken sink.new) (D.view disk.new)) }
+    ensures moments { D.tells → (s : State) (refused : Bool) → HasState primary.old s
+        → LeavesOnly (D.view disk.old) (D.view disk.new)
+        (Leaves (course (K.taken sink.old) refused (coming primary.old.kept.realm reader.old (S.left source.old))
+        (told_draws (C.moments clock.old) (E.stream entropy.old)) (seen (place_of primary.old) s))) }
     ensures on { D.tells → OnOk result (IsOnDisk primary.new.kept (D.view disk.new)) }
     ensures whole { OnOk result (primary.new.kept.broken ≡ false) }
-    ensures memory { D.tells → (s : State) (refused : Bool) → HasState primary.old s → result ≡ Err SessionHalt.MemoryOut
-        → IsAtRest lines_begun (course (K.taken sink.old) refused (coming primary.old.kept.realm reader.old (S.left source.old)) (told_draws (C.moments clock.old) (E.stream entropy.old)) (seen (place_of primary.old) s)) (K.taken sink.new) (D.view disk.new) }
+    ensures memory { D.tells → (s : State) (refused : Bool) → HasState primary.old s
+        → result ≡ Err SessionHalt.MemoryOut
+        → IsAtRest lines_begun (course (K.taken sink.old) refused (coming primary.old.kept.realm reader.old
+        (S.left source.old)) (told_draws (C.moments clock.old) (E.stream entropy.old)) (seen (place_of primary.old) s))
+        (K.taken sink.new) (D.view disk.new) }
     ensures drawn { D.tells → (s : State) (refused : Bool) → HasState primary.old s → result ≡ Err SessionHalt.DrawFault
-        → IsAtRest nothing_begun (course (K.taken sink.old) refused (coming primary.old.kept.realm reader.old (S.left source.old)) (told_draws (C.moments clock.old) (E.stream entropy.old)) (seen (place_of primary.old) s)) (K.taken sink.new) (D.view disk.new) }
-    ensures read { result ≡ Err SessionHalt.ReadFault → (sink.new ≡ sink.old) × (disk.new ≡ disk.old) × (primary.new ≡ primary.old) }
-    ensures at_limit { result ≡ Err SessionHalt.InputTooLong → (sink.new ≡ sink.old) × (disk.new ≡ disk.old) × (primary.new ≡ primary.old) }
-    ensures end { result ≡ Ok None → (K.taken sink.new ≡ K.taken sink.old) × (primary.new ≡ primary.old) × IsTrue reader.new.over }
-    ensures end_draws { result ≡ Ok None → told_draws (C.moments clock.new) (E.stream entropy.new) ≡ told_draws (C.moments clock.old) (E.stream entropy.old) }
+        → IsAtRest nothing_begun
+        (course (K.taken sink.old) refused (coming primary.old.kept.realm reader.old (S.left source.old))
+        (told_draws (C.moments clock.old) (E.stream entropy.old)) (seen (place_of primary.old) s)) (K.taken sink.new)
+        (D.view disk.new) }
+    ensures read { result ≡ Err SessionHalt.ReadFault
+        → (sink.new ≡ sink.old) × (disk.new ≡ disk.old) × (primary.new ≡ primary.old) }
+    ensures at_limit { result ≡ Err SessionHalt.InputTooLong
+        → (sink.new ≡ sink.old) × (disk.new ≡ disk.old) × (primary.new ≡ primary.old) }
+    ensures end { result ≡ Ok None
+        → (K.taken sink.new ≡ K.taken sink.old) × (primary.new ≡ primary.old) × IsTrue reader.new.over }
+    ensures end_draws { result ≡ Ok None → told_draws (C.moments clock.new) (E.stream entropy.new)
+        ≡ told_draws (C.moments clock.old) (E.stream entropy.old) }
     ensures falls { IfOk result (λ turn. turn ≢ None → work_left reader.new < work_left reader.old) }
-    ensures takes { (first : Option (List ℕ)) → HasTaken first reader.old (S.left source.old) → HasTaken first reader.new (S.left source.new) }
+    ensures takes { (first : Option (List ℕ)) → HasTaken first reader.old (S.left source.old)
+        → HasTaken first reader.new (S.left source.new) }
     ensures too_long { result ≡ Err SessionHalt.InputTooLong → reader.new.taken ≡ 4294967296 }
     ensures call { IsCall D.Disk disk.old disk.new (result ≡ Err SessionHalt.DiskFault) }
     ensures reads { Counts (S.faults source.old) (S.faults source.new) (result ≡ Err SessionHalt.ReadFault) }
@@ -255,38 +297,54 @@ pub fn serve<S: Source, K: Sink, D: Disk, C: Clock, E: Entropy>(
     // All is said for the state that the rows show with the master keys that were found. Where the input, the clock and
     // the random bytes are told, the replies, the place, the state and what is left of both are what is said.
     ensures ended { (s : State) (end : Ending) → HasState primary.old s
-        → ending (course (K.taken sink.old) false (coming primary.old.kept.realm reader.old (S.left source.old)) (told_draws (C.moments clock.old) (E.stream entropy.old)) (seen (place_of primary.old) s)) ≡ Some end
-        → IfOk result (λ refused. EndsAs (K.taken sink.new) refused primary.new (told_draws (C.moments clock.new) (E.stream entropy.new)) end) }
+        → ending (course (K.taken sink.old) false (coming primary.old.kept.realm reader.old (S.left source.old))
+        (told_draws (C.moments clock.old) (E.stream entropy.old)) (seen (place_of primary.old) s)) ≡ Some end
+        → IfOk result (λ refused.
+        EndsAs (K.taken sink.new) refused primary.new (told_draws (C.moments clock.new) (E.stream entropy.new)) end) }
     // What each line asks for was done as events of the primary's history.
     ensures done { (s : State) → HasState primary.old s → OnOk result
-        (IsDoneWhole (course (K.taken sink.old) false (coming primary.old.kept.realm reader.old (S.left source.old)) (told_draws (C.moments clock.old) (E.stream entropy.old)) (seen (place_of primary.old) s))) }
+        (IsDoneWhole (course (K.taken sink.old) false (coming primary.old.kept.realm reader.old (S.left source.old))
+        (told_draws (C.moments clock.old) (E.stream entropy.old)) (seen (place_of primary.old) s))) }
     ensures on { D.tells → OnOk result (IsOnDisk primary.new.kept (D.view disk.new)) }
     ensures whole { OnOk result (primary.new.kept.broken ≡ false) }
 
     // Where it stops early, each command of which a byte was answered is in every image.
     ensures stopped { D.tells → (s : State) → HasState primary.old s → OnErr result
-        (IsStopped (Stops (course (K.taken sink.old) false (coming primary.old.kept.realm reader.old (S.left source.old)) (told_draws (C.moments clock.old) (E.stream entropy.old)) (seen (place_of primary.old) s))) (K.taken sink.new) (D.view disk.new)) }
+        (IsStopped (Stops (course (K.taken sink.old) false (coming primary.old.kept.realm reader.old
+        (S.left source.old)) (told_draws (C.moments clock.old) (E.stream entropy.old)) (seen (place_of primary.old) s)))
+        (K.taken sink.new) (D.view disk.new)) }
 
-    // Where it stops for want of memory or of random bytes, so many commands were done, and the replies to them are written
-    // in full: no change stands without its reply, but of many that are to be rekeyed those that were before it. For want
-    // of memory, where the next line asks for a dump, a front of the lines of that may be written. For want of input, and
-    // at the limit of the input, it stops between two lines: there these exceptions are none.
+    // Where it stops for want of memory or of random bytes, so many commands were done, and the replies to them are
+    // written in full: no change stands without its reply, but of many that are to be rekeyed those that were before
+    // it. For want of memory, where the next line asks for a dump, a front of the lines of that may be written. For
+    // want of input, and at the limit of the input, it stops between two lines: there these exceptions are none.
     ensures memory { D.tells → (s : State) → HasState primary.old s → result ≡ Err SessionHalt.MemoryOut
-        → IsAtRest lines_begun (course (K.taken sink.old) false (coming primary.old.kept.realm reader.old (S.left source.old)) (told_draws (C.moments clock.old) (E.stream entropy.old)) (seen (place_of primary.old) s)) (K.taken sink.new) (D.view disk.new) }
+        → IsAtRest lines_begun (course (K.taken sink.old) false (coming primary.old.kept.realm reader.old
+        (S.left source.old)) (told_draws (C.moments clock.old) (E.stream entropy.old)) (seen (place_of primary.old) s))
+        (K.taken sink.new) (D.view disk.new) }
     ensures drawn { D.tells → (s : State) → HasState primary.old s → result ≡ Err SessionHalt.DrawFault
-        → IsAtRest nothing_begun (course (K.taken sink.old) false (coming primary.old.kept.realm reader.old (S.left source.old)) (told_draws (C.moments clock.old) (E.stream entropy.old)) (seen (place_of primary.old) s)) (K.taken sink.new) (D.view disk.new) }
+        → IsAtRest nothing_begun
+        (course (K.taken sink.old) false (coming primary.old.kept.realm reader.old (S.left source.old))
+        (told_draws (C.moments clock.old) (E.stream entropy.old)) (seen (place_of primary.old) s)) (K.taken sink.new)
+        (D.view disk.new) }
     ensures read { D.tells → (s : State) → HasState primary.old s → result ≡ Err SessionHalt.ReadFault
-        → IsBetweenLines (course (K.taken sink.old) false (coming primary.old.kept.realm reader.old (S.left source.old)) (told_draws (C.moments clock.old) (E.stream entropy.old)) (seen (place_of primary.old) s)) (K.taken sink.new) (D.view disk.new) }
+        → IsBetweenLines (course (K.taken sink.old) false (coming primary.old.kept.realm reader.old (S.left source.old))
+        (told_draws (C.moments clock.old) (E.stream entropy.old)) (seen (place_of primary.old) s)) (K.taken sink.new)
+        (D.view disk.new) }
     ensures at_limit { D.tells → (s : State) → HasState primary.old s → result ≡ Err SessionHalt.InputTooLong
-        → IsBetweenLines (course (K.taken sink.old) false (coming primary.old.kept.realm reader.old (S.left source.old)) (told_draws (C.moments clock.old) (E.stream entropy.old)) (seen (place_of primary.old) s)) (K.taken sink.new) (D.view disk.new) }
+        → IsBetweenLines (course (K.taken sink.old) false (coming primary.old.kept.realm reader.old (S.left source.old))
+        (told_draws (C.moments clock.old) (E.stream entropy.old)) (seen (place_of primary.old) s)) (K.taken sink.new)
+        (D.view disk.new) }
 
     // A crash at any moment leaves a place of the session, which the events of its lines reach.
     ensures moments { D.tells → (s : State) → HasState primary.old s → LeavesOnly (D.view disk.old) (D.view disk.new)
-        (Leaves (course (K.taken sink.old) false (coming primary.old.kept.realm reader.old (S.left source.old)) (told_draws (C.moments clock.old) (E.stream entropy.old)) (seen (place_of primary.old) s))) }
+        (Leaves (course (K.taken sink.old) false (coming primary.old.kept.realm reader.old (S.left source.old))
+        (told_draws (C.moments clock.old) (E.stream entropy.old)) (seen (place_of primary.old) s))) }
 
     // What was taken from the source.
     ensures over { OnOk result (IsTrue reader.new.over) }
-    ensures takes { (first : Option (List ℕ)) → HasTaken first reader.old (S.left source.old) → HasTaken first reader.new (S.left source.new) }
+    ensures takes { (first : Option (List ℕ)) → HasTaken first reader.old (S.left source.old)
+        → HasTaken first reader.new (S.left source.new) }
     ensures too_long { result ≡ Err SessionHalt.InputTooLong → reader.new.taken ≡ 4294967296 }
 
     // The causes.
@@ -311,8 +369,8 @@ pub fn serve<S: Source, K: Sink, D: Disk, C: Clock, E: Entropy>(
 ///
 /// # Errors
 ///
-/// As those of `serve`. But for `WriteFault` nothing was written, and after `MemoryOut` and `DrawFault` nothing was done,
-/// but that of many that are rekeyed some may be, and after `MemoryOut` a front of a dump's lines may be written.
+/// As those of `serve`. But for `WriteFault` nothing was written, and after `MemoryOut` and `DrawFault` nothing was
+/// done, but that of many that are rekeyed some may be, and after `MemoryOut` a front of a dump's lines may be written.
 pub fn serve_one<K: Sink, D: Disk, C: Clock, E: Entropy>(
     alloc: Global,
     primary: &mut Primary,
@@ -327,22 +385,33 @@ pub fn serve_one<K: Sink, D: Disk, C: Clock, E: Entropy>(
     requires whole { primary.old.kept.broken ≡ false }
     // As a session of this command alone.
     ensures ended { (s : State) (end : Ending) → HasState primary.old s
-        → ending (course (K.taken sink.old) false (Some (asked.now ∷ [])) (told_draws (C.moments clock.old) (E.stream entropy.old)) (seen (place_of primary.old) s)) ≡ Some end
-        → IfOk result (λ refused. EndsAs (K.taken sink.new) refused primary.new (told_draws (C.moments clock.new) (E.stream entropy.new)) end) }
+        → ending (course (K.taken sink.old) false (Some (asked.now ∷ []))
+        (told_draws (C.moments clock.old) (E.stream entropy.old)) (seen (place_of primary.old) s)) ≡ Some end
+        → IfOk result (λ refused.
+        EndsAs (K.taken sink.new) refused primary.new (told_draws (C.moments clock.new) (E.stream entropy.new)) end) }
     ensures done { (s : State) → HasState primary.old s → OnOk result
-        (IsDoneWhole (course (K.taken sink.old) false (Some (asked.now ∷ [])) (told_draws (C.moments clock.old) (E.stream entropy.old)) (seen (place_of primary.old) s))) }
+        (IsDoneWhole (course (K.taken sink.old) false (Some (asked.now ∷ []))
+        (told_draws (C.moments clock.old) (E.stream entropy.old)) (seen (place_of primary.old) s))) }
     ensures on { D.tells → OnOk result (IsOnDisk primary.new.kept (D.view disk.new)) }
     ensures whole { OnOk result (primary.new.kept.broken ≡ false) }
     ensures stopped { D.tells → (s : State) → HasState primary.old s → OnErr result
-        (IsStopped (Stops (course (K.taken sink.old) false (Some (asked.now ∷ [])) (told_draws (C.moments clock.old) (E.stream entropy.old)) (seen (place_of primary.old) s))) (K.taken sink.new) (D.view disk.new)) }
+        (IsStopped (Stops (course (K.taken sink.old) false (Some (asked.now ∷ []))
+        (told_draws (C.moments clock.old) (E.stream entropy.old)) (seen (place_of primary.old) s))) (K.taken sink.new)
+        (D.view disk.new)) }
     ensures memory { D.tells → (s : State) → HasState primary.old s → result ≡ Err SessionHalt.MemoryOut
-        → IsAtRest lines_begun (course (K.taken sink.old) false (Some (asked.now ∷ [])) (told_draws (C.moments clock.old) (E.stream entropy.old)) (seen (place_of primary.old) s)) (K.taken sink.new) (D.view disk.new) }
+        → IsAtRest lines_begun (course (K.taken sink.old) false (Some (asked.now ∷ []))
+        (told_draws (C.moments clock.old) (E.stream entropy.old)) (seen (place_of primary.old) s)) (K.taken sink.new)
+        (D.view disk.new) }
     ensures drawn { D.tells → (s : State) → HasState primary.old s → result ≡ Err SessionHalt.DrawFault
-        → IsAtRest nothing_begun (course (K.taken sink.old) false (Some (asked.now ∷ [])) (told_draws (C.moments clock.old) (E.stream entropy.old)) (seen (place_of primary.old) s)) (K.taken sink.new) (D.view disk.new) }
+        → IsAtRest nothing_begun (course (K.taken sink.old) false (Some (asked.now ∷ []))
+        (told_draws (C.moments clock.old) (E.stream entropy.old)) (seen (place_of primary.old) s)) (K.taken sink.new)
+        (D.view disk.new) }
     ensures moments { D.tells → (s : State) → HasState primary.old s → LeavesOnly (D.view disk.old) (D.view disk.new)
-        (Leaves (course (K.taken sink.old) false (Some (asked.now ∷ [])) (told_draws (C.moments clock.old) (E.stream entropy.old)) (seen (place_of primary.old) s))) }
+        (Leaves (course (K.taken sink.old) false (Some (asked.now ∷ []))
+        (told_draws (C.moments clock.old) (E.stream entropy.old)) (seen (place_of primary.old) s))) }
     // But for a fault of the sink itself, an error comes with nothing written; want of memory for a dump is told above.
-    ensures unsaid { asked.now ≢ WritesDump → IfErr result (λ halt. halt ≢ SessionHalt.WriteFault → sink.new ≡ sink.old) }
+    ensures unsaid { asked.now ≢ WritesDump
+        → IfErr result (λ halt. halt ≢ SessionHalt.WriteFault → sink.new ≡ sink.old) }
     ensures halt { IfErr result IsAnswerHalt }
     ensures call { IsCall D.Disk disk.old disk.new (result ≡ Err SessionHalt.DiskFault) }
     ensures writes { Counts (K.faults sink.old) (K.faults sink.new) (result ≡ Err SessionHalt.WriteFault) }

@@ -60,14 +60,19 @@ fn restash_for<D: Disk>(
     requires client { client.now ≡ local_client primary.old.kept.realm }
     requires on { D.tells → IsOnDisk primary.old.kept (D.view disk.old) }
     requires whole { primary.old.kept.broken ≡ false }
-    ensures performs { (s : State) (random : List ℕ) → HasState primary.old s → IfOk result (λ printed. Performed (ask_at Stash now random (seen (place_of primary.old) s)) (seen (place_of primary.old) s) (Replied printed.reply)) }
-    ensures stands { (s : State) (random : List ℕ) → HasState primary.old s → OnOk result (StandsAt primary.new (after_ask (ask_at Stash now random (seen (place_of primary.old) s)) (seen (place_of primary.old) s))) }
-    ensures crash { (s : State) (random : List ℕ) → HasState primary.old s → IsCrashSafe D.Disk disk.old disk.new (MayLeave (place_of primary.old) s (Perform (ask_at Stash now random (seen (place_of primary.old) s)))) }
+    ensures performs { (s : State) (random : List ℕ) → HasState primary.old s
+        → IfOk result (λ printed. Performed (ask_at Stash now random (seen (place_of primary.old) s))
+        (seen (place_of primary.old) s) (Replied printed.reply)) }
+    ensures stands { (s : State) (random : List ℕ) → HasState primary.old s → OnOk result (StandsAt primary.new
+        (after_ask (ask_at Stash now random (seen (place_of primary.old) s)) (seen (place_of primary.old) s))) }
+    ensures crash { (s : State) (random : List ℕ) → HasState primary.old s → IsCrashSafe D.Disk disk.old disk.new
+        (MayLeave (place_of primary.old) s (Perform (ask_at Stash now random (seen (place_of primary.old) s)))) }
     ensures text { IfOk result (λ printed. printed.text ≡ reply_text printed.reply) }
     ensures on { D.tells → OnOk result (IsOnDisk primary.new.kept (D.view disk.new)) }
     ensures whole { OnOk result (primary.new.kept.broken ≡ false) }
     ensures realm { OnOk result (primary.new.kept.realm ≡ primary.old.kept.realm) }
-    ensures memory { result ≡ Err SessionHalt.MemoryOut → (disk.new ≡ disk.old) × (place_of primary.new ≡ place_of primary.old) }
+    ensures memory { result ≡ Err SessionHalt.MemoryOut
+        → (disk.new ≡ disk.old) × (place_of primary.new ≡ place_of primary.old) }
     ensures halt { IfErr result IsPerformHalt }
     ensures not_drawn { IfErr result (λ halt. halt ≢ SessionHalt.DrawFault) }
     ensures call { IsCall D.Disk disk.old disk.new (result ≡ Err SessionHalt.DiskFault) }
@@ -95,14 +100,19 @@ pub(crate) fn restash<D: Disk>(
 ) -> Result<Printed, SessionHalt>
     requires on { D.tells → IsOnDisk primary.old.kept (D.view disk.old) }
     requires whole { primary.old.kept.broken ≡ false }
-    ensures performs { (s : State) (random : List ℕ) → HasState primary.old s → IfOk result (λ printed. Performed (ask_at Stash now random (seen (place_of primary.old) s)) (seen (place_of primary.old) s) (Replied printed.reply)) }
-    ensures stands { (s : State) (random : List ℕ) → HasState primary.old s → OnOk result (StandsAt primary.new (after_ask (ask_at Stash now random (seen (place_of primary.old) s)) (seen (place_of primary.old) s))) }
-    ensures crash { (s : State) (random : List ℕ) → HasState primary.old s → IsCrashSafe D.Disk disk.old disk.new (MayLeave (place_of primary.old) s (Perform (ask_at Stash now random (seen (place_of primary.old) s)))) }
+    ensures performs { (s : State) (random : List ℕ) → HasState primary.old s
+        → IfOk result (λ printed. Performed (ask_at Stash now random (seen (place_of primary.old) s))
+        (seen (place_of primary.old) s) (Replied printed.reply)) }
+    ensures stands { (s : State) (random : List ℕ) → HasState primary.old s → OnOk result (StandsAt primary.new
+        (after_ask (ask_at Stash now random (seen (place_of primary.old) s)) (seen (place_of primary.old) s))) }
+    ensures crash { (s : State) (random : List ℕ) → HasState primary.old s → IsCrashSafe D.Disk disk.old disk.new
+        (MayLeave (place_of primary.old) s (Perform (ask_at Stash now random (seen (place_of primary.old) s)))) }
     ensures text { IfOk result (λ printed. printed.text ≡ reply_text printed.reply) }
     ensures on { D.tells → OnOk result (IsOnDisk primary.new.kept (D.view disk.new)) }
     ensures whole { OnOk result (primary.new.kept.broken ≡ false) }
     ensures realm { OnOk result (primary.new.kept.realm ≡ primary.old.kept.realm) }
-    ensures memory { result ≡ Err SessionHalt.MemoryOut → (disk.new ≡ disk.old) × (place_of primary.new ≡ place_of primary.old) }
+    ensures memory { result ≡ Err SessionHalt.MemoryOut
+        → (disk.new ≡ disk.old) × (place_of primary.new ≡ place_of primary.old) }
     ensures halt { IfErr result IsPerformHalt }
     ensures not_drawn { IfErr result (λ halt. halt ≢ SessionHalt.DrawFault) }
     ensures call { IsCall D.Disk disk.old disk.new (result ≡ Err SessionHalt.DiskFault) }

@@ -8,7 +8,8 @@ use Rattle.session_base.specs.declared.halts.SessionHalt.TheVariants as session
 use Rattle.kadm_top.specs.Openings.{Opening}
 use Rattle.kadm_top.specs.Reads.{InputIsRead}
 use Rattle.kadm_top.specs.Run.{HasRun, RunRests, Told, begun_at}
-use Rattle.kadm_top.specs.Statuses.{Faults, HasCauses, IsRun, IsSayHalt, OnEnd, OnRest, OnStop, StatusHasCauses, begun_by, faults, status_after}
+use Rattle.kadm_top.specs.Statuses.{Faults, HasCauses, IsRun, IsSayHalt, OnEnd, OnRest}
+use Rattle.kadm_top.specs.Statuses.{OnStop, StatusHasCauses, begun_by, faults, status_after}
 use Rattle.kdb_base.specs.Causes.{Rose}
 use Rattle.kdb_base.specs.declared.outcomes.Status.{Status}
 use Rattle.kdb_base.specs.declared.outcomes.Status.TheVariants as status
@@ -47,7 +48,8 @@ on_stop (Err session.DiskFault) P p = p
 on_stop (Err session.DrawFault) P p = p
 on_stop (Err session.InputTooLong) P p = p
 
-on_rest : (r : Result Bool SessionHalt) (P : (List Asked → Place → List ℕ) → Type 0) → IfErr r (λ halt. SparesOutput halt → P (begun_at halt))
+on_rest : (r : Result Bool SessionHalt) (P : (List Asked → Place → List ℕ) → Type 0)
+    → IfErr r (λ halt. SparesOutput halt → P (begun_at halt))
     → OnRest (status_after r) (P (begun_by (status_after r)))
 on_rest (Ok true) P p = tt
 on_rest (Ok false) P p = tt
@@ -60,7 +62,8 @@ on_rest (Err session.InputTooLong) P p = p tt
 
 -- ---- which result a status comes from
 
-for_read : (r : Result Bool SessionHalt) → status_after r ≡ status.ReadFault → (r ≡ Err session.ReadFault) ⊎ (r ≡ Err session.DrawFault)
+for_read : (r : Result Bool SessionHalt) → status_after r ≡ status.ReadFault
+    → (r ≡ Err session.ReadFault) ⊎ (r ≡ Err session.DrawFault)
 for_read (Ok true) e = absurd cc
 for_read (Ok false) e = absurd cc
 for_read (Err session.MemoryOut) e = absurd cc
@@ -132,19 +135,23 @@ for_link (Err session.InputTooLong) e = absurd cc
 
 -- ---- all of it
 
-pub run_by_status : {o : Opening} {old now : View} {before after : Told} (s : Status) (r : Result Bool SessionHalt) → s ≡ status_after r → HasRun o old now before after r → IsRun o old now before after s
-run_by_status {o} {old} {now} {before} {after} s r is run = subst (λ (x : Status). IsRun o old now before after x) (sym is) (record {
-  ended = λ end e. on_end r _ (run.ended end e);
-  stopped = on_stop r _ run.stopped;
-  rests = on_rest r (λ begun. RunRests begun o old before after.taken now) run.rests;
-  moments = run.moments;
-  read = λ reads. on_end_any r _ (run.read reads);
-})
+pub run_by_status : {o : Opening} {old now : View} {before after : Told} (s : Status) (r : Result Bool SessionHalt)
+    → s ≡ status_after r → HasRun o old now before after r → IsRun o old now before after s
+run_by_status {o} {old} {now} {before} {after} s r is run =
+    subst (λ (x : Status). IsRun o old now before after x) (sym is) (record {
+      ended = λ end e. on_end r _ (run.ended end e);
+      stopped = on_stop r _ run.stopped;
+      rests = on_rest r (λ begun. RunRests begun o old before after.taken now) run.rests;
+      moments = run.moments;
+      read = λ reads. on_end_any r _ (run.read reads);
+    })
 
-pub end_by_status : (s : Status) (r : Result Bool SessionHalt) (P : Type 0) → s ≡ status_after r → OnOk r P → OnEnd s (λ _. P)
+pub end_by_status : (s : Status) (r : Result Bool SessionHalt) (P : Type 0) → s ≡ status_after r → OnOk r P
+    → OnEnd s (λ _. P)
 end_by_status s r P is ok = subst (λ (x : Status). OnEnd x (λ _. P)) (sym is) (on_end_any r P ok)
 
-pub input_by_status : {S : Type 0} {left : S → Option (List ℕ)} {old new : S} {found words : Type 0} (s : Status) (r : Result Bool SessionHalt) → s ≡ status_after r → (words → found)
+pub input_by_status : {S : Type 0} {left : S → Option (List ℕ)} {old new : S} {found words : Type 0} (s : Status)
+    (r : Result Bool SessionHalt) → s ≡ status_after r → (words → found)
     → InputIsRead left old new (found × (r ≡ Ok false)) (r ≡ Ok true) (r ≡ Err session.InputTooLong)
     → InputIsRead left old new (words × (s ≡ status.Done)) (s ≡ status.Refused) (s ≡ status.InputTooLong)
 input_by_status s r is reads input = record {
@@ -162,7 +169,8 @@ causes_out f = record {
   draws = record { later = omega arith; cause = λ e. absurd cc };
 }
 
-pub causes_by_status : {before now : Faults} (s : Status) (r : Result Bool SessionHalt) → s ≡ status_after r → HasCauses before now r → StatusHasCauses before now s
+pub causes_by_status : {before now : Faults} (s : Status) (r : Result Bool SessionHalt) → s ≡ status_after r
+    → HasCauses before now r → StatusHasCauses before now s
 causes_by_status {before} {now} s r is causes = record {
   reads = causes.reads.later;
   draws = causes.draws.later;
@@ -172,23 +180,29 @@ causes_by_status {before} {now} s r is causes = record {
   no_link = λ e. for_link r (sym is ∙ e);
 }
   where
-    by : (r ≡ Err session.ReadFault) ⊎ (r ≡ Err session.DrawFault) → Rose before.reads now.reads ⊎ Rose before.draws now.draws
+    by : (r ≡ Err session.ReadFault) ⊎ (r ≡ Err session.DrawFault)
+        → Rose before.reads now.reads ⊎ Rose before.draws now.draws
     by (inl e) = inl (causes.reads.cause e)
     by (inr e) = inr (causes.draws.cause e)
 
 -- ---- causes, one call after another
 
 -- a call of the disk came first
-pub causes_behind : {before now : Faults} {mid : ℕ} (r : Result Bool SessionHalt) → before.calls ≤ mid → HasCauses (faults before.reads before.writes mid before.draws) now r → HasCauses before now r
+pub causes_behind : {before now : Faults} {mid : ℕ} (r : Result Bool SessionHalt) → before.calls ≤ mid
+    → HasCauses (faults before.reads before.writes mid before.draws) now r → HasCauses before now r
 causes_behind {before} {now} {mid} r later causes = record {
   reads = causes.reads;
   writes = causes.writes;
-  calls = record { later = omega (arith, later, causes.calls.later); cause = λ e. let rose = causes.calls.cause e in omega (arith, later, rose) };
+  calls = record {
+    later = omega (arith, later, causes.calls.later);
+    cause = λ e. let rose = causes.calls.cause e in omega (arith, later, rose);
+  };
   draws = causes.draws;
 }
 
 -- a refusal was not written whole
-pub said_causes : {before : Faults} {writes : ℕ} (halt : SessionHalt) → before.writes ≤ writes → IsSayHalt halt → (halt ≡ session.WriteFault → Rose before.writes writes)
+pub said_causes : {before : Faults} {writes : ℕ} (halt : SessionHalt) → before.writes ≤ writes → IsSayHalt halt
+    → (halt ≡ session.WriteFault → Rose before.writes writes)
     → HasCauses before (faults before.reads writes before.calls before.draws) (Err halt)
 said_causes session.MemoryOut later says rose = record {
   reads = record { later = omega arith; cause = λ e. absurd cc };

@@ -12,8 +12,11 @@ use Rattle.kadm_keytabs.specs.declared.answers.Answer.{Answer}
 use Rattle.session_base.specs.declared.halts.SessionHalt.{SessionHalt}
 use Rattle.kadm_session.specs.declared.intake.Asked.{Asked}
 use Rattle.session_base.specs.declared.halts.SessionHalt.TheVariants as session
-use Rattle.kadm_top.specs.Openings.{Adds, AddsNew, AMoment, ABlock, Drawn, Ends, Filters, IsInput, Loads, Makes, NoDraw, Opening, Opens, Refuses, Tells, behind}
-use Rattle.kadm_top.specs.Run.{HasCourse, HasRun, IfTold, IsFront, IsSame, LeavesAll, MakesStop, OpensPart, RunEnd, RunEndsAs, RunLeaves, RunRests, RunStops, Stays, Told, begun_at, course_behind, end_opened, place_made, refusal_line}
+use Rattle.kadm_top.specs.Openings.{Adds, AddsNew, AMoment, ABlock, Drawn, Ends, Filters, IsInput}
+use Rattle.kadm_top.specs.Openings.{Loads, Makes, NoDraw, Opening, Opens, Refuses, Tells, behind}
+use Rattle.kadm_top.specs.Run.{HasCourse, HasRun, IfTold, IsFront, IsSame, LeavesAll, MakesStop}
+use Rattle.kadm_top.specs.Run.{OpensPart, RunEnd, RunEndsAs, RunLeaves, RunRests, RunStops, Stays}
+use Rattle.kadm_top.specs.Run.{Told, begun_at, course_behind, end_opened, place_made, refusal_line}
 use Rattle.kadm_top.specs.Statuses.{IsSayHalt}
 use Rattle.kdb_base.specs.declared.outcomes.Halt.{Halt}
 use Rattle.kdb_base.specs.declared.outcomes.Halt.TheVariants as disk
@@ -61,12 +64,14 @@ pub all_at_end : {old now : View} {P : Files → Type 0} → LeavesOnly old now 
 all_at_end run = record { each = λ c image. at_end run c image }
 
 -- of the two ends of a call of the disk, the one by which the disk did not fail is want of memory
-pub spares_for_memory : (h : Halt) (halt : SessionHalt) → halt ≡ disk_as_session h → SparesOutput halt → h ≡ disk.MemoryOut
+pub spares_for_memory : (h : Halt) (halt : SessionHalt) → halt ≡ disk_as_session h → SparesOutput halt
+    → h ≡ disk.MemoryOut
 spares_for_memory disk.MemoryOut halt is spares = refl
 spares_for_memory disk.DiskFault halt is spares = absurd (subst SparesOutput is spares)
 
 -- no disk fails while a refusal is written
-pub says_no_disk : {P : Type 0} (halt : SessionHalt) → IsSayHalt halt → ◌≡◌ {A = Result Bool SessionHalt} (Err halt) (Err session.DiskFault) → P
+pub says_no_disk : {P : Type 0} (halt : SessionHalt) → IsSayHalt halt
+    → ◌≡◌ {A = Result Bool SessionHalt} (Err halt) (Err session.DiskFault) → P
 says_no_disk session.MemoryOut says e = absurd cc
 says_no_disk session.WriteFault says e = absurd cc
 says_no_disk session.ReadFault says e = absurd says
@@ -77,7 +82,8 @@ says_no_disk session.InputTooLong says e = absurd says
 -- ---- a refusal
 
 pub refused_run : {old now : View} {before after : Told} (why : Refusal) (drawn : Drawn)
-    → after.taken ≡ after_told before.taken (refusal_line why) → after.draws ≡ behind drawn before.draws → Stays drawn old now
+    → after.taken ≡ after_told before.taken (refusal_line why) → after.draws ≡ behind drawn before.draws
+    → Stays drawn old now
     → HasRun (Refuses why drawn) old now before after (Ok true)
 refused_run {old} {now} {before} {after} why drawn said_it draws stays = record {
   ended = λ end e. subst (λ (x : RunEnd). RunEndsAs after.taken true after.draws old now x) (same_Some _ _ e)
@@ -130,20 +136,26 @@ cut_text_run {old} {now} {before} {after} text drawn halt part same = record {
 
 -- a text that is told with no draw, whether all of it was written or not
 pub generated_run : {old now : View} {before after : Told} (r : Result Bool SessionHalt) (text : List ℕ)
-    → IfOk r (λ refused. (refused ≡ false) × (after.taken ≡ after_told before.taken text)) → OnErr r (SaidPart text before.taken after.taken)
+    → IfOk r (λ refused. (refused ≡ false) × (after.taken ≡ after_told before.taken text))
+    → OnErr r (SaidPart text before.taken after.taken)
     → after.draws ≡ before.draws → Keeps old now
     → HasRun (Tells text NoDraw) old now before after r
 generated_run {old} {now} {before} {after} (Ok refused) text said_it part draws keeps =
-    subst (λ (b : Bool). HasRun (Tells text NoDraw) old now before after (Ok b)) (sym said_it.0) (text_run text NoDraw said_it.1 draws keeps)
-generated_run {old} {now} {before} {after} (Err halt) text said_it part draws keeps = cut_text_run text NoDraw halt part keeps
+    subst (λ (b : Bool). HasRun (Tells text NoDraw) old now before after (Ok b)) (sym said_it.0)
+    (text_run text NoDraw said_it.1 draws keeps)
+generated_run {old} {now} {before} {after} (Err halt) text said_it part draws keeps =
+    cut_text_run text NoDraw halt part keeps
 
 -- ---- a run that did nothing
 
-made_idle : {old now : View} (spec : SpecParts) (draws : Option Draws) (taken out : Option (List ℕ)) → Keeps old now → out ≡ taken → IfTold draws (λ d. MakesStop spec old taken d out now)
+made_idle : {old now : View} (spec : SpecParts) (draws : Option Draws) (taken out : Option (List ℕ)) → Keeps old now
+    → out ≡ taken → IfTold draws (λ d. MakesStop spec old taken d out now)
 made_idle spec None taken out keeps is = tt
-made_idle {old} {now} spec (Some draws) taken out keeps is = inl (is, all_at_end (weaken (keeps_like keeps) (λ c like. inl like)))
+made_idle {old} {now} spec (Some draws) taken out keeps is =
+    inl (is, all_at_end (weaken (keeps_like keeps) (λ c like. inl like)))
 
-made_like : {old : View} (spec : SpecParts) (draws : Option Draws) (c : Files) → IsLike old c → IfTold draws (λ d. Creates old (place_made spec d) c)
+made_like : {old : View} (spec : SpecParts) (draws : Option Draws) (c : Files) → IsLike old c
+    → IfTold draws (λ d. Creates old (place_made spec d) c)
 made_like spec None c like = tt
 made_like spec (Some draws) c like = inl like
 
@@ -151,29 +163,43 @@ no_front : (what : Option Answer) (taken out : Option (List ℕ)) → out ≡ ta
 no_front None taken out is = tt
 no_front (Some answer) taken out is = said_nothing answer.text taken out is
 
-idle_stops : {old now : View} (before : Told) (o : Opening) (out : Option (List ℕ)) → Keeps old now → out ≡ before.taken → RunStops o old before out now
-idle_stops {old} {now} before (Refuses why drawn) out keeps is = (said_nothing (refusal_line why) before.taken out is, keeps_same drawn keeps)
-idle_stops before (Opens begin made at asked) out keeps is = inr (is, all_at_end (weaken (keeps_like keeps) (λ c like. inl like)))
-idle_stops before (Loads begin made at what) out keeps is = inr (is, all_at_end (weaken (keeps_like keeps) (λ c like. inl like)))
-idle_stops before (Adds begin made at reads what) out keeps is = inr (is, all_at_end (weaken (keeps_like keeps) (λ c like. inl like)))
-idle_stops before (AddsNew begin made at reads what) out keeps is = inr (is, all_at_end (weaken (keeps_like keeps) (λ c like. inl like)))
+idle_stops : {old now : View} (before : Told) (o : Opening) (out : Option (List ℕ)) → Keeps old now → out ≡ before.taken
+    → RunStops o old before out now
+idle_stops {old} {now} before (Refuses why drawn) out keeps is =
+    (said_nothing (refusal_line why) before.taken out is, keeps_same drawn keeps)
+idle_stops before (Opens begin made at asked) out keeps is =
+    inr (is, all_at_end (weaken (keeps_like keeps) (λ c like. inl like)))
+idle_stops before (Loads begin made at what) out keeps is =
+    inr (is, all_at_end (weaken (keeps_like keeps) (λ c like. inl like)))
+idle_stops before (Adds begin made at reads what) out keeps is =
+    inr (is, all_at_end (weaken (keeps_like keeps) (λ c like. inl like)))
+idle_stops before (AddsNew begin made at reads what) out keeps is =
+    inr (is, all_at_end (weaken (keeps_like keeps) (λ c like. inl like)))
 idle_stops before (Filters what) out keeps is = (no_front what before.taken out is, keeps)
-idle_stops {old} {now} before (Tells text drawn) out keeps is = (said_nothing text before.taken out is, keeps_same drawn keeps)
+idle_stops {old} {now} before (Tells text drawn) out keeps is =
+    (said_nothing text before.taken out is, keeps_same drawn keeps)
 idle_stops {old} {now} before (Makes spec) out keeps is = made_idle spec before.draws before.taken out keeps is
 idle_stops before Ends out keeps is = inl (is, all_at_end (weaken (keeps_like keeps) (λ c like. inl like)))
 
-idle_rests : {old now : View} (begun : List Asked → Place → List ℕ) (before : Told) (o : Opening) (out : Option (List ℕ)) → Keeps old now → out ≡ before.taken → RunRests begun o old before out now
+idle_rests : {old now : View} (begun : List Asked → Place → List ℕ) (before : Told) (o : Opening)
+    (out : Option (List ℕ)) → Keeps old now → out ≡ before.taken → RunRests begun o old before out now
 idle_rests begun before (Refuses why drawn) out keeps is = (is, keeps_same drawn keeps)
-idle_rests begun before (Opens begin made at asked) out keeps is = inr (is, all_at_end (weaken (keeps_like keeps) (λ c like. inl like)))
-idle_rests begun before (Loads begin made at what) out keeps is = (is, all_at_end (weaken (keeps_like keeps) (λ c like. inl like)))
-idle_rests begun before (Adds begin made at reads what) out keeps is = (is, all_at_end (weaken (keeps_like keeps) (λ c like. inl like)))
-idle_rests begun before (AddsNew begin made at reads what) out keeps is = (is, all_at_end (weaken (keeps_like keeps) (λ c like. inl like)))
+idle_rests begun before (Opens begin made at asked) out keeps is =
+    inr (is, all_at_end (weaken (keeps_like keeps) (λ c like. inl like)))
+idle_rests begun before (Loads begin made at what) out keeps is =
+    (is, all_at_end (weaken (keeps_like keeps) (λ c like. inl like)))
+idle_rests begun before (Adds begin made at reads what) out keeps is =
+    (is, all_at_end (weaken (keeps_like keeps) (λ c like. inl like)))
+idle_rests begun before (AddsNew begin made at reads what) out keeps is =
+    (is, all_at_end (weaken (keeps_like keeps) (λ c like. inl like)))
 idle_rests begun before (Filters what) out keeps is = (is, keeps)
-idle_rests begun before (Tells text drawn) out keeps is = (said_nothing text before.taken out is, keeps_same drawn keeps)
+idle_rests begun before (Tells text drawn) out keeps is =
+    (said_nothing text before.taken out is, keeps_same drawn keeps)
 idle_rests begun before (Makes spec) out keeps is = (is, keeps)
 idle_rests begun before Ends out keeps is = (is, keeps)
 
-idle_leaves : {old now : View} (before : Told) (o : Opening) → Keeps old now → LeavesOnly old now (RunLeaves o old before)
+idle_leaves : {old now : View} (before : Told) (o : Opening) → Keeps old now
+    → LeavesOnly old now (RunLeaves o old before)
 idle_leaves before (Refuses why drawn) keeps = keeps_like keeps
 idle_leaves before (Opens begin made at asked) keeps = weaken (keeps_like keeps) (λ c like. inl (inl like))
 idle_leaves before (Loads begin made at what) keeps = weaken (keeps_like keeps) (λ c like. inl (inl like))
@@ -184,7 +210,8 @@ idle_leaves before (Tells text drawn) keeps = keeps_like keeps
 idle_leaves before (Makes spec) keeps = weaken (keeps_like keeps) (λ c like. made_like spec before.draws c like)
 idle_leaves before Ends keeps = weaken (keeps_like keeps) (λ c like. inl like)
 
-pub idle_run : {old now : View} {before after : Told} (o : Opening) (halt : SessionHalt) → Keeps old now → after.taken ≡ before.taken → HasRun o old now before after (Err halt)
+pub idle_run : {old now : View} {before after : Told} (o : Opening) (halt : SessionHalt) → Keeps old now
+    → after.taken ≡ before.taken → HasRun o old now before after (Err halt)
 idle_run {old} {now} {before} {after} o halt keeps is = record {
   ended = λ end e. tt;
   stopped = idle_stops before o after.taken keeps is;
@@ -196,8 +223,10 @@ idle_run {old} {now} {before} {after} o halt keeps is = record {
 -- ---- a database that was opened
 
 -- the opening was stopped
-pub unopened_run : {old now : View} {before after : Told} (begin : Place) (made : List Place) (at : Seen) (asked : Option Asked) (halt : SessionHalt)
-    → LeavesOnly old now (OpensPart old begin made) → after.taken ≡ before.taken → HasRun (Opens begin made at asked) old now before after (Err halt)
+pub unopened_run : {old now : View} {before after : Told} (begin : Place) (made : List Place) (at : Seen)
+    (asked : Option Asked) (halt : SessionHalt)
+    → LeavesOnly old now (OpensPart old begin made) → after.taken ≡ before.taken
+    → HasRun (Opens begin made at asked) old now before after (Err halt)
 unopened_run begin made at asked halt run is = record {
   ended = λ end e. tt;
   stopped = inr (is, all_at_end run);
@@ -207,11 +236,15 @@ unopened_run begin made at asked halt run is = record {
 }
 
 -- an end at a place does not speak of the disk of before
-end_over : {out : Option (List ℕ)} {refused : Bool} {draws : Option Draws} {now : View} (mid old : View) (e : Ending) → RunEndsAs out refused draws mid now (end_opened e) → RunEndsAs out refused draws old now (end_opened e)
-end_over mid old e ends = record { out_is = ends.out_is; refused_is = ends.refused_is; stands = ends.stands; draws_are = ends.draws_are }
+end_over : {out : Option (List ℕ)} {refused : Bool} {draws : Option Draws} {now : View} (mid old : View) (e : Ending)
+    → RunEndsAs out refused draws mid now (end_opened e) → RunEndsAs out refused draws old now (end_opened e)
+end_over mid old e ends =
+    record { out_is = ends.out_is; refused_is = ends.refused_is; stands = ends.stands; draws_are = ends.draws_are }
 
-ended_over : (out : Option (List ℕ)) (draws : Option Draws) (now mid old : View) (r : Result Bool SessionHalt) (e : Ending)
-    → IfOk r (λ refused. RunEndsAs out refused draws mid now (end_opened e)) → IfOk r (λ refused. RunEndsAs out refused draws old now (end_opened e))
+ended_over : (out : Option (List ℕ)) (draws : Option Draws) (now mid old : View)
+    (r : Result Bool SessionHalt) (e : Ending)
+    → IfOk r (λ refused. RunEndsAs out refused draws mid now (end_opened e))
+    → IfOk r (λ refused. RunEndsAs out refused draws old now (end_opened e))
 ended_over out draws now mid old (Ok refused) e ends = end_over mid old e ends
 ended_over out draws now mid old (Err halt) e ends = tt
 
@@ -219,12 +252,14 @@ stopped_over : (P Q : Type 0) (r : Result Bool SessionHalt) → OnErr r P → On
 stopped_over P Q (Ok refused) p = tt
 stopped_over P Q (Err halt) p = inl p
 
-rests_over : (P : SessionHalt → Type 0) (Q : Type 0) (r : Result Bool SessionHalt) → IfErr r (λ halt. SparesOutput halt → P halt) → IfErr r (λ halt. SparesOutput halt → P halt ⊎ Q)
+rests_over : (P : SessionHalt → Type 0) (Q : Type 0) (r : Result Bool SessionHalt)
+    → IfErr r (λ halt. SparesOutput halt → P halt) → IfErr r (λ halt. SparesOutput halt → P halt ⊎ Q)
 rests_over P Q (Ok refused) rests = tt
 rests_over P Q (Err halt) rests = λ spares. inl (rests spares)
 
 -- its input went its course
-pub opened_run : {old mid now : View} {before after : Told} {result : Result Bool SessionHalt} (begin : Place) (made : List Place) (at : Seen) (asked : Option Asked)
+pub opened_run : {old mid now : View} {before after : Told} {result : Result Bool SessionHalt} (begin : Place)
+    (made : List Place) (at : Seen) (asked : Option Asked)
     → LeavesOnly old mid (OpensPart old begin made)
     → HasCourse (course_behind asked before at) mid now after result
     → (IsInput asked → OnOk result (IsReadWhole before.left after.left))
@@ -232,12 +267,18 @@ pub opened_run : {old mid now : View} {before after : Told} {result : Result Boo
 opened_run {old} {mid} {now} {before} {after} {result} begin made at asked opening course whole = record {
   ended = λ end e. by (ending (course_behind asked before at)) course.ended end e;
   stopped = stopped_over _ _ result course.stopped;
-  rests = rests_over (λ halt. IsAtRest (begun_at halt) (course_behind asked before at) after.taken now) _ result course.rests;
+  rests = rests_over (λ halt. IsAtRest (begun_at halt) (course_behind asked before at) after.taken now) _
+      result course.rests;
   moments = then_on (weaken opening (λ c part. inl part)) course.moments (λ c leaves. inr leaves);
   read = λ reads. whole reads;
 }
   where
-    by : (o : Option Ending) → ((x : Ending) → o ≡ Some x → IfOk result (λ refused. RunEndsAs after.taken refused after.draws mid now (end_opened x))) → (end : RunEnd) → option_map end_opened o ≡ Some end
+    by : (o : Option Ending)
+        → ((x : Ending) → o ≡ Some x
+        → IfOk result (λ refused. RunEndsAs after.taken refused after.draws mid now (end_opened x))) → (end : RunEnd)
+        → option_map end_opened o ≡ Some end
         → IfOk result (λ refused. RunEndsAs after.taken refused after.draws old now end)
     by None f end e = absurd cc
-    by (Some x) f end e = subst (λ (y : RunEnd). IfOk result (λ refused. RunEndsAs after.taken refused after.draws old now y)) (same_Some _ _ e) (ended_over after.taken after.draws now mid old result x (f x refl))
+    by (Some x) f end e =
+        subst (λ (y : RunEnd). IfOk result (λ refused. RunEndsAs after.taken refused after.draws old now y))
+        (same_Some _ _ e) (ended_over after.taken after.draws now mid old result x (f x refl))

@@ -1,5 +1,7 @@
--- What a run begins with, by its words, by what the files stand for, and by what the clock and the source of random bytes will give.
-use Rattle.std.specs.Prelude.{ℕ, ◌≡◌, ◌≢◌, Bool, true, false, IsTrue, List, [], Option, Some, None, Result, Ok, Err, option_map}
+-- What a run begins with, by its words, by what the files stand for, and by what the clock and the source of random
+-- bytes will give.
+use Rattle.std.specs.Prelude.{ℕ, ◌≡◌, ◌≢◌, Bool, true, false, IsTrue, List, []}
+use Rattle.std.specs.Prelude.{Option, Some, None, Result, Ok, Err, option_map}
 use Rattle.first_rows.specs.Parts.{SpecParts}
 use Rattle.iprop_truths.specs.Parts.{end_of}
 use Rattle.dump_text.specs.Judged.{judged}
@@ -18,7 +20,8 @@ use Rattle.kadm_top.specs.Accounts.{texts_of}
 use Rattle.kadm_top.specs.declared.asking.Asking.{Asking}
 use Rattle.kadm_top.specs.declared.asking.Asking.TheVariants as asking
 use Rattle.kadm_top.specs.declared.words.Words.{Words}
-use Rattle.kadm_top.specs.declared.words.Words.TheVariants.{Admin, Create, Destroy, Generate, Keytab, Line, Load, Renew, Tell}
+use Rattle.kadm_top.specs.declared.words.Words.TheVariants.{Admin, Create, Destroy, Generate}
+use Rattle.kadm_top.specs.declared.words.Words.TheVariants.{Keytab, Line, Load, Renew, Tell}
 use Rattle.kadm_wire.specs.LineReadings.{words_answer}
 use Rattle.kdb_base.specs.Moment.{Moment}
 use Rattle.kdb_base.specs.declared.keys.Etype.{Etype}
@@ -63,12 +66,13 @@ pub data Renewing : Type 0 where
   Renewed : (renewal : Renewal) → Renewing
   Untold : (w : Wanted) → Renewing
 
--- A refusal, and what was taken before it. A database that is to be asked: the place that its files stand for, the places that its opening makes
--- (a log begun anew, or none), where it then is, and what alone it is asked, or none where that is the input. One that is to be loaded, and what
--- that comes to, as far as the input is told. One whose keys are to be added to a keytab: whether the input is read, and what is written, as far
--- as the input is told. One whose keys are made anew and added to a keytab: the same, and what is made. A keytab of which this is written, with no
--- database. A text that is to be told, of a database or of a script, and what was taken before it. A database that is to be made, or one that is to
--- be ended.
+-- A refusal, and what was taken before it. A database that is to be asked: the place that its files stand for, the
+-- places that its opening makes (a log begun anew, or none), where it then is, and what alone it is asked, or none
+-- where that is the input. One that is to be loaded, and what that comes to, as far as the input is told. One whose
+-- keys are to be added to a keytab: whether the input is read, and what is written, as far as the input is told. One
+-- whose keys are made anew and added to a keytab: the same, and what is made. A keytab of which this is written, with
+-- no database. A text that is to be told, of a database or of a script, and what was taken before it. A database that
+-- is to be made, or one that is to be ended.
 pub data Opening : Type 0 where
   Refuses : (why : Refusal) (drawn : Drawn) → Opening
   Opens : (begin : Place) (made : List Place) (at : Seen) (asked : Option Asked) → Opening
@@ -80,8 +84,10 @@ pub data Opening : Type 0 where
   Makes : (spec : SpecParts) → Opening
   Ends : Opening
 
--- It opens, at the clock's next moment: the stash opens the master keys, with which the state is seen, and a time is left for a log begun anew.
-pub record IsOpen (size : Option ℕ) (found : Result Found Refusal) (draws : Option Draws) (begin : Place) (made : List Place) (at : Seen) : Type 0 where
+-- It opens, at the clock's next moment: the stash opens the master keys, with which the state is seen, and a time is
+-- left for a log begun anew.
+pub record IsOpen (size : Option ℕ) (found : Result Found Refusal) (draws : Option Draws) (begin : Place)
+    (made : List Place) (at : Seen) : Type 0 where
   pub told : Draws
   pub draws_are : draws ≡ Some told
   pub files : Found
@@ -95,7 +101,8 @@ pub record IsOpen (size : Option ℕ) (found : Result Found Refusal) (draws : Op
   pub shows : ShowsAt at.place at.state
   pub masters_are : at.state.masters ≡ masters
 
--- What a database of this realm is asked: by the lines of the input, by this alone, or by a line of these words, which are read in its realm.
+-- What a database of this realm is asked: by the lines of the input, by this alone, or by a line of these words, which
+-- are read in its realm.
 abbrev pub asked_of : Asking → List ℕ → Option Asked
 asked_of asking.Input realm = None
 asked_of (asking.Line words) realm = Some (asked_by (words_answer realm words))
@@ -103,8 +110,10 @@ asked_of asking.ResetsLog realm = Some asks.ResetsLog
 
 -- it is refused at whatever moment, or opens to be asked this
 abbrev pub opens_for : Option ℕ → Asking → Result Found Refusal → Option Draws → Opening → Type 0
-opens_for size asking found draws (Refuses why drawn) = (drawn ≡ AMoment) × ((clock : Moment) → OpeningRefused found size clock why)
-opens_for size asking found draws (Opens begin made at its) = IsOpen size found draws begin made at × (its ≡ asked_of asking at.place.realm)
+opens_for size asking found draws (Refuses why drawn) =
+    (drawn ≡ AMoment) × ((clock : Moment) → OpeningRefused found size clock why)
+opens_for size asking found draws (Opens begin made at its) =
+    IsOpen size found draws begin made at × (its ≡ asked_of asking at.place.realm)
 opens_for size asking found draws (Loads begin made at what) = ⊥
 opens_for size asking found draws (Adds begin made at reads what) = ⊥
 opens_for size asking found draws (AddsNew begin made at reads what) = ⊥
@@ -125,14 +134,16 @@ pub record HasLoaded (left : Option (List ℕ)) (p : Place) (file : ℕ) (clock 
   pub is : LoadsAt left p file clock what
 
 -- it opens, and then the input is loaded, at the clock's moment behind the opening
-pub record IsLoading (left : Option (List ℕ)) (found : Result Found Refusal) (draws : Option Draws) (begin : Place) (made : List Place) (at : Seen)
+pub record IsLoading (left : Option (List ℕ)) (found : Result Found Refusal) (draws : Option Draws) (begin : Place)
+    (made : List Place) (at : Seen)
     (what : Option LoadEnd) : Type 0 where
   pub opens : IsOpen None found draws begin made at
   pub comes : LoadsAt left at.place opens.files.control.stash (moment_in (behind_moment opens.told)) what
 
 -- it is refused at whatever moment, or opens to be loaded
 abbrev pub loads_for : Option (List ℕ) → Result Found Refusal → Option Draws → Opening → Type 0
-loads_for left found draws (Refuses why drawn) = (drawn ≡ AMoment) × ((clock : Moment) → OpeningRefused found None clock why)
+loads_for left found draws (Refuses why drawn) =
+    (drawn ≡ AMoment) × ((clock : Moment) → OpeningRefused found None clock why)
 loads_for left found draws (Opens begin made at its) = ⊥
 loads_for left found draws (Loads begin made at what) = IsLoading left found draws begin made at what
 loads_for left found draws (Adds begin made at reads what) = ⊥
@@ -160,8 +171,8 @@ abbrev pub filters_for : NameParts → Which → Option (List ℕ) → Opening �
 filters_for name which left (Filters what) = AnswersTold (Answers (Removes name which)) left what
 filters_for name which left other = ⊥
 
--- The keys of the name, as the state has them, are added to the keytab that the input is. A word that is no name of the realm is refused, and
--- no input is read.
+-- The keys of the name, as the state has them, are added to the keytab that the input is. A word that is no name of the
+-- realm is refused, and no input is read.
 abbrev pub AddsBy : Result NameParts ℕ → State → Moment → Option (List ℕ) → Bool → Option Answer → Type 0
 AddsBy (Ok name) s clock left reads what = (reads ≡ true) × AnswersTold (Answers (AddsKeys s name clock)) left what
 AddsBy (Err offset) s clock left reads what = (reads ≡ false) × (what ≡ Some (refusal_answer (BadName offset)))
@@ -172,15 +183,18 @@ pub record HasAddition (name : Result NameParts ℕ) (s : State) (clock : Moment
   pub what : Option Answer
   pub is : AddsBy name s clock left reads what
 
--- it opens, and then the word is read in its realm; the time of the keys is that of the opening's moment, or of the last change
-pub record IsAdding (word : List ℕ) (left : Option (List ℕ)) (found : Result Found Refusal) (draws : Option Draws) (begin : Place) (made : List Place)
+-- it opens, and then the word is read in its realm; the time of the keys is that of the opening's moment, or of the
+-- last change
+pub record IsAdding (word : List ℕ) (left : Option (List ℕ)) (found : Result Found Refusal) (draws : Option Draws)
+    (begin : Place) (made : List Place)
     (at : Seen) (reads : Bool) (what : Option Answer) : Type 0 where
   pub opens : IsOpen None found draws begin made at
   pub comes : AddsBy (own_name_in word at.place.realm) at.state (moment_in opens.told) left reads what
 
 -- it is refused at whatever moment, or opens for its keys
 abbrev pub adds_for : List ℕ → Option (List ℕ) → Result Found Refusal → Option Draws → Opening → Type 0
-adds_for word left found draws (Refuses why drawn) = (drawn ≡ AMoment) × ((clock : Moment) → OpeningRefused found None clock why)
+adds_for word left found draws (Refuses why drawn) =
+    (drawn ≡ AMoment) × ((clock : Moment) → OpeningRefused found None clock why)
 adds_for word left found draws (Adds begin made at reads what) = IsAdding word left found draws begin made at reads what
 adds_for word left found draws (AddsNew begin made at reads what) = ⊥
 adds_for word left found draws (Opens begin made at its) = ⊥
@@ -198,32 +212,38 @@ RenewsTold w None draws at what = what ≡ Untold w
 RenewsTold w (Some text) draws at (Untold other) = ⊥
 RenewsTold w (Some text) draws at (Renewed renewal) = Renews w draws at text renewal
 
--- New keys of the name, of these types, are made and added to the keytab that the input is. A word that is no name of the realm is refused: no
--- input is read, and nothing is drawn.
+-- New keys of the name, of these types, are made and added to the keytab that the input is. A word that is no name of
+-- the realm is refused: no input is read, and nothing is drawn.
 abbrev pub RenewsBy : Result NameParts ℕ → List Etype → Option (List ℕ) → Draws → Seen → Bool → Renewing → Type 0
-RenewsBy (Ok name) etypes left draws at reads what = (reads ≡ true) × RenewsTold (wanted (local_client at.place.realm) name etypes) left draws at what
-RenewsBy (Err offset) etypes left draws at reads what = (reads ≡ false) × (what ≡ Renewed (no_renewal (BadName offset) draws at))
+RenewsBy (Ok name) etypes left draws at reads what =
+    (reads ≡ true) × RenewsTold (wanted (local_client at.place.realm) name etypes) left draws at what
+RenewsBy (Err offset) etypes left draws at reads what =
+    (reads ≡ false) × (what ≡ Renewed (no_renewal (BadName offset) draws at))
 
 -- there is such a run
 pub record HasRenewal (w : Wanted) (left : Option (List ℕ)) (draws : Draws) (at : Seen) : Type 0 where
   pub what : Renewing
   pub is : RenewsTold w left draws at what
 
-pub record HasRenewalBy (name : Result NameParts ℕ) (etypes : List Etype) (left : Option (List ℕ)) (draws : Draws) (at : Seen) : Type 0 where
+pub record HasRenewalBy (name : Result NameParts ℕ) (etypes : List Etype) (left : Option (List ℕ)) (draws : Draws)
+    (at : Seen) : Type 0 where
   pub reads : Bool
   pub what : Renewing
   pub is : RenewsBy name etypes left draws at reads what
 
 -- it opens, and then the word is read in its realm; what is drawn comes behind the opening's moment
-pub record IsAddingNew (word : List ℕ) (etypes : List Etype) (left : Option (List ℕ)) (found : Result Found Refusal) (draws : Option Draws) (begin : Place)
+pub record IsAddingNew (word : List ℕ) (etypes : List Etype) (left : Option (List ℕ)) (found : Result Found Refusal)
+    (draws : Option Draws) (begin : Place)
     (made : List Place) (at : Seen) (reads : Bool) (what : Renewing) : Type 0 where
   pub opens : IsOpen None found draws begin made at
   pub comes : RenewsBy (own_name_in word at.place.realm) etypes left (behind_moment opens.told) at reads what
 
 -- it is refused at whatever moment, or opens for its new keys
 abbrev pub adds_new_for : List ℕ → List Etype → Option (List ℕ) → Result Found Refusal → Option Draws → Opening → Type 0
-adds_new_for word etypes left found draws (Refuses why drawn) = (drawn ≡ AMoment) × ((clock : Moment) → OpeningRefused found None clock why)
-adds_new_for word etypes left found draws (AddsNew begin made at reads what) = IsAddingNew word etypes left found draws begin made at reads what
+adds_new_for word etypes left found draws (Refuses why drawn) =
+    (drawn ≡ AMoment) × ((clock : Moment) → OpeningRefused found None clock why)
+adds_new_for word etypes left found draws (AddsNew begin made at reads what) =
+    IsAddingNew word etypes left found draws begin made at reads what
 adds_new_for word etypes left found draws (Opens begin made at its) = ⊥
 adds_new_for word etypes left found draws (Loads begin made at what) = ⊥
 adds_new_for word etypes left found draws (Adds begin made at reads what) = ⊥
@@ -269,11 +289,13 @@ IsOpening (Ok (Create spec)) left files draws o = o ≡ create_of spec (in_force
 IsOpening (Ok Destroy) left files draws o = o ≡ destroy_of (in_force (files 0))
 
 -- there is such an opening
-pub record HasOpening (words : Result Words Refusal) (left : Option (List ℕ)) (files : Files) (draws : Option Draws) : Type 0 where
+pub record HasOpening (words : Result Words Refusal) (left : Option (List ℕ)) (files : Files)
+    (draws : Option Draws) : Type 0 where
   pub opening : Opening
   pub is : IsOpening words left files draws opening
 
-pub record HasOpeningFor (size : Option ℕ) (asking : Asking) (found : Result Found Refusal) (draws : Option Draws) : Type 0 where
+pub record HasOpeningFor (size : Option ℕ) (asking : Asking) (found : Result Found Refusal)
+    (draws : Option Draws) : Type 0 where
   pub opening : Opening
   pub is : opens_for size asking found draws opening
 
@@ -281,15 +303,18 @@ pub record HasLoading (left : Option (List ℕ)) (found : Result Found Refusal) 
   pub opening : Opening
   pub is : loads_for left found draws opening
 
-pub record HasAdding (word : List ℕ) (left : Option (List ℕ)) (found : Result Found Refusal) (draws : Option Draws) : Type 0 where
+pub record HasAdding (word : List ℕ) (left : Option (List ℕ)) (found : Result Found Refusal)
+    (draws : Option Draws) : Type 0 where
   pub opening : Opening
   pub is : adds_for word left found draws opening
 
-pub record HasAddingNew (word : List ℕ) (etypes : List Etype) (left : Option (List ℕ)) (found : Result Found Refusal) (draws : Option Draws) : Type 0 where
+pub record HasAddingNew (word : List ℕ) (etypes : List Etype) (left : Option (List ℕ)) (found : Result Found Refusal)
+    (draws : Option Draws) : Type 0 where
   pub opening : Opening
   pub is : adds_new_for word etypes left found draws opening
 
-pub record HasKeytab (words : KeytabWords) (left : Option (List ℕ)) (found : Result Found Refusal) (draws : Option Draws) : Type 0 where
+pub record HasKeytab (words : KeytabWords) (left : Option (List ℕ)) (found : Result Found Refusal)
+    (draws : Option Draws) : Type 0 where
   pub opening : Opening
   pub is : keytab_for words left found draws opening
 
@@ -327,7 +352,8 @@ OpensDatabase (Remove name which) = ⊥
 OpensDatabase (AddStanding word) = Unit {0}
 OpensDatabase (AddRenewed word etypes) = Unit {0}
 
--- by the words, a database is looked at or made: they are not refused, and neither make a script nor take entries out of a keytab
+-- by the words, a database is looked at or made: they are not refused, and neither make a script nor take entries out
+-- of a keytab
 abbrev pub NeedsDatabase : Result Words Refusal → Type 0
 NeedsDatabase (Err refusal) = ⊥
 NeedsDatabase (Ok (Generate script)) = ⊥

@@ -1,5 +1,6 @@
 -- A whole run of the program, from its opening on: how it ends, where it may stop early, and what a crash may leave.
-use Rattle.std.specs.Prelude.{ℕ, ◌≡◌, ◌≤◌, ◌⊎◌, Bool, true, false, List, [], ◌∷◌, codes, Option, Some, None, Result, Ok, IfErr, IfOk, OnErr, OnOk, option_map, ⊤}
+use Rattle.std.specs.Prelude.{ℕ, ◌≡◌, ◌≤◌, ◌⊎◌, Bool, true, false, List, [], ◌∷◌, codes, Option}
+use Rattle.std.specs.Prelude.{Some, None, Result, Ok, IfErr, IfOk, OnErr, OnOk, option_map, ⊤}
 use Rattle.first_rows.specs.Creation.{first_point}
 use Rattle.first_rows.specs.Parts.{SpecParts}
 use Rattle.kadm_commands.specs.declared.replies.Reply.TheVariants.{Done, Refused}
@@ -8,16 +9,19 @@ use Rattle.kadm_keytabs.specs.declared.answers.Answer.{Answer}
 use Rattle.kadm_lines.specs.Lines.{seen_lines}
 use Rattle.kadm_loading.specs.Halts.{SparesOutput}
 use Rattle.session_base.specs.Wholes.{IsReadWhole}
-use Rattle.kadm_loading.specs.Loads.{LeavesSome, LoadEnd, is_refused, load_reply, load_stage, place_loaded, places_loaded}
+use Rattle.kadm_loading.specs.Loads.{LeavesSome, LoadEnd, is_refused, load_reply}
+use Rattle.kadm_loading.specs.Loads.{load_stage, place_loaded, places_loaded}
 use Rattle.kadm_replies.specs.Replies.{reply_text}
-use Rattle.kadm_session.specs.Courses.{Course, Ending, IsAtRest, Leaves, Stops, course, ending, lines_begun, nothing_begun}
+use Rattle.kadm_session.specs.Courses.{Course, Ending, IsAtRest, Leaves, Stops}
+use Rattle.kadm_session.specs.Courses.{course, ending, lines_begun, nothing_begun}
 use Rattle.session_base.specs.Stages.{IsStopped, StopsAt}
 use Rattle.session_base.specs.Draws.{Draws, behind_command, behind_moment, block_in, moment_in}
 use Rattle.kadm_session.specs.Input.{commands_in}
 use Rattle.kadm_session.specs.declared.intake.Asked.{Asked}
 use Rattle.session_base.specs.declared.halts.SessionHalt.{SessionHalt}
 use Rattle.session_base.specs.declared.halts.SessionHalt.TheVariants.{MemoryOut}
-use Rattle.kadm_top.specs.Openings.{Adds, AddsNew, AMoment, ABlock, Drawn, Ends, Filters, Loads, Makes, NoDraw, Opening, Opens, ReadsInput, Refuses, Renewed, Renewing, Tells, Untold, behind}
+use Rattle.kadm_top.specs.Openings.{Adds, AddsNew, AMoment, ABlock, Drawn, Ends, Filters, Loads, Makes, NoDraw}
+use Rattle.kadm_top.specs.Openings.{Opening, Opens, ReadsInput, Refuses, Renewed, Renewing, Tells, Untold, behind}
 use Rattle.kdb_base.specs.Moment.{Moment}
 use Rattle.kdb_base.specs.declared.outcomes.Refusal.{Refusal}
 use Rattle.kdb_control.specs.Moments.{HasInForce}
@@ -88,7 +92,8 @@ IfTold (Some x) P = P x
 abbrev pub AreDrawn : Option Draws → Moment → List ℕ → Type 0
 AreDrawn draws now random = IfTold draws (λ told. (now ≡ moment_in told) × (random ≡ block_in told))
 
--- Each file reads as before. An opening has looked at more than that: there a crash leaves what stands for what an image of before did.
+-- Each file reads as before. An opening has looked at more than that: there a crash leaves what stands for what an
+-- image of before did.
 abbrev pub IsSame : Drawn → View → View → Type 0
 IsSame AMoment old now = LeavesOnly old now (IsLike old)
 IsSame NoDraw old now = Keeps old now
@@ -96,8 +101,8 @@ IsSame ABlock old now = Keeps old now
 
 -- ---- how it ends where nothing fails
 
--- Files that were opened: whatever a crash leaves now recovers to what they recovered to, and at each moment before it left what stood for what
--- an image of before did.
+-- Files that were opened: whatever a crash leaves now recovers to what they recovered to, and at each moment before it
+-- left what stood for what an image of before did.
 pub record StaysRead (old now : View) : Type 0 where
   pub stays : RecoversAs old.seen now
   pub leaves : LeavesOnly old now (IsLike old)
@@ -113,8 +118,8 @@ pub record IsErased (now : View) : Type 0 where
   pub none : RecoversToNone now
   pub empty : (file : ℕ) → 1 ≤ file → file ≤ 6 → now.seen file ≡ []
 
--- Whatever a crash leaves recovers to the place of the creation. Its files are the first of each kind, at the first turn, and the rows stand one
--- behind the other from unit 1 on, in their order.
+-- Whatever a crash leaves recovers to the place of the creation. Its files are the first of each kind, at the first
+-- turn, and the rows stand one behind the other from unit 1 on, in their order.
 pub record IsMade (spec : SpecParts) (moment : Moment) (random : List ℕ) (now : View) : Type 0 where
   pub place : RecoversTo (first_place spec moment random) now
   pub control : HasInForce (Is (first_control spec moment)) now
@@ -145,7 +150,8 @@ Stands (Made spec draws) old now = IsMade spec (moment_in draws) (block_in draws
 Stands (Shown at) old now = StandsShown at now
 Stands Gone old now = IsErased now
 
--- the bytes in the sink, whether a refusal was written, the disk, and what the clock and the source of random bytes have left
+-- the bytes in the sink, whether a refusal was written, the disk, and what the clock and the source of random bytes
+-- have left
 pub record RunEnd : Type 0 where
   pub out : Option (List ℕ)
   pub refused : Bool
@@ -156,7 +162,12 @@ abbrev pub end_opened : Ending → RunEnd
 end_opened end = record { out = end.out; refused = end.refused; disk = Shown end.at; draws = Some end.draws }
 
 abbrev pub end_made : SpecParts → Option (List ℕ) → Draws → RunEnd
-end_made spec taken draws = record { out = after_told taken (made_line draws); refused = false; disk = Made spec draws; draws = Some (behind_command draws) }
+end_made spec taken draws = record {
+  out = after_told taken (made_line draws);
+  refused = false;
+  disk = Made spec draws;
+  draws = Some (behind_command draws);
+}
 
 -- of a load from this place, at the next of these moments
 abbrev pub load_end : Option LoadEnd → Option Draws → Place → Option (List ℕ) → Option RunEnd
@@ -172,7 +183,8 @@ load_end (Some end) (Some draws) p taken = Some (record {
 -- of a keytab
 abbrev pub keytab_end : Option Answer → Option (List ℕ) → Standing → Option Draws → Option RunEnd
 keytab_end None taken disk draws = None
-keytab_end (Some answer) taken disk draws = Some (record { out = after_told taken answer.text; refused = answer.refused; disk = disk; draws = draws })
+keytab_end (Some answer) taken disk draws =
+    Some (record { out = after_told taken answer.text; refused = answer.refused; disk = disk; draws = draws })
 
 -- of one with new keys
 abbrev pub renewed_end : Renewing → Option (List ℕ) → Option RunEnd
@@ -186,17 +198,29 @@ renewed_end (Renewed renewal) taken = Some (record {
 
 -- as far as it is told
 abbrev pub run_end : Opening → Told → Option RunEnd
-run_end (Refuses why drawn) before = Some (record { out = after_told before.taken (refusal_line why); refused = true; disk = Same drawn; draws = behind drawn before.draws })
+run_end (Refuses why drawn) before = Some (record {
+  out = after_told before.taken (refusal_line why);
+  refused = true;
+  disk = Same drawn;
+  draws = behind drawn before.draws;
+})
 run_end (Opens begin made at asked) before = option_map end_opened (ending (course_behind asked before at))
 run_end (Loads begin made at what) before = load_end what (behind AMoment before.draws) at.place before.taken
 run_end (Adds begin made at reads what) before = keytab_end what before.taken (Shown at) (behind AMoment before.draws)
 run_end (AddsNew begin made at reads what) before = renewed_end what before.taken
 run_end (Filters what) before = keytab_end what before.taken (Same NoDraw) before.draws
-run_end (Tells text drawn) before = Some (record { out = after_told before.taken text; refused = false; disk = Same drawn; draws = behind drawn before.draws })
+run_end (Tells text drawn) before = Some (record {
+  out = after_told before.taken text;
+  refused = false;
+  disk = Same drawn;
+  draws = behind drawn before.draws;
+})
 run_end (Makes spec) before = option_map (end_made spec before.taken) before.draws
-run_end Ends before = Some (record { out = after_told before.taken ended_text; refused = false; disk = Gone; draws = before.draws })
+run_end Ends before =
+    Some (record { out = after_told before.taken ended_text; refused = false; disk = Gone; draws = before.draws })
 
-pub record RunEndsAs (out : Option (List ℕ)) (refused : Bool) (draws : Option Draws) (old now : View) (end : RunEnd) : Type 0 where
+pub record RunEndsAs (out : Option (List ℕ)) (refused : Bool) (draws : Option Draws) (old now : View)
+    (end : RunEnd) : Type 0 where
   pub out_is : out ≡ end.out
   pub refused_is : refused ≡ end.refused
   pub stands : Stands end.disk old now
@@ -212,8 +236,8 @@ pub record LeavesAll (P : Files → Type 0) (now : View) : Type 0 where
 abbrev pub OpensPart : View → Place → List Place → Files → Type 0
 OpensPart old begin made c = IsLike old c ⊎ LeavesPart begin made c
 
--- while one is made: nothing was written, and the files stand for what they stood for, for none, or for the one that is made; or a part of the
--- answer was, and that alone stands
+-- while one is made: nothing was written, and the files stand for what they stood for, for none, or for the one that is
+-- made; or a part of the answer was, and that alone stands
 abbrev pub MakesStop : SpecParts → View → Option (List ℕ) → Draws → Option (List ℕ) → View → Type 0
 MakesStop spec old taken draws out now =
     ((out ≡ taken) × LeavesAll (Creates old (place_made spec draws)) now)
@@ -236,20 +260,24 @@ abbrev pub IsFront : Option Answer → Option (List ℕ) → Option (List ℕ) �
 IsFront None taken out = ⊤
 IsFront (Some answer) taken out = SaidPart answer.text taken out
 
--- while keys are made anew and written: nothing was written, and a crash leaves the place before or one that is made; or a part was, and then
--- the last place alone
+-- while keys are made anew and written: nothing was written, and a crash leaves the place before or one that is made;
+-- or a part was, and then the last place alone
 abbrev pub RenewedStops : Renewing → Place → Option (List ℕ) → Option (List ℕ) → View → Type 0
 RenewedStops (Untold w) p taken out now = ⊤
-RenewedStops (Renewed renewal) p taken out now = IsStopped (StopsAt taken renewal.answer.text p renewal.made renewal.later.place) out now
+RenewedStops (Renewed renewal) p taken out now =
+    IsStopped (StopsAt taken renewal.answer.text p renewal.made renewal.later.place) out now
 
 abbrev pub RunStops : Opening → View → Told → Option (List ℕ) → View → Type 0
 RunStops (Refuses why drawn) old before out now = SaidPart (refusal_line why) before.taken out × IsSame drawn old now
 RunStops (Opens begin made at asked) old before out now =
-    IsStopped (Stops (course_behind asked before at)) out now ⊎ ((out ≡ before.taken) × LeavesAll (OpensPart old begin made) now)
+    IsStopped (Stops (course_behind asked before at)) out now
+    ⊎ ((out ≡ before.taken) × LeavesAll (OpensPart old begin made) now)
 RunStops (Loads begin made at what) old before out now =
-    LoadStops what (behind AMoment before.draws) at.place before.taken out now ⊎ ((out ≡ before.taken) × LeavesAll (OpensPart old begin made) now)
+    LoadStops what (behind AMoment before.draws) at.place before.taken out now
+    ⊎ ((out ≡ before.taken) × LeavesAll (OpensPart old begin made) now)
 RunStops (Adds begin made at reads what) old before out now =
-    (IsFront what before.taken out × RecoversTo at.place now) ⊎ ((out ≡ before.taken) × LeavesAll (OpensPart old begin made) now)
+    (IsFront what before.taken out × RecoversTo at.place now)
+    ⊎ ((out ≡ before.taken) × LeavesAll (OpensPart old begin made) now)
 RunStops (AddsNew begin made at reads what) old before out now =
     RenewedStops what at.place before.taken out now ⊎ ((out ≡ before.taken) × LeavesAll (OpensPart old begin made) now)
 RunStops (Filters what) old before out now = IsFront what before.taken out × IsSame NoDraw old now
@@ -262,15 +290,19 @@ abbrev pub begun_at : SessionHalt → List Asked → Place → List ℕ
 begun_at MemoryOut = lines_begun
 begun_at other = nothing_begun
 
--- There the first so many lines were done and are answered in full, or nothing was written, and no more was done than an opening does. Of a
--- text that is told, and of what may be written of a next line, a front may have been written.
+-- There the first so many lines were done and are answered in full, or nothing was written, and no more was done than
+-- an opening does. Of a text that is told, and of what may be written of a next line, a front may have been written.
 abbrev pub RunRests : (List Asked → Place → List ℕ) → Opening → View → Told → Option (List ℕ) → View → Type 0
 RunRests begun (Refuses why drawn) old before out now = (out ≡ before.taken) × IsSame drawn old now
 RunRests begun (Opens begin made at asked) old before out now =
-    IsAtRest begun (course_behind asked before at) out now ⊎ ((out ≡ before.taken) × LeavesAll (OpensPart old begin made) now)
-RunRests begun (Loads begin made at what) old before out now = (out ≡ before.taken) × LeavesAll (OpensPart old begin made) now
-RunRests begun (Adds begin made at reads what) old before out now = (out ≡ before.taken) × LeavesAll (OpensPart old begin made) now
-RunRests begun (AddsNew begin made at reads what) old before out now = (out ≡ before.taken) × LeavesAll (OpensPart old begin made) now
+    IsAtRest begun (course_behind asked before at) out now
+    ⊎ ((out ≡ before.taken) × LeavesAll (OpensPart old begin made) now)
+RunRests begun (Loads begin made at what) old before out now =
+    (out ≡ before.taken) × LeavesAll (OpensPart old begin made) now
+RunRests begun (Adds begin made at reads what) old before out now =
+    (out ≡ before.taken) × LeavesAll (OpensPart old begin made) now
+RunRests begun (AddsNew begin made at reads what) old before out now =
+    (out ≡ before.taken) × LeavesAll (OpensPart old begin made) now
 RunRests begun (Filters what) old before out now = (out ≡ before.taken) × IsSame NoDraw old now
 RunRests begun (Tells text drawn) old before out now = SaidPart text before.taken out × IsSame drawn old now
 RunRests begun (Makes spec) old before out now = (out ≡ before.taken) × Keeps old now
@@ -278,24 +310,28 @@ RunRests begun Ends old before out now = (out ≡ before.taken) × Keeps old now
 
 -- ---- what a crash may leave at any moment of it
 
--- while a database is loaded: the place before or the loaded one, and where the input is not told, the place before or that with other rows
+-- while a database is loaded: the place before or the loaded one, and where the input is not told, the place before or
+-- that with other rows
 abbrev pub LoadLeaves : Option LoadEnd → Option Draws → Place → Files → Type 0
 LoadLeaves None draws p c = LeavesSome p c
 LoadLeaves (Some end) None p c = LeavesSome p c
 LoadLeaves (Some end) (Some draws) p c = LeavesPart p (places_loaded end (moment_in draws) p) c
 
--- while keys are made anew: the place before, or one that is made, and then the command is an event of the primary's history; where the input is
--- not told, the command for what is wanted, at some moment and with some random bytes
+-- while keys are made anew: the place before, or one that is made, and then the command is an event of the primary's
+-- history; where the input is not told, the command for what is wanted, at some moment and with some random bytes
 abbrev pub RenewedLeaves : Renewing → Seen → Files → Type 0
 RenewedLeaves (Untold w) at c = LeavesOfCommand w at c
-RenewedLeaves (Renewed renewal) at c = (recovers c ≡ Ok at.place) ⊎ (WasDone renewal.asked renewal.from × LeavesPart at.place renewal.made c)
+RenewedLeaves (Renewed renewal) at c =
+    (recovers c ≡ Ok at.place) ⊎ (WasDone renewal.asked renewal.from × LeavesPart at.place renewal.made c)
 
--- what an image of before stood for, a place of the opening, of the input's course or of a load, or nothing while a database is made or once
--- its end has begun
+-- what an image of before stood for, a place of the opening, of the input's course or of a load, or nothing while a
+-- database is made or once its end has begun
 abbrev pub RunLeaves : Opening → View → Told → Files → Type 0
 RunLeaves (Refuses why drawn) old before c = IsLike old c
-RunLeaves (Opens begin made at asked) old before c = OpensPart old begin made c ⊎ Leaves (course_behind asked before at) c
-RunLeaves (Loads begin made at what) old before c = OpensPart old begin made c ⊎ LoadLeaves what (behind AMoment before.draws) at.place c
+RunLeaves (Opens begin made at asked) old before c =
+    OpensPart old begin made c ⊎ Leaves (course_behind asked before at) c
+RunLeaves (Loads begin made at what) old before c =
+    OpensPart old begin made c ⊎ LoadLeaves what (behind AMoment before.draws) at.place c
 RunLeaves (Adds begin made at reads what) old before c = OpensPart old begin made c
 RunLeaves (AddsNew begin made at reads what) old before c = OpensPart old begin made c ⊎ RenewedLeaves what at c
 RunLeaves (Filters what) old before c = IsLike old c
@@ -307,7 +343,8 @@ RunLeaves Ends old before c = Destroys old c
 
 -- What the course of an input comes to, over a database that is open: it was read to its end, or the run was stopped.
 pub record HasCourse (c : Course) (old now : View) (after : Told) (result : Result Bool SessionHalt) : Type 0 where
-  pub ended : (end : Ending) → ending c ≡ Some end → IfOk result (λ refused. RunEndsAs after.taken refused after.draws old now (end_opened end))
+  pub ended : (end : Ending) → ending c ≡ Some end
+      → IfOk result (λ refused. RunEndsAs after.taken refused after.draws old now (end_opened end))
   pub stopped : OnErr result (IsStopped (Stops c) after.taken now)
   pub rests : IfErr result (λ halt. SparesOutput halt → IsAtRest (begun_at halt) c after.taken now)
   pub moments : LeavesOnly old now (Leaves c)
@@ -323,14 +360,18 @@ pub record HasLoad (what : Option LoadEnd) (draws : Option Draws) (p : Place) (o
   pub read : OnOk result (IsReadWhole before.left after.left)
 
 -- What is written of a keytab, whatever comes of the disk.
-pub record HasWritten (what : Option Answer) (taken out : Option (List ℕ)) (result : Result Bool SessionHalt) : Type 0 where
-  pub ended : (answer : Answer) → what ≡ Some answer → IfOk result (λ refused. (out ≡ after_told taken answer.text) × (refused ≡ answer.refused))
+pub record HasWritten (what : Option Answer) (taken out : Option (List ℕ))
+    (result : Result Bool SessionHalt) : Type 0 where
+  pub ended : (answer : Answer) → what ≡ Some answer
+      → IfOk result (λ refused. (out ≡ after_told taken answer.text) × (refused ≡ answer.refused))
   pub stopped : OnErr result (IsFront what taken out)
   pub rests : IfErr result (λ halt. SparesOutput halt → out ≡ taken)
 
 -- What keys made anew and written come to, over a database that is open at this place, whose rows show this state.
-pub record HasRenewed (what : Renewing) (at : Seen) (old now : View) (taken out : Option (List ℕ)) (draws : Option Draws) (result : Result Bool SessionHalt) : Type 0 where
-  pub ended : (end : RunEnd) → renewed_end what taken ≡ Some end → IfOk result (λ refused. RunEndsAs out refused draws old now end)
+pub record HasRenewed (what : Renewing) (at : Seen) (old now : View) (taken out : Option (List ℕ))
+    (draws : Option Draws) (result : Result Bool SessionHalt) : Type 0 where
+  pub ended : (end : RunEnd) → renewed_end what taken ≡ Some end
+      → IfOk result (λ refused. RunEndsAs out refused draws old now end)
   pub stopped : OnErr result (RenewedStops what at.place taken out now)
   pub rests : IfErr result (λ halt. SparesOutput halt → (out ≡ taken) × RecoversTo at.place now)
   pub moments : LeavesOnly old now (RenewedLeaves what at)
@@ -338,7 +379,8 @@ pub record HasRenewed (what : Renewing) (at : Seen) (old now : View) (taken out 
 -- What a run comes to from its opening on: it went through, and says whether a refusal was written, or it was stopped.
 pub record HasRun (o : Opening) (old now : View) (before after : Told) (result : Result Bool SessionHalt) : Type 0 where
   -- where nothing fails, as far as it is told
-  pub ended : (end : RunEnd) → run_end o before ≡ Some end → IfOk result (λ refused. RunEndsAs after.taken refused after.draws old now end)
+  pub ended : (end : RunEnd) → run_end o before ≡ Some end
+      → IfOk result (λ refused. RunEndsAs after.taken refused after.draws old now end)
   -- where it stopped early, and where it did so though neither the sink nor the disk failed
   pub stopped : OnErr result (RunStops o old before after.taken now)
   pub rests : IfErr result (λ halt. SparesOutput halt → RunRests (begun_at halt) o old before after.taken now)

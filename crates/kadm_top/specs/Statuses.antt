@@ -99,17 +99,20 @@ pub record StatusHasCauses (before now : Faults) (result : Status) : Type 0 wher
 
 -- What a run comes to from its opening on, where the disk tells its content.
 pub record IsRun (o : Opening) (old now : View) (before after : Told) (result : Status) : Type 0 where
-  -- Where nothing fails, as far as it is told: the bytes are the replies, the status says whether a refusal is among them, and a crash afterwards
-  -- leaves the last place, or all as it was where the opening was refused.
-  pub ended : (end : RunEnd) → run_end o before ≡ Some end → OnEnd result (λ refused. RunEndsAs after.taken refused after.draws old now end)
-  -- Where it stopped early: the bytes are a front of the replies, and a crash leaves the place after some of the lines, among them each of which
-  -- a byte was answered, or one that the next line makes, or no more was done than an opening does.
+  -- Where nothing fails, as far as it is told: the bytes are the replies, the status says whether a refusal is among
+  -- them, and a crash afterwards leaves the last place, or all as it was where the opening was refused.
+  pub ended : (end : RunEnd) → run_end o before ≡ Some end
+      → OnEnd result (λ refused. RunEndsAs after.taken refused after.draws old now end)
+  -- Where it stopped early: the bytes are a front of the replies, and a crash leaves the place after some of the lines,
+  -- among them each of which a byte was answered, or one that the next line makes, or no more was done than an opening
+  -- does.
   pub stopped : OnStop result (RunStops o old before after.taken now)
-  -- Where neither the sink nor the disk failed: the replies to so many lines are written in full, and a crash leaves the place after them, or of a
-  -- next line that rekeys many the place behind some of these. Where memory was short, a front of the dump may be written for which a next line asks.
+  -- Where neither the sink nor the disk failed: the replies to so many lines are written in full, and a crash leaves
+  -- the place after them, or of a next line that rekeys many the place behind some of these. Where memory was short, a
+  -- front of the dump may be written for which a next line asks.
   pub rests : OnRest result (RunRests (begun_by result) o old before after.taken now)
-  -- A crash at any moment of it leaves files like those that one would have left before it, or a place of the run, or no database while one is
-  -- made or once its end has begun.
+  -- A crash at any moment of it leaves files like those that one would have left before it, or a place of the run, or
+  -- no database while one is made or once its end has begun.
   pub moments : LeavesOnly old now (RunLeaves o old before)
   -- An input that a database was opened for was read to its end.
   pub read : ReadsInput o → OnEnd result (λ _. IsReadWhole before.left after.left)

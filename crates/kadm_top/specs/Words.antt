@@ -1,5 +1,6 @@
 -- What the words of a run ask for.
-use Rattle.std.specs.Prelude.{ℕ, ◌≤◌, ◌&&◌, ◌||◌, List, [], ◌∷◌, Bool, true, false, codes, Option, Some, None, Result, Ok, Err, IfSome, unwrap_or, if◌then◌else◌}
+use Rattle.std.specs.Prelude.{ℕ, ◌≤◌, ◌&&◌, ◌||◌, List, [], ◌∷◌, Bool, true, false, codes, Option}
+use Rattle.std.specs.Prelude.{Some, None, Result, Ok, Err, IfSome, unwrap_or, if◌then◌else◌}
 use Rattle.std.specs.Option.{option_and_then}
 use Rattle.std.specs.Str.{bytes_eq}
 use Rattle.first_rows.specs.Parts.{SpecParts}
@@ -14,7 +15,8 @@ use Rattle.kadm_top.specs.declared.alone.TheConstants.{USAGE, VERSION}
 use Rattle.kadm_top.specs.declared.words.Account.{Account}
 use Rattle.kadm_top.specs.declared.words.Account.TheVariants.{Dump, Log, Report}
 use Rattle.kadm_top.specs.declared.words.Words.{Words}
-use Rattle.kadm_top.specs.declared.words.Words.TheVariants.{Admin, Create, Destroy, Generate, Keytab, Line, Load, Renew, Tell}
+use Rattle.kadm_top.specs.declared.words.Words.TheVariants.{Admin, Create, Destroy, Generate}
+use Rattle.kadm_top.specs.declared.words.Words.TheVariants.{Keytab, Line, Load, Renew, Tell}
 use Rattle.kadm_values.specs.EtypeWords.{etype_named}
 use Rattle.kadm_commands.specs.declared.commands.Command.{Command}
 use Rattle.kadm_wire.specs.LineReadings.{words_answer}
@@ -84,8 +86,9 @@ abbrev pub unless_bad : Option Field → Words → Result Words Refusal
 unless_bad None words = Ok words
 unless_bad (Some field) words = Err (BadValue field)
 
--- ---- the commands: `admin [-ulogsize N]`, `create REALM [-P PASS] [-e ETYPE] [-ulogsize N]`, `destroy [-f]`, `dump`, `load`, `kproplog`,
--- `kproplog -R`, `report KIND`, `ktadd`, `ktremove`, `generate SEED COUNT`, and the lines of master keys
+-- ---- the commands: `admin [-ulogsize N]`, `create REALM [-P PASS] [-e ETYPE] [-ulogsize N]`, `destroy [-f]`, `dump`,
+-- `load`, `kproplog`, `kproplog -R`, `report KIND`, `ktadd`, `ktremove`, `generate SEED COUNT`, and the lines of master
+-- keys
 
 abbrev pub admin_by : Option (List Given) → Result Words Refusal
 admin_by None = Err BadLine
@@ -94,7 +97,8 @@ admin_by (Some options) = unless_bad (first_bad_in options) (Admin (size_given o
 -- the realm is judged before the options
 abbrev pub create_by : List ℕ → Option (List Given) → Result Words Refusal
 create_by realm None = Err BadLine
-create_by realm (Some options) = if is_realm realm then unless_bad (first_bad_in options) (Create (spec_of realm options)) else Err (BadValue field.Realm)
+create_by realm (Some options) = if is_realm realm
+    then unless_bad (first_bad_in options) (Create (spec_of realm options)) else Err (BadValue field.Realm)
 
 -- the realm stands directly behind the command, whatever it is
 abbrev pub create_in : List (List ℕ) → Result Words Refusal
@@ -116,7 +120,8 @@ renew_by false = Err BadLine
 -- with `-R` alone the log is begun anew, else it is told
 unfoldable pub log_in : List (List ℕ) → Result Words Refusal
 log_in [] = tell_by Log (options_alone [] [])
-log_in (word ∷ words) = if bytes_eq word (codes "-R") then renew_by (no_more words) else tell_by Log (options_alone [] (word ∷ words))
+log_in (word ∷ words) =
+    if bytes_eq word (codes "-R") then renew_by (no_more words) else tell_by Log (options_alone [] (word ∷ words))
 
 -- what a report tells of
 unfoldable pub kind_named : List ℕ → Option ReportKind
@@ -154,9 +159,11 @@ generate_by (Err refusal) = Err refusal
 unfoldable pub is_line_word : List ℕ → Bool
 is_line_word word =
     bytes_eq word (codes "add_mkey") || bytes_eq word (codes "use_mkey") || bytes_eq word (codes "list_mkeys")
-    || bytes_eq word (codes "purge_mkeys") || bytes_eq word (codes "stash") || bytes_eq word (codes "update_princ_encryption")
+    || bytes_eq word (codes "purge_mkeys") || bytes_eq word (codes "stash")
+    || bytes_eq word (codes "update_princ_encryption")
 
--- The words of a line that is read in no realm, or why it is refused there. In the realm of the database it is read again.
+-- The words of a line that is read in no realm, or why it is refused there. In the realm of the database it is read
+-- again.
 abbrev pub line_refusal : Result (Option Command) Refusal → Option Refusal
 line_refusal (Ok (Some command)) = None
 line_refusal (Ok None) = Some BadLine
@@ -186,7 +193,8 @@ words_behind word words =
 -- what the words ask for, or why they are refused: they are not of the grammar, or a value is bad
 unfoldable pub words_in : List (List ℕ) → Result Words Refusal
 words_in [] = Err BadLine
-words_in (word ∷ words) = if is_line_word word then line_by (word ∷ words) (words_answer [] (word ∷ words)) else words_behind word words
+words_in (word ∷ words) = if is_line_word word then line_by (word ∷ words) (words_answer [] (word ∷ words))
+    else words_behind word words
 
 -- the size of a log is one that a log may have, and a name that is a word still is no longer than a line
 abbrev pub AreSized : Result Words Refusal → Type 0
@@ -199,7 +207,8 @@ AreSized (Err refusal) = Unit {0}
 
 -- the text that a word asks for where it stands alone
 abbrev pub text_for : List ℕ → Option (List ℕ)
-text_for word = if bytes_eq word (codes "--help") then Some USAGE.now else if bytes_eq word (codes "--version") then Some VERSION.now else None
+text_for word = if bytes_eq word (codes "--help") then Some USAGE.now else if bytes_eq word (codes "--version")
+    then Some VERSION.now else None
 
 -- what the only word asks for
 unfoldable pub alone_text : List (List ℕ) → Option (List ℕ)

@@ -86,8 +86,10 @@ fn say_report<K: Sink>(
     moment: Time,
     sink: &mut K,
 ) -> Result<(), SessionHalt>
-    ensures ok { OnOk result (K.taken sink.new ≡ after_told (K.taken sink.old) (report_at kind moment.secs (place_kept database.now))) }
-    ensures err { OnErr result (SaidPart (report_at kind moment.secs (place_kept database.now)) (K.taken sink.old) (K.taken sink.new)) }
+    ensures ok { OnOk result
+        (K.taken sink.new ≡ after_told (K.taken sink.old) (report_at kind moment.secs (place_kept database.now))) }
+    ensures err { OnErr result
+        (SaidPart (report_at kind moment.secs (place_kept database.now)) (K.taken sink.old) (K.taken sink.new)) }
     ensures memory { result ≡ Err SessionHalt.MemoryOut → sink.new ≡ sink.old }
     ensures halt { IfErr result IsSayHalt }
     ensures faults { Counts (K.faults sink.old) (K.faults sink.new) (result ≡ Err SessionHalt.WriteFault) }
@@ -106,8 +108,10 @@ fn say_account<K: Sink>(
     moment: Time,
     sink: &mut K,
 ) -> Result<(), SessionHalt>
-    ensures ok { OnOk result (K.taken sink.new ≡ after_told (K.taken sink.old) (account_text account moment.secs (place_kept database.now))) }
-    ensures err { OnErr result (SaidPart (account_text account moment.secs (place_kept database.now)) (K.taken sink.old) (K.taken sink.new)) }
+    ensures ok { OnOk result (K.taken sink.new
+        ≡ after_told (K.taken sink.old) (account_text account moment.secs (place_kept database.now))) }
+    ensures err { OnErr result
+        (SaidPart (account_text account moment.secs (place_kept database.now)) (K.taken sink.old) (K.taken sink.new)) }
     ensures halt { IfErr result IsSayHalt }
     ensures faults { Counts (K.faults sink.old) (K.faults sink.new) (result ≡ Err SessionHalt.WriteFault) }
 {
@@ -130,7 +134,8 @@ pub(crate) fn tell<K: Sink, D: Disk, C: Clock>(
     ensures run { D.tells → (left : Option (List ℕ)) (stream : Option (ℕ → ℕ)) (o : Opening)
         → IsToldBy (texts_of account (told_draws (C.moments clock.old) stream)) (recovers (D.view disk.old).seen) o
         → HasRun o (D.view disk.old) (D.view disk.new)
-        (told (K.taken sink.old) left (told_draws (C.moments clock.old) stream)) (told (K.taken sink.new) left (told_draws (C.moments clock.new) stream)) result }
+        (told (K.taken sink.old) left (told_draws (C.moments clock.old) stream))
+        (told (K.taken sink.new) left (told_draws (C.moments clock.new) stream)) result }
     ensures halt { IfErr result IsMakingHalt }
     ensures writes { Counts (K.faults sink.old) (K.faults sink.new) (result ≡ Err SessionHalt.WriteFault) }
     ensures call { IsCall D.Disk disk.old disk.new (result ≡ Err SessionHalt.DiskFault) }

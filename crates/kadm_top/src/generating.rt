@@ -19,7 +19,8 @@ pub(crate) fn generate<K: Sink>(
     script: Script,
     sink: &mut K,
 ) -> Result<bool, SessionHalt>
-    ensures ok { IfOk result (λ refused. (refused ≡ false) × (K.taken sink.new ≡ after_told (K.taken sink.old) (told_of script))) }
+    ensures ok { IfOk result
+        (λ refused. (refused ≡ false) × (K.taken sink.new ≡ after_told (K.taken sink.old) (told_of script))) }
     ensures err { OnErr result (SaidPart (told_of script) (K.taken sink.old) (K.taken sink.new)) }
     ensures memory { result ≡ Err SessionHalt.MemoryOut → sink.new ≡ sink.old }
     ensures halt { IfErr result IsSayHalt }

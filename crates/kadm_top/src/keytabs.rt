@@ -1,6 +1,7 @@
 //! Keytabs that are read from the input and written anew.
 
-ghost use Rattle.std.specs.Prelude.{◌≡◌, ◌≢◌, ◌≤◌, Bool, true, false, ℕ, length, Option, Some, Ok, Err, IfErr, IfOk, OnOk};
+ghost use Rattle.std.specs.Prelude.{◌≡◌, ◌≢◌, ◌≤◌, Bool, true, false, ℕ, length};
+ghost use Rattle.std.specs.Prelude.{Option, Some, Ok, Err, IfErr, IfOk, OnOk};
 ghost use Rattle.kadm_commands.specs.Commands.{IsOwnName};
 ghost use Rattle.kadm_keytabs.specs.Additions.{Adds};
 ghost use Rattle.kadm_keytabs.specs.Answers.{Answers, IsFilterHalt};
@@ -9,7 +10,8 @@ ghost use Rattle.kadm_keytabs.specs.declared.answers.Answer.{Answer};
 ghost use Rattle.session_base.specs.Draws.{Draws, told_draws};
 ghost use Rattle.session_base.specs.Halts.{Counts};
 ghost use Rattle.session_base.specs.Wholes.{IsReadWhole, WereTaken};
-ghost use Rattle.kadm_top.specs.Openings.{AddsBy, AnswersTold, HasAdding, HasAddition, HasAnswer, HasKeytab, Opening, OpensDatabase, ReadsInput, adds_for, keytab_for};
+ghost use Rattle.kadm_top.specs.Openings.{AddsBy, AnswersTold, HasAdding, HasAddition, HasAnswer, HasKeytab};
+ghost use Rattle.kadm_top.specs.Openings.{Opening, OpensDatabase, ReadsInput, adds_for, keytab_for};
 ghost use Rattle.kadm_top.specs.Reads.{InputIsRead};
 ghost use Rattle.kadm_top.specs.Run.{HasRun, HasWritten, told};
 ghost use Rattle.kdb_disk.specs.Frames.{IsCall};
@@ -47,7 +49,8 @@ fn write_removed<S: Source, K: Sink>(
         → HasWritten what (K.taken sink.old) (K.taken sink.new) result }
     ensures answer { OnOk result (HasAnswer (Answers (Removes name.now which)) (S.left source.old)) }
     ensures read { OnOk result (IsReadWhole (S.left source.old) (S.left source.new)) }
-    ensures too_long { result ≡ Err SessionHalt.InputTooLong → WereTaken 4294967296 (S.left source.old) (S.left source.new) }
+    ensures too_long { result ≡ Err SessionHalt.InputTooLong
+        → WereTaken 4294967296 (S.left source.old) (S.left source.new) }
     ensures halt { IfErr result IsFilterHalt }
     ensures reads { Counts (S.faults source.old) (S.faults source.new) (result ≡ Err SessionHalt.ReadFault) }
     ensures writes { Counts (K.faults sink.old) (K.faults sink.new) (result ≡ Err SessionHalt.WriteFault) }
@@ -70,9 +73,11 @@ fn write_added<S: Source, K: Sink>(
     ensures written { (s : State) (what : Option Answer) → HasState opened.now s
         → AnswersTold (Answers (Adds s name.now moment)) (S.left source.old) what
         → HasWritten what (K.taken sink.old) (K.taken sink.new) result }
-    ensures answer { (s : State) → HasState opened.now s → OnOk result (HasAnswer (Answers (Adds s name.now moment)) (S.left source.old)) }
+    ensures answer { (s : State) → HasState opened.now s
+        → OnOk result (HasAnswer (Answers (Adds s name.now moment)) (S.left source.old)) }
     ensures read { OnOk result (IsReadWhole (S.left source.old) (S.left source.new)) }
-    ensures too_long { result ≡ Err SessionHalt.InputTooLong → WereTaken 4294967296 (S.left source.old) (S.left source.new) }
+    ensures too_long { result ≡ Err SessionHalt.InputTooLong
+        → WereTaken 4294967296 (S.left source.old) (S.left source.new) }
     ensures halt { IfErr result IsFilterHalt }
     ensures reads { Counts (S.faults source.old) (S.faults source.new) (result ≡ Err SessionHalt.ReadFault) }
     ensures writes { Counts (K.faults sink.old) (K.faults sink.new) (result ≡ Err SessionHalt.WriteFault) }
@@ -94,10 +99,13 @@ fn add_named<S: Source, K: Sink>(
     ensures written { (s : State) (reads : Bool) (what : Option Answer) → HasState opened.now s
         → AddsBy name.now s moment (S.left source.old) reads what
         → HasWritten what (K.taken sink.old) (K.taken sink.new) result }
-    ensures addition { (s : State) → HasState opened.now s → OnOk result (HasAddition name.now s moment (S.left source.old)) }
-    ensures read { (name_is : NameParts) → name.now ≡ Ok name_is → OnOk result (IsReadWhole (S.left source.old) (S.left source.new)) }
+    ensures addition { (s : State) → HasState opened.now s
+        → OnOk result (HasAddition name.now s moment (S.left source.old)) }
+    ensures read { (name_is : NameParts) → name.now ≡ Ok name_is
+        → OnOk result (IsReadWhole (S.left source.old) (S.left source.new)) }
     ensures unread { (offset : ℕ) → name.now ≡ Err offset → source.new ≡ source.old }
-    ensures input { InputIsRead S.left source.old source.new (result ≡ Ok false) (result ≡ Ok true) (result ≡ Err SessionHalt.InputTooLong) }
+    ensures input { InputIsRead S.left source.old source.new (result ≡ Ok false) (result ≡ Ok true)
+        (result ≡ Err SessionHalt.InputTooLong) }
     ensures halt { IfErr result IsFilterHalt }
     ensures reads { Counts (S.faults source.old) (S.faults source.new) (result ≡ Err SessionHalt.ReadFault) }
     ensures writes { Counts (K.faults sink.old) (K.faults sink.new) (result ≡ Err SessionHalt.WriteFault) }
@@ -125,10 +133,13 @@ fn add_opened<S: Source, K: Sink>(
     ensures written { (s : State) (reads : Bool) (what : Option Answer) → HasState opened s
         → AddsBy (own_name_in word.now opened.kept.realm) s moment (S.left source.old) reads what
         → HasWritten what (K.taken sink.old) (K.taken sink.new) result }
-    ensures addition { (s : State) → HasState opened s → OnOk result (HasAddition (own_name_in word.now opened.kept.realm) s moment (S.left source.old)) }
-    ensures read { (name : NameParts) → own_name_in word.now opened.kept.realm ≡ Ok name → OnOk result (IsReadWhole (S.left source.old) (S.left source.new)) }
+    ensures addition { (s : State) → HasState opened s
+        → OnOk result (HasAddition (own_name_in word.now opened.kept.realm) s moment (S.left source.old)) }
+    ensures read { (name : NameParts) → own_name_in word.now opened.kept.realm ≡ Ok name
+        → OnOk result (IsReadWhole (S.left source.old) (S.left source.new)) }
     ensures unread { (offset : ℕ) → own_name_in word.now opened.kept.realm ≡ Err offset → source.new ≡ source.old }
-    ensures input { InputIsRead S.left source.old source.new (result ≡ Ok false) (result ≡ Ok true) (result ≡ Err SessionHalt.InputTooLong) }
+    ensures input { InputIsRead S.left source.old source.new (result ≡ Ok false) (result ≡ Ok true)
+        (result ≡ Err SessionHalt.InputTooLong) }
     ensures opened { IsOpened opened }
     ensures halt { IfErr result IsFilterHalt }
     ensures reads { Counts (S.faults source.old) (S.faults source.new) (result ≡ Err SessionHalt.ReadFault) }
@@ -154,15 +165,20 @@ fn add<S: Source, K: Sink, D: Disk, C: Clock>(
 ) -> Result<bool, SessionHalt>
     requires short { length word.now ≤ 65536 }
     ensures run { D.tells → (stream : Option (ℕ → ℕ)) (o : Opening)
-        → adds_for word.now (S.left source.old) (found_in (D.view disk.old).seen) (told_draws (C.moments clock.old) stream) o
+        → adds_for word.now (S.left source.old) (found_in (D.view disk.old).seen)
+        (told_draws (C.moments clock.old) stream) o
         → HasRun o (D.view disk.old) (D.view disk.new)
         (told (K.taken sink.old) (S.left source.old) (told_draws (C.moments clock.old) stream))
         (told (K.taken sink.new) (S.left source.new) (told_draws (C.moments clock.new) stream)) result }
-    ensures opening { D.tells → (stream : Option (ℕ → ℕ)) (draws : Draws) → told_draws (C.moments clock.old) stream ≡ Some draws
-        → OnOk result (HasAdding word.now (S.left source.old) (found_in (D.view disk.old).seen) (told_draws (C.moments clock.old) stream)) }
-    ensures input { InputIsRead S.left source.old source.new (result ≡ Ok false) (result ≡ Ok true) (result ≡ Err SessionHalt.InputTooLong) }
+    ensures opening { D.tells → (stream : Option (ℕ → ℕ)) (draws : Draws)
+        → told_draws (C.moments clock.old) stream ≡ Some draws
+        → OnOk result (HasAdding word.now (S.left source.old) (found_in (D.view disk.old).seen)
+        (told_draws (C.moments clock.old) stream)) }
+    ensures input { InputIsRead S.left source.old source.new (result ≡ Ok false) (result ≡ Ok true)
+        (result ≡ Err SessionHalt.InputTooLong) }
     ensures unread { D.tells → (stream : Option (ℕ → ℕ)) (o : Opening)
-        → adds_for word.now (S.left source.old) (found_in (D.view disk.old).seen) (told_draws (C.moments clock.old) stream) o
+        → adds_for word.now (S.left source.old) (found_in (D.view disk.old).seen)
+        (told_draws (C.moments clock.old) stream) o
         → (ReadsInput o → ⊥) → source.new ≡ source.old }
     ensures not_drawn { IfErr result (λ halt. halt ≢ SessionHalt.DrawFault) }
     ensures call { IsCall D.Disk disk.old disk.new (result ≡ Err SessionHalt.DiskFault) }
@@ -195,15 +211,19 @@ pub(crate) fn run_keytab<S: Source, K: Sink, D: Disk, C: Clock, E: Entropy>(
 ) -> Result<bool, SessionHalt>
     requires valid { AreValid (Ok words) }
     ensures run { D.tells → (o : Opening)
-        → keytab_for words (S.left source.old) (found_in (D.view disk.old).seen) (told_draws (C.moments clock.old) (E.stream entropy.old)) o
+        → keytab_for words (S.left source.old) (found_in (D.view disk.old).seen)
+        (told_draws (C.moments clock.old) (E.stream entropy.old)) o
         → HasRun o (D.view disk.old) (D.view disk.new)
         (told (K.taken sink.old) (S.left source.old) (told_draws (C.moments clock.old) (E.stream entropy.old)))
         (told (K.taken sink.new) (S.left source.new) (told_draws (C.moments clock.new) (E.stream entropy.new))) result }
     ensures opening { D.tells → (draws : Draws) → told_draws (C.moments clock.old) (E.stream entropy.old) ≡ Some draws
-        → OnOk result (HasKeytab words (S.left source.old) (found_in (D.view disk.old).seen) (told_draws (C.moments clock.old) (E.stream entropy.old))) }
-    ensures input { InputIsRead S.left source.old source.new (result ≡ Ok false) (result ≡ Ok true) (result ≡ Err SessionHalt.InputTooLong) }
+        → OnOk result (HasKeytab words (S.left source.old) (found_in (D.view disk.old).seen)
+        (told_draws (C.moments clock.old) (E.stream entropy.old))) }
+    ensures input { InputIsRead S.left source.old source.new (result ≡ Ok false) (result ≡ Ok true)
+        (result ≡ Err SessionHalt.InputTooLong) }
     ensures unread { D.tells → (o : Opening)
-        → keytab_for words (S.left source.old) (found_in (D.view disk.old).seen) (told_draws (C.moments clock.old) (E.stream entropy.old)) o
+        → keytab_for words (S.left source.old) (found_in (D.view disk.old).seen)
+        (told_draws (C.moments clock.old) (E.stream entropy.old)) o
         → (ReadsInput o → ⊥) → source.new ≡ source.old }
     ensures no_database { (OpensDatabase words → ⊥) → disk.new ≡ disk.old }
     ensures no_clock { (OpensDatabase words → ⊥) → clock.new ≡ clock.old }

@@ -45,7 +45,8 @@ fn load_opened<S: Source, K: Sink, D: Disk, C: Clock>(
         → OnOk result (HasLoaded (S.left source.old) (place_of opened) opened.kept.control.stash (moment_in draws)) }
     ensures opened { IsOpened opened }
     ensures read { OnOk result (IsReadWhole (S.left source.old) (S.left source.new)) }
-    ensures too_long { result ≡ Err SessionHalt.InputTooLong → WereTaken 4294967296 (S.left source.old) (S.left source.new) }
+    ensures too_long { result ≡ Err SessionHalt.InputTooLong
+        → WereTaken 4294967296 (S.left source.old) (S.left source.new) }
     ensures not_drawn { IfErr result (λ halt. halt ≢ SessionHalt.DrawFault) }
     ensures call { IsCall D.Disk disk.old disk.new (result ≡ Err SessionHalt.DiskFault) }
     ensures reads { Counts (S.faults source.old) (S.faults source.new) (result ≡ Err SessionHalt.ReadFault) }
@@ -73,9 +74,12 @@ pub(crate) fn load<S: Source, K: Sink, D: Disk, C: Clock>(
         → HasRun o (D.view disk.old) (D.view disk.new)
         (told (K.taken sink.old) (S.left source.old) (told_draws (C.moments clock.old) stream))
         (told (K.taken sink.new) (S.left source.new) (told_draws (C.moments clock.new) stream)) result }
-    ensures opening { D.tells → (stream : Option (ℕ → ℕ)) (draws : Draws) → told_draws (C.moments clock.old) stream ≡ Some draws
-        → OnOk result (HasLoading (S.left source.old) (found_in (D.view disk.old).seen) (told_draws (C.moments clock.old) stream)) }
-    ensures input { InputIsRead S.left source.old source.new (result ≡ Ok false) (result ≡ Ok true) (result ≡ Err SessionHalt.InputTooLong) }
+    ensures opening { D.tells → (stream : Option (ℕ → ℕ)) (draws : Draws)
+        → told_draws (C.moments clock.old) stream ≡ Some draws
+        → OnOk result
+        (HasLoading (S.left source.old) (found_in (D.view disk.old).seen) (told_draws (C.moments clock.old) stream)) }
+    ensures input { InputIsRead S.left source.old source.new (result ≡ Ok false) (result ≡ Ok true)
+        (result ≡ Err SessionHalt.InputTooLong) }
     ensures unread { D.tells → (stream : Option (ℕ → ℕ)) (o : Opening)
         → loads_for (S.left source.old) (found_in (D.view disk.old).seen) (told_draws (C.moments clock.old) stream) o
         → (ReadsInput o → ⊥) → source.new ≡ source.old }

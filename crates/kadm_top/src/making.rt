@@ -71,9 +71,12 @@ fn make_files<D: Disk>(
     requires { length random.now ≡ 2048 }
     ensures answer { D.tells → AnswersMade result (in_force ((D.view disk.old).seen 0)) }
     ensures made { D.tells → OnOk result (IsMade spec.now moment random.now (D.view disk.new)) }
-    ensures moments { D.tells → LeavesOnly (D.view disk.old) (D.view disk.new) (Creates (D.view disk.old) (first_place spec.now moment random.now)) }
-    ensures refused { D.tells → (refusal : WhyNot) → result ≡ Err (Refused refusal) → Keeps (D.view disk.old) (D.view disk.new) }
-    ensures there { D.tells → in_force ((D.view disk.old).seen 0) ≢ Nothing → Keeps (D.view disk.old) (D.view disk.new) }
+    ensures moments { D.tells → LeavesOnly (D.view disk.old) (D.view disk.new)
+        (Creates (D.view disk.old) (first_place spec.now moment random.now)) }
+    ensures refused { D.tells → (refusal : WhyNot) → result ≡ Err (Refused refusal)
+        → Keeps (D.view disk.old) (D.view disk.new) }
+    ensures there { D.tells → in_force ((D.view disk.old).seen 0) ≢ Nothing
+        → Keeps (D.view disk.old) (D.view disk.new) }
     ensures memory { result ≡ Err (Halts MemoryOut) → disk.new ≡ disk.old }
     ensures call { IsCall D.Disk disk.old disk.new (result ≡ Err (Halts DiskFault)) }
 {
@@ -100,7 +103,8 @@ fn make_printed<K: Sink, D: Disk>(
     requires random { length random.now ≡ 2048 }
     requires text { text.now ≡ reply_text (Done (first_point moment)) }
     ensures run { D.tells → (left : Option (List ℕ)) (draws : Option Draws) → AreDrawn draws moment random.now
-        → HasRun (create_of spec.now (in_force ((D.view disk.old).seen 0))) (D.view disk.old) (D.view disk.new) (told (K.taken sink.old) left draws) (told (K.taken sink.new) left (behind ABlock draws)) result }
+        → HasRun (create_of spec.now (in_force ((D.view disk.old).seen 0))) (D.view disk.old) (D.view disk.new)
+        (told (K.taken sink.old) left draws) (told (K.taken sink.new) left (behind ABlock draws)) result }
     ensures halt { IfErr result IsMakingHalt }
     ensures writes { Counts (K.faults sink.old) (K.faults sink.new) (result ≡ Err SessionHalt.WriteFault) }
     ensures call { IsCall D.Disk disk.old disk.new (result ≡ Err SessionHalt.DiskFault) }
@@ -130,7 +134,8 @@ fn make<K: Sink, D: Disk>(
 ) -> Result<bool, SessionHalt>
     requires random { length random.now ≡ 2048 }
     ensures run { D.tells → (left : Option (List ℕ)) (draws : Option Draws) → AreDrawn draws moment random.now
-        → HasRun (create_of spec.now (in_force ((D.view disk.old).seen 0))) (D.view disk.old) (D.view disk.new) (told (K.taken sink.old) left draws) (told (K.taken sink.new) left (behind ABlock draws)) result }
+        → HasRun (create_of spec.now (in_force ((D.view disk.old).seen 0))) (D.view disk.old) (D.view disk.new)
+        (told (K.taken sink.old) left draws) (told (K.taken sink.new) left (behind ABlock draws)) result }
     ensures halt { IfErr result IsMakingHalt }
     ensures writes { Counts (K.faults sink.old) (K.faults sink.new) (result ≡ Err SessionHalt.WriteFault) }
     ensures call { IsCall D.Disk disk.old disk.new (result ≡ Err SessionHalt.DiskFault) }
@@ -165,7 +170,8 @@ pub(crate) fn create<K: Sink, D: Disk, C: Clock, E: Entropy>(
 ) -> Result<bool, SessionHalt>
     ensures run { D.tells → (left : Option (List ℕ))
         → HasRun (create_of spec.now (in_force ((D.view disk.old).seen 0))) (D.view disk.old) (D.view disk.new)
-        (told (K.taken sink.old) left (told_draws (C.moments clock.old) (E.stream entropy.old))) (told (K.taken sink.new) left (told_draws (C.moments clock.new) (E.stream entropy.new))) result }
+        (told (K.taken sink.old) left (told_draws (C.moments clock.old) (E.stream entropy.old)))
+        (told (K.taken sink.new) left (told_draws (C.moments clock.new) (E.stream entropy.new))) result }
     ensures halt { IfErr result IsAnswerHalt }
     ensures writes { Counts (K.faults sink.old) (K.faults sink.new) (result ≡ Err SessionHalt.WriteFault) }
     ensures call { IsCall D.Disk disk.old disk.new (result ≡ Err SessionHalt.DiskFault) }
@@ -195,7 +201,8 @@ pub(crate) fn end<K: Sink, D: Disk>(
     disk: &mut D,
 ) -> Result<bool, SessionHalt>
     ensures run { D.tells → (left : Option (List ℕ)) (draws : Option Draws)
-        → HasRun (destroy_of (in_force ((D.view disk.old).seen 0))) (D.view disk.old) (D.view disk.new) (told (K.taken sink.old) left draws) (told (K.taken sink.new) left draws) result }
+        → HasRun (destroy_of (in_force ((D.view disk.old).seen 0))) (D.view disk.old) (D.view disk.new)
+        (told (K.taken sink.old) left draws) (told (K.taken sink.new) left draws) result }
     ensures halt { IfErr result IsMakingHalt }
     ensures writes { Counts (K.faults sink.old) (K.faults sink.new) (result ≡ Err SessionHalt.WriteFault) }
     ensures call { IsCall D.Disk disk.old disk.new (result ≡ Err SessionHalt.DiskFault) }

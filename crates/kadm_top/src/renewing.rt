@@ -4,7 +4,8 @@ ghost use Rattle.std.specs.Prelude.{◌≡◌, ◌≤◌, Bool, true, false, ℕ
 ghost use Rattle.kadm_commands.specs.Commands.{IsOwnName};
 ghost use Rattle.kadm_keytabs.specs.Renewals.{wanted};
 ghost use Rattle.kadm_session.specs.Steps.{local_client};
-ghost use Rattle.kadm_top.specs.Openings.{HasAddingNew, HasRenewal, HasRenewalBy, Opening, ReadsInput, Renewing, RenewsBy, RenewsTold, adds_new_for};
+ghost use Rattle.kadm_top.specs.Openings.{HasAddingNew, HasRenewal, HasRenewalBy, Opening};
+ghost use Rattle.kadm_top.specs.Openings.{ReadsInput, Renewing, RenewsBy, RenewsTold, adds_new_for};
 ghost use Rattle.kadm_top.specs.Reads.{InputIsRead};
 ghost use Rattle.kadm_top.specs.Run.{HasRenewed, HasRun, told};
 ghost use Rattle.kdb_disk.specs.Frames.{IsCall};
@@ -56,12 +57,17 @@ fn write_for<S: Source, K: Sink, D: Disk, C: Clock, E: Entropy>(
     requires stands { D.tells → RecoversTo (place_of primary.old) (D.view disk.old) }
     ensures renewed { D.tells → (s : State) (draws : Draws) (what : Renewing) → HasState primary.old s
         → told_draws (C.moments clock.old) (E.stream entropy.old) ≡ Some draws
-        → RenewsTold (wanted client.now name.now etypes.now) (S.left source.old) draws (seen (place_of primary.old) s) what
-        → HasRenewed what (seen (place_of primary.old) s) (D.view disk.old) (D.view disk.new) (K.taken sink.old) (K.taken sink.new) (told_draws (C.moments clock.new) (E.stream entropy.new)) result }
-    ensures renewal { (s : State) (draws : Draws) → HasState primary.old s → told_draws (C.moments clock.old) (E.stream entropy.old) ≡ Some draws
-        → OnOk result (HasRenewal (wanted client.now name.now etypes.now) (S.left source.old) draws (seen (place_of primary.old) s)) }
+        → RenewsTold (wanted client.now name.now etypes.now) (S.left source.old) draws
+        (seen (place_of primary.old) s) what
+        → HasRenewed what (seen (place_of primary.old) s) (D.view disk.old) (D.view disk.new) (K.taken sink.old)
+        (K.taken sink.new) (told_draws (C.moments clock.new) (E.stream entropy.new)) result }
+    ensures renewal { (s : State) (draws : Draws) → HasState primary.old s
+        → told_draws (C.moments clock.old) (E.stream entropy.old) ≡ Some draws
+        → OnOk result
+        (HasRenewal (wanted client.now name.now etypes.now) (S.left source.old) draws (seen (place_of primary.old) s)) }
     ensures read { OnOk result (IsReadWhole (S.left source.old) (S.left source.new)) }
-    ensures too_long { result ≡ Err SessionHalt.InputTooLong → WereTaken 4294967296 (S.left source.old) (S.left source.new) }
+    ensures too_long { result ≡ Err SessionHalt.InputTooLong
+        → WereTaken 4294967296 (S.left source.old) (S.left source.new) }
     ensures call { IsCall D.Disk disk.old disk.new (result ≡ Err SessionHalt.DiskFault) }
     ensures reads { Counts (S.faults source.old) (S.faults source.new) (result ≡ Err SessionHalt.ReadFault) }
     ensures writes { Counts (K.faults sink.old) (K.faults sink.new) (result ≡ Err SessionHalt.WriteFault) }
@@ -92,12 +98,17 @@ fn write_renewed<S: Source, K: Sink, D: Disk, C: Clock, E: Entropy>(
     requires whole { primary.old.kept.broken ≡ false }
     ensures renewed { D.tells → (s : State) (draws : Draws) (what : Renewing) → HasState primary.old s
         → told_draws (C.moments clock.old) (E.stream entropy.old) ≡ Some draws
-        → RenewsTold (wanted (local_client primary.old.kept.realm) name.now etypes.now) (S.left source.old) draws (seen (place_of primary.old) s) what
-        → HasRenewed what (seen (place_of primary.old) s) (D.view disk.old) (D.view disk.new) (K.taken sink.old) (K.taken sink.new) (told_draws (C.moments clock.new) (E.stream entropy.new)) result }
-    ensures renewal { (s : State) (draws : Draws) → HasState primary.old s → told_draws (C.moments clock.old) (E.stream entropy.old) ≡ Some draws
-        → OnOk result (HasRenewal (wanted (local_client primary.old.kept.realm) name.now etypes.now) (S.left source.old) draws (seen (place_of primary.old) s)) }
+        → RenewsTold (wanted (local_client primary.old.kept.realm) name.now etypes.now) (S.left source.old) draws
+        (seen (place_of primary.old) s) what
+        → HasRenewed what (seen (place_of primary.old) s) (D.view disk.old) (D.view disk.new) (K.taken sink.old)
+        (K.taken sink.new) (told_draws (C.moments clock.new) (E.stream entropy.new)) result }
+    ensures renewal { (s : State) (draws : Draws) → HasState primary.old s
+        → told_draws (C.moments clock.old) (E.stream entropy.old) ≡ Some draws
+        → OnOk result (HasRenewal (wanted (local_client primary.old.kept.realm) name.now etypes.now)
+        (S.left source.old) draws (seen (place_of primary.old) s)) }
     ensures read { OnOk result (IsReadWhole (S.left source.old) (S.left source.new)) }
-    ensures too_long { result ≡ Err SessionHalt.InputTooLong → WereTaken 4294967296 (S.left source.old) (S.left source.new) }
+    ensures too_long { result ≡ Err SessionHalt.InputTooLong
+        → WereTaken 4294967296 (S.left source.old) (S.left source.new) }
     ensures call { IsCall D.Disk disk.old disk.new (result ≡ Err SessionHalt.DiskFault) }
     ensures reads { Counts (S.faults source.old) (S.faults source.new) (result ≡ Err SessionHalt.ReadFault) }
     ensures writes { Counts (K.faults sink.old) (K.faults sink.new) (result ≡ Err SessionHalt.WriteFault) }
@@ -131,12 +142,16 @@ fn renew_named<S: Source, K: Sink, D: Disk, C: Clock, E: Entropy>(
     ensures renewed { D.tells → (s : State) (draws : Draws) (reads : Bool) (what : Renewing) → HasState primary.old s
         → told_draws (C.moments clock.old) (E.stream entropy.old) ≡ Some draws
         → RenewsBy name.now etypes.now (S.left source.old) draws (seen (place_of primary.old) s) reads what
-        → HasRenewed what (seen (place_of primary.old) s) (D.view disk.old) (D.view disk.new) (K.taken sink.old) (K.taken sink.new) (told_draws (C.moments clock.new) (E.stream entropy.new)) result }
-    ensures renewal { (s : State) (draws : Draws) → HasState primary.old s → told_draws (C.moments clock.old) (E.stream entropy.old) ≡ Some draws
+        → HasRenewed what (seen (place_of primary.old) s) (D.view disk.old) (D.view disk.new) (K.taken sink.old)
+        (K.taken sink.new) (told_draws (C.moments clock.new) (E.stream entropy.new)) result }
+    ensures renewal { (s : State) (draws : Draws) → HasState primary.old s
+        → told_draws (C.moments clock.old) (E.stream entropy.old) ≡ Some draws
         → OnOk result (HasRenewalBy name.now etypes.now (S.left source.old) draws (seen (place_of primary.old) s)) }
-    ensures read { (name_is : NameParts) → name.now ≡ Ok name_is → OnOk result (IsReadWhole (S.left source.old) (S.left source.new)) }
+    ensures read { (name_is : NameParts) → name.now ≡ Ok name_is
+        → OnOk result (IsReadWhole (S.left source.old) (S.left source.new)) }
     ensures unread { (offset : ℕ) → name.now ≡ Err offset → source.new ≡ source.old }
-    ensures input { InputIsRead S.left source.old source.new (result ≡ Ok false) (result ≡ Ok true) (result ≡ Err SessionHalt.InputTooLong) }
+    ensures input { InputIsRead S.left source.old source.new (result ≡ Ok false) (result ≡ Ok true)
+        (result ≡ Err SessionHalt.InputTooLong) }
     ensures call { IsCall D.Disk disk.old disk.new (result ≡ Err SessionHalt.DiskFault) }
     ensures reads { Counts (S.faults source.old) (S.faults source.new) (result ≡ Err SessionHalt.ReadFault) }
     ensures writes { Counts (K.faults sink.old) (K.faults sink.new) (result ≡ Err SessionHalt.WriteFault) }
@@ -172,13 +187,19 @@ fn renew_opened<S: Source, K: Sink, D: Disk, C: Clock, E: Entropy>(
     requires whole { opened.kept.broken ≡ false }
     ensures renewed { D.tells → (s : State) (draws : Draws) (reads : Bool) (what : Renewing) → HasState opened s
         → told_draws (C.moments clock.old) (E.stream entropy.old) ≡ Some draws
-        → RenewsBy (own_name_in word.now opened.kept.realm) etypes.now (S.left source.old) draws (seen (place_of opened) s) reads what
-        → HasRenewed what (seen (place_of opened) s) (D.view disk.old) (D.view disk.new) (K.taken sink.old) (K.taken sink.new) (told_draws (C.moments clock.new) (E.stream entropy.new)) result }
-    ensures renewal { (s : State) (draws : Draws) → HasState opened s → told_draws (C.moments clock.old) (E.stream entropy.old) ≡ Some draws
-        → OnOk result (HasRenewalBy (own_name_in word.now opened.kept.realm) etypes.now (S.left source.old) draws (seen (place_of opened) s)) }
-    ensures read { (name : NameParts) → own_name_in word.now opened.kept.realm ≡ Ok name → OnOk result (IsReadWhole (S.left source.old) (S.left source.new)) }
+        → RenewsBy (own_name_in word.now opened.kept.realm) etypes.now (S.left source.old) draws
+        (seen (place_of opened) s) reads what
+        → HasRenewed what (seen (place_of opened) s) (D.view disk.old) (D.view disk.new) (K.taken sink.old)
+        (K.taken sink.new) (told_draws (C.moments clock.new) (E.stream entropy.new)) result }
+    ensures renewal { (s : State) (draws : Draws) → HasState opened s
+        → told_draws (C.moments clock.old) (E.stream entropy.old) ≡ Some draws
+        → OnOk result (HasRenewalBy (own_name_in word.now opened.kept.realm) etypes.now (S.left source.old) draws
+        (seen (place_of opened) s)) }
+    ensures read { (name : NameParts) → own_name_in word.now opened.kept.realm ≡ Ok name
+        → OnOk result (IsReadWhole (S.left source.old) (S.left source.new)) }
     ensures unread { (offset : ℕ) → own_name_in word.now opened.kept.realm ≡ Err offset → source.new ≡ source.old }
-    ensures input { InputIsRead S.left source.old source.new (result ≡ Ok false) (result ≡ Ok true) (result ≡ Err SessionHalt.InputTooLong) }
+    ensures input { InputIsRead S.left source.old source.new (result ≡ Ok false) (result ≡ Ok true)
+        (result ≡ Err SessionHalt.InputTooLong) }
     ensures opened { IsOpened opened }
     ensures call { IsCall D.Disk disk.old disk.new (result ≡ Err SessionHalt.DiskFault) }
     ensures reads { Counts (S.faults source.old) (S.faults source.new) (result ≡ Err SessionHalt.ReadFault) }
@@ -220,15 +241,19 @@ pub(crate) fn renew<S: Source, K: Sink, D: Disk, C: Clock, E: Entropy>(
     requires short { length word.now ≤ 65536 }
     requires types { AreTypes etypes.now }
     ensures run { D.tells → (o : Opening)
-        → adds_new_for word.now etypes.now (S.left source.old) (found_in (D.view disk.old).seen) (told_draws (C.moments clock.old) (E.stream entropy.old)) o
+        → adds_new_for word.now etypes.now (S.left source.old) (found_in (D.view disk.old).seen)
+        (told_draws (C.moments clock.old) (E.stream entropy.old)) o
         → HasRun o (D.view disk.old) (D.view disk.new)
         (told (K.taken sink.old) (S.left source.old) (told_draws (C.moments clock.old) (E.stream entropy.old)))
         (told (K.taken sink.new) (S.left source.new) (told_draws (C.moments clock.new) (E.stream entropy.new))) result }
     ensures opening { D.tells → (draws : Draws) → told_draws (C.moments clock.old) (E.stream entropy.old) ≡ Some draws
-        → OnOk result (HasAddingNew word.now etypes.now (S.left source.old) (found_in (D.view disk.old).seen) (told_draws (C.moments clock.old) (E.stream entropy.old))) }
-    ensures input { InputIsRead S.left source.old source.new (result ≡ Ok false) (result ≡ Ok true) (result ≡ Err SessionHalt.InputTooLong) }
+        → OnOk result (HasAddingNew word.now etypes.now (S.left source.old) (found_in (D.view disk.old).seen)
+        (told_draws (C.moments clock.old) (E.stream entropy.old))) }
+    ensures input { InputIsRead S.left source.old source.new (result ≡ Ok false) (result ≡ Ok true)
+        (result ≡ Err SessionHalt.InputTooLong) }
     ensures unread { D.tells → (o : Opening)
-        → adds_new_for word.now etypes.now (S.left source.old) (found_in (D.view disk.old).seen) (told_draws (C.moments clock.old) (E.stream entropy.old)) o
+        → adds_new_for word.now etypes.now (S.left source.old) (found_in (D.view disk.old).seen)
+        (told_draws (C.moments clock.old) (E.stream entropy.old)) o
         → (ReadsInput o → ⊥) → source.new ≡ source.old }
     ensures call { IsCall D.Disk disk.old disk.new (result ≡ Err SessionHalt.DiskFault) }
     ensures reads { Counts (S.faults source.old) (S.faults source.new) (result ≡ Err SessionHalt.ReadFault) }

@@ -4,7 +4,10 @@ ghost use Rattle.std.specs.Prelude.{◌≡◌, ◌≤◌, [], Some, map, option_
 ghost use Rattle.std.specs.Str.{bytes_eq};
 ghost use Rattle.kadm_options.specs.OptionValues.{word_given};
 ghost use Rattle.kadm_options.specs.declared.options.OptionName.TheVariants as option;
-ghost use Rattle.kadm_top.specs.Words.{AreSized, admin_by, admin_options, create_by, create_in, create_options, destroy_by, destroy_options, etype_given, generate_by, is_line_word, keytab_by, kind_named, line_by, line_refusal, load_by, log_in, no_more, options_alone, report_by, report_in, size_given, spec_of, tell_by, words_behind, words_in};
+ghost use Rattle.kadm_top.specs.Words.{AreSized, admin_by, admin_options, create_by, create_in, create_options};
+ghost use Rattle.kadm_top.specs.Words.{destroy_by, destroy_options, etype_given, generate_by, is_line_word, keytab_by};
+ghost use Rattle.kadm_top.specs.Words.{kind_named, line_by, line_refusal, load_by, log_in, no_more, options_alone};
+ghost use Rattle.kadm_top.specs.Words.{report_by, report_in, size_given, spec_of, tell_by, words_behind, words_in};
 ghost use Rattle.kadm_wire.specs.LineReadings.{words_answer};
 ghost use Rattle.keytab_words.specs.Words.{AreValid};
 ghost use Rattle.princ_name.specs.Realms.{IsRealm};

@@ -1,12 +1,15 @@
 -- The days of the calendar are those that day numbers count, and each second has one civil time and one spelling.
-use Rattle.std.proofs.Common.{◌≡◌, ℕ, zero, suc, ◌+◌, ◌/◌, ◌^◌, ◌<◌, ◌≤◌, ◌⊎◌, inl, inr, List, length, refl, arith, pos, ◌+ℤ◌, ◌<ℤ◌, ◌≤ℤ◌}
+use Rattle.std.proofs.Common.{◌≡◌, ℕ, zero, suc, ◌+◌, ◌/◌, ◌^◌, ◌<◌, ◌≤◌, ◌⊎◌, inl}
+use Rattle.std.proofs.Common.{inr, List, length, refl, arith, pos, ◌+ℤ◌, ◌<ℤ◌, ◌≤ℤ◌}
 use Rattle.jiff.specs.Types.{Date}
 use Rattle.jiff.specs.Words.{civil_seconds, epoch_day, month_length}
-use Rattle.jiff.proofs.Family.{days_from_civil-day, days_from_civil-next_month, days_from_civil-next_year, days_from_civil-max}
+use Rattle.jiff.proofs.Family.{days_from_civil-day, days_from_civil-next_month}
+use Rattle.jiff.proofs.Family.{days_from_civil-next_year, days_from_civil-max}
 use Rattle.jiff.proofs.SpanFacts.{signed_arith}
 use Rattle.jiff.proofs.OnLiterals.{jiff_on_literals}
 use Rattle.kadm_values.specs.Times.{IsAt, SpellsCivil}
-use Rattle.kadm_values.specs.Calendar.{first_day, next_year, next_month, day_after, next_day, date_at, time_at, civil_at, civil_text_at}
+use Rattle.kadm_values.specs.Calendar.{first_day, next_year, next_month, day_after}
+use Rattle.kadm_values.specs.Calendar.{next_day, date_at, time_at, civil_at, civil_text_at}
 use Rattle.kadm_values.proofs.TimeLemmas.{only_text, length-civil_text}
 
 first_day-epoch_day : epoch_day first_day ≡ pos 0
@@ -14,7 +17,8 @@ unfolding jiff_on_literals first_day
 first_day-epoch_day = refl
 
 -- where a year is not the library's last one, 1 January follows 31 December
-next_year-epoch_day : (d : Date) (c : (d.year <ℤ pos 9999) ⊎ (pos 9999 ≤ℤ d.year)) → d.month ≡ 12 → d.day ≡ 31 → epoch_day d <ℤ pos 2_932_896
+next_year-epoch_day : (d : Date) (c : (d.year <ℤ pos 9999) ⊎ (pos 9999 ≤ℤ d.year)) → d.month ≡ 12 → d.day ≡ 31
+    → epoch_day d <ℤ pos 2_932_896
     → epoch_day (next_year d c) ≡ epoch_day d +ℤ pos 1
 unfolding next_year
 next_year-epoch_day d (inl within) month day low =
@@ -23,7 +27,8 @@ next_year-epoch_day d (inr last) month day low =
     let year : d.year ≡ pos 9999 = omega (arith, signed_arith, d.year_in) in
     absurd (omega (arith, signed_arith, days_from_civil-max, rw (year, month, day) at low))
 
-next_month-epoch_day : (d : Date) (c : (d.month < 12) ⊎ (12 ≤ d.month)) → d.day ≡ month_length d → epoch_day d <ℤ pos 2_932_896
+next_month-epoch_day : (d : Date) (c : (d.month < 12) ⊎ (12 ≤ d.month)) → d.day ≡ month_length d
+    → epoch_day d <ℤ pos 2_932_896
     → epoch_day (next_month d c) ≡ epoch_day d +ℤ pos 1
 unfolding next_month
 next_month-epoch_day d (inl within) day low = days_from_civil-next_month d.year d.month d.day d.month_in.0 day
@@ -31,7 +36,8 @@ next_month-epoch_day d (inr last) day low =
     let december : d.month ≡ 12 = omega arith in
     next_year-epoch_day d _ december (rw december at day) low
 
-day_after-epoch_day : (d : Date) (c : (d.day < month_length d) ⊎ (month_length d ≤ d.day)) → epoch_day d <ℤ pos 2_932_896
+day_after-epoch_day : (d : Date) (c : (d.day < month_length d) ⊎ (month_length d ≤ d.day))
+    → epoch_day d <ℤ pos 2_932_896
     → epoch_day (day_after d c) ≡ epoch_day d +ℤ pos 1
 unfolding day_after
 day_after-epoch_day d (inl within) low =
@@ -68,7 +74,8 @@ civil_text_at-spells secs fits = record { time = civil_at secs; at = civil_at-is
 -- which is the only one
 pub spells-civil_text_at : (text : List ℕ) (secs : ℕ) → SpellsCivil text secs → text ≡ civil_text_at secs
 unfolding civil_text_at
-spells-civil_text_at text secs s = only_text (civil_at secs) secs (civil_text_at secs) text (civil_at-is secs s.at.fits) refl s
+spells-civil_text_at text secs s =
+    only_text (civil_at secs) secs (civil_text_at secs) text (civil_at-is secs s.at.fits) refl s
 
 pub length-civil_text_at : (secs : ℕ) → length (civil_text_at secs) ≡ 20
 unfolding civil_text_at

@@ -1,5 +1,8 @@
 -- What a text spells is what its reading gives.
-use Rattle.std.proofs.Common.{◌≡◌, ℕ, zero, suc, ◌+◌, ◌*◌, ◌/◌, ◌%◌, ◌^◌, ◌<◌, ◌≤◌, ◌≢◌, Bool, true, false, ◌&&◌, cond, nat_lt, nat_le, nat_eq, List, [], ◌∷◌, ◌++◌, length, take, drop, get_or, codes, slice_index, Option, Some, None, IfSome, inl, inr, refl, sym, ap, subst, ◌∙◌, arith, pos, unsigned_abs, length-take, add-one}
+use Rattle.std.proofs.Common.{◌≡◌, ℕ, zero, suc, ◌+◌, ◌*◌, ◌/◌, ◌%◌, ◌^◌, ◌<◌, ◌≤◌, ◌≢◌, Bool, true, false}
+use Rattle.std.proofs.Common.{◌&&◌, cond, nat_lt, nat_le, nat_eq, List, [], ◌∷◌, ◌++◌, length, take, drop}
+use Rattle.std.proofs.Common.{get_or, codes, slice_index, Option, Some, None, IfSome, inl, inr, refl, sym}
+use Rattle.std.proofs.Common.{ap, subst, ◌∙◌, arith, pos, unsigned_abs, length-take, add-one}
 use Rattle.std.specs.List.{list_all, prefix_len}
 use Rattle.std.specs.Option.{option_or, option_map}
 use Rattle.std.specs.Str.{bytes_eq}
@@ -14,8 +17,10 @@ use Rattle.kadm_values.specs.Numbers.{is_digit, decimal_value, IsDigits, SpellsN
 use Rattle.kadm_values.specs.Durations.{units, IsUnits, SpellsGroups, SpellsDuration}
 use Rattle.kadm_values.specs.Times.{IsAt, civil_text, SpellsCivil, SpellsTime}
 use Rattle.kadm_values.specs.Calendar.{civil_text_at}
-use Rattle.kadm_values.specs.Readings.{number_in, fitting, seconds_in, is_led_by, groups_in, duration_in, first_below, civil_in, time_in}
-use Rattle.kadm_values.proofs.DurationLemmas.{all_prefix, ends_at, behind_first, none_first, are_units, digits_are_number, else_sum, sum_then_duration}
+use Rattle.kadm_values.specs.Readings.{number_in, fitting, seconds_in, is_led_by, groups_in}
+use Rattle.kadm_values.specs.Readings.{duration_in, first_below, civil_in, time_in}
+use Rattle.kadm_values.proofs.DurationLemmas.{all_prefix, ends_at, behind_first, none_first, are_units}
+use Rattle.kadm_values.proofs.DurationLemmas.{digits_are_number, else_sum, sum_then_duration}
 use Rattle.kadm_values.proofs.TimeLemmas.{year_is, same_seconds, length-civil_text, never_is_zero}
 use Rattle.kadm_values.proofs.CalendarLemmas.{civil_text_at-spells, spells-civil_text_at}
 
@@ -60,8 +65,10 @@ spells-number_in text number s =
     let few : nat_le (length text) 10 ≡ true = grind (arith, nat_tests) in
     rw (some, few, digits) (ap Some (sym s.value))
 
-pub number_value : (r : Option ℕ) (text : List ℕ) → IfSome r (λ n. SpellsNumber text n) → ((n : ℕ) → SpellsNumber text n → r ≡ Some n) → r ≡ number_in text
-number_value r text spelled only = same_reading (SpellsNumber text) r (number_in text) spelled only (number_in-spells text) (spells-number_in text)
+pub number_value : (r : Option ℕ) (text : List ℕ) → IfSome r (λ n. SpellsNumber text n)
+    → ((n : ℕ) → SpellsNumber text n → r ≡ Some n) → r ≡ number_in text
+number_value r text spelled only =
+    same_reading (SpellsNumber text) r (number_in text) spelled only (number_in-spells text) (spells-number_in text)
 
 -- a reading that fits
 record Fitted (reading : Option ℕ) (secs : ℕ) : Type 0 where
@@ -92,11 +99,14 @@ record IsLed (letter : ℕ) (text number behind : List ℕ) : Type 0 where
   digits : IsDigits number
   text_is : text ≡ number ++ letter ∷ behind
 
-split_at : (text : List ℕ) (count letter : ℕ) → count < length text → get_or text count 0 ≡ letter → text ≡ take count text ++ letter ∷ drop (count + 1) text
+split_at : (text : List ℕ) (count letter : ℕ) → count < length text → get_or text count 0 ≡ letter
+    → text ≡ take count text ++ letter ∷ drop (count + 1) text
 split_at text count letter within at =
-    rw add-one (sym (take-append-drop count text) ∙ ap (λ (rest : List ℕ). take count text ++ rest) (drop-cons text count 0 within ∙ ap (λ (b : ℕ). b ∷ drop (suc count) text) at))
+    rw add-one (sym (take-append-drop count text) ∙ ap (λ (rest : List ℕ). take count text ++ rest)
+    (drop-cons text count 0 within ∙ ap (λ (b : ℕ). b ∷ drop (suc count) text) at))
 
-is_led : (letter : ℕ) (text : List ℕ) → is_led_by letter text ≡ true → IsLed letter text (take (prefix_len is_digit text) text) (drop (prefix_len is_digit text + 1) text)
+is_led : (letter : ℕ) (text : List ℕ) → is_led_by letter text ≡ true
+    → IsLed letter text (take (prefix_len is_digit text) text) (drop (prefix_len is_digit text + 1) text)
 unfolding is_led_by
 is_led letter text led =
     let count = prefix_len is_digit text in
@@ -109,7 +119,8 @@ is_led letter text led =
       text_is = split_at text count letter within at;
     }
 
-led_is : (letter : ℕ) (text number behind : List ℕ) → is_digit letter ≡ false → IsDigits number → text ≡ number ++ letter ∷ behind → is_led_by letter text ≡ true
+led_is : (letter : ℕ) (text number behind : List ℕ) → is_digit letter ≡ false → IsDigits number
+    → text ≡ number ++ letter ∷ behind → is_led_by letter text ≡ true
 unfolding is_led_by
 led_is letter text number behind fails digits e =
     let ends = ends_at text number letter behind (prefix_len is_digit text) refl fails digits e in
@@ -128,7 +139,8 @@ mapped : (f : ℕ → ℕ) (reading : Option ℕ) (n : ℕ) → option_map f rea
 mapped f None n e = cc
 mapped f (Some more) n e = record { more = more; is = refl; same = cc }
 
-pub groups_in-spells : (us : List Unit) (text : List ℕ) (secs : ℕ) → groups_in us text ≡ Some secs → SpellsGroups us text secs
+pub groups_in-spells : (us : List Unit) (text : List ℕ) (secs : ℕ) → groups_in us text ≡ Some secs
+    → SpellsGroups us text secs
 unfolding groups_in SpellsGroups
 groups_in-spells [] [] secs e = (refl, cc)
 groups_in-spells [] (byte ∷ text) secs e = absurd (cc)
@@ -136,7 +148,8 @@ groups_in-spells (unit ∷ others) text secs e =
     elim (cases_Bool (is_led_by unit.letter text)) [
       | inl first ↦
           let count = prefix_len is_digit text in
-          let from = mapped (λ more. decimal_value (take count text) * unit.seconds + more) (groups_in others (drop (count + 1) text)) secs (rw first at e) in
+          let from = mapped (λ more. decimal_value (take count text) * unit.seconds + more)
+          (groups_in others (drop (count + 1) text)) secs (rw first at e) in
           let led = is_led unit.letter text first in
           inr (record {
             number = take count text;
@@ -150,7 +163,8 @@ groups_in-spells (unit ∷ others) text secs e =
       | inr other ↦ inl (groups_in-spells others text secs (rw other at e))
     ]
 
-pub spells-groups_in : (us : List Unit) (text : List ℕ) (secs : ℕ) → IsUnits us → SpellsGroups us text secs → groups_in us text ≡ Some secs
+pub spells-groups_in : (us : List Unit) (text : List ℕ) (secs : ℕ) → IsUnits us → SpellsGroups us text secs
+    → groups_in us text ≡ Some secs
 unfolding groups_in SpellsGroups IsUnits
 spells-groups_in [] text secs are s = rw (s.0, s.1) refl
 spells-groups_in (unit ∷ others) text secs are s =
@@ -158,11 +172,14 @@ spells-groups_in (unit ∷ others) text secs are s =
       | inl first ↦
           let count = prefix_len is_digit text in
           let led = is_led unit.letter text first in
-          let left = behind_first unit others (take count text) (drop (count + 1) text) text secs are led.digits led.text_is s in
-          rw (first, spells-groups_in others (drop (count + 1) text) left.more are.1 left.rest) (ap Some (sym left.secs_is))
+          let left =
+          behind_first unit others (take count text) (drop (count + 1) text) text secs are led.digits led.text_is s in
+          rw (first, spells-groups_in others (drop (count + 1) text) left.more are.1 left.rest)
+          (ap Some (sym left.secs_is))
       | inr other ↦
           let skipped = none_first unit others text secs
-          (λ number behind digits e. absurd (let led = led_is unit.letter text number behind are.0.letter digits e in cc)) s in
+          (λ number behind digits e.
+          absurd (let led = led_is unit.letter text number behind are.0.letter digits e in cc)) s in
           rw other (spells-groups_in others text secs are.1 skipped)
     ]
 
@@ -186,22 +203,26 @@ spells-duration_in text secs s =
           rw other (is_fitting (groups_in units text) secs (spells-groups_in units text secs are_units sum.0) sum.1)
     ]
 
-pub duration_value : (r : Option ℕ) (text : List ℕ) → IfSome r (λ n. SpellsDuration text n) → ((n : ℕ) → SpellsDuration text n → r ≡ Some n) → r ≡ duration_in text
+pub duration_value : (r : Option ℕ) (text : List ℕ) → IfSome r (λ n. SpellsDuration text n)
+    → ((n : ℕ) → SpellsDuration text n → r ≡ Some n) → r ≡ duration_in text
 duration_value r text spelled only =
-    same_reading (SpellsDuration text) r (duration_in text) spelled only (duration_in-spells text) (spells-duration_in text)
+    same_reading (SpellsDuration text) r (duration_in text) spelled only (duration_in-spells text)
+    (spells-duration_in text)
 
 -- the first that passes below a bound is below it, and passes
 record Found (bound : ℕ) (passes : ℕ → Bool) (n : ℕ) : Type 0 where
   below : n < bound
   found : passes n ≡ true
 
-found_at : (test : Bool) (bound : ℕ) (passes : ℕ → Bool) (n : ℕ) → passes bound ≡ test → cond test (Some bound) None ≡ Some n → Found (suc bound) passes n
+found_at : (test : Bool) (bound : ℕ) (passes : ℕ → Bool) (n : ℕ) → passes bound ≡ test
+    → cond test (Some bound) None ≡ Some n → Found (suc bound) passes n
 found_at test bound passes n at e =
     let p = passed test bound n e in
     let same = p.same in
     record { below = omega arith; found = rw (← same) (at ∙ p.passes) }
 
-found_in : (before : Option ℕ) (bound : ℕ) (passes : ℕ → Bool) (n : ℕ) → ((k : ℕ) → before ≡ Some k → Found bound passes k)
+found_in : (before : Option ℕ) (bound : ℕ) (passes : ℕ → Bool) (n : ℕ)
+    → ((k : ℕ) → before ≡ Some k → Found bound passes k)
     → option_or before (cond (passes bound) (Some bound) None) ≡ Some n → Found (suc bound) passes n
 found_in None bound passes n earlier e = found_at (passes bound) bound passes n refl e
 found_in (Some k) bound passes n earlier e =
@@ -212,15 +233,19 @@ found_in (Some k) bound passes n earlier e =
 first_below-found : (bound : ℕ) (passes : ℕ → Bool) (n : ℕ) → first_below bound passes ≡ Some n → Found bound passes n
 unfolding first_below
 first_below-found zero passes n e = cc
-first_below-found (suc bound) passes n e = found_in (first_below bound passes) bound passes n (first_below-found bound passes) e
+first_below-found (suc bound) passes n e =
+    found_in (first_below bound passes) bound passes n (first_below-found bound passes) e
 
-none_below : (bound : ℕ) (passes : ℕ → Bool) → ((k : ℕ) → k < bound → passes k ≡ false) → first_below bound passes ≡ None
+none_below : (bound : ℕ) (passes : ℕ → Bool) → ((k : ℕ) → k < bound → passes k ≡ false)
+    → first_below bound passes ≡ None
 unfolding first_below
 none_below zero passes none = refl
-none_below (suc bound) passes none = rw (none_below bound passes (λ k below. none k (omega arith)), none bound (omega arith)) refl
+none_below (suc bound) passes none =
+    rw (none_below bound passes (λ k below. none k (omega arith)), none bound (omega arith)) refl
 
 -- what passes is the first where none before it passes
-first_below-is : (bound : ℕ) (passes : ℕ → Bool) (n : ℕ) → n < bound → passes n ≡ true → ((k : ℕ) → k < n → passes k ≡ false) → first_below bound passes ≡ Some n
+first_below-is : (bound : ℕ) (passes : ℕ → Bool) (n : ℕ) → n < bound → passes n ≡ true
+    → ((k : ℕ) → k < n → passes k ≡ false) → first_below bound passes ≡ Some n
 unfolding first_below
 first_below-is zero passes n below here none = absurd (omega arith)
 first_below-is (suc bound) passes n below here none =
@@ -236,7 +261,8 @@ same_four : (x y : ℕ) → x / 100 ≡ y / 100 → x % 100 ≡ y % 100 → x �
 same_four x y hundreds rest = omega arith
 
 -- civil times with one spelling have the same seconds
-same_text_seconds : (a b : DateTime) (secs secs' : ℕ) → IsAt a secs → IsAt b secs' → civil_text a ≡ civil_text b → secs ≡ secs'
+same_text_seconds : (a b : DateTime) (secs secs' : ℕ) → IsAt a secs → IsAt b secs' → civil_text a ≡ civil_text b
+    → secs ≡ secs'
 unfolding civil_text
 same_text_seconds a b secs secs' at at' e =
     let byte = λ (i : ℕ). ap (λ (x : List ℕ). slice_index x i) e in
@@ -248,7 +274,8 @@ same_text_seconds a b secs secs' at at' e =
     let hour = same_two a.time.hour b.time.hour (byte 11) (byte 12) in
     let minute = same_two a.time.minute b.time.minute (byte 14) (byte 15) in
     let second = same_two a.time.second b.time.second (byte 17) (byte 18) in
-    let same = same_seconds a b a.date.year (pos a.date.month) (pos a.date.day) (pos a.time.hour) (pos a.time.minute) (pos a.time.second)
+    let same = same_seconds a b a.date.year (pos a.date.month) (pos a.date.day) (pos a.time.hour) (pos a.time.minute)
+    (pos a.time.second)
     (refl, refl, refl) refl refl refl (year_is a secs at ∙ ap pos year ∙ sym (year_is b secs' at'))
     (ap pos month) (ap pos day) (ap pos hour) (ap pos minute) (ap pos second) in
     let whole : pos secs ≡ pos secs' = sym at.seconds ∙ same ∙ at'.seconds in
@@ -256,7 +283,8 @@ same_text_seconds a b secs secs' at at' e =
 
 -- and so a text spells one time at most as a civil time
 pub one_civil_time : (text : List ℕ) (secs secs' : ℕ) → SpellsCivil text secs → SpellsCivil text secs' → secs ≡ secs'
-one_civil_time text secs secs' s s' = same_text_seconds s.time s'.time secs secs' s.at s'.at (sym s.text_is ∙ s'.text_is)
+one_civil_time text secs secs' s s' =
+    same_text_seconds s.time s'.time secs secs' s.at s'.at (sym s.text_is ∙ s'.text_is)
 
 pub civil_in-spells : (text : List ℕ) (secs : ℕ) → civil_in text ≡ Some secs → SpellsCivil text secs
 unfolding civil_in
@@ -265,12 +293,14 @@ civil_in-spells text secs e =
     let P : List ℕ → Type 0 = λ t. SpellsCivil t secs in
     subst P (sym ((bytes_eq-Decides text (civil_text_at secs)).0 f.found)) (civil_text_at-spells secs f.below)
 
-other_text : (text : List ℕ) (secs other : ℕ) → SpellsCivil text secs → other < secs → (b : Bool) → bytes_eq text (civil_text_at other) ≡ b → b ≡ false
+other_text : (text : List ℕ) (secs other : ℕ) → SpellsCivil text secs → other < secs → (b : Bool)
+    → bytes_eq text (civil_text_at other) ≡ b → b ≡ false
 other_text text secs other s below false e = refl
 other_text text secs other s below true e =
     let P : List ℕ → Type 0 = λ t. SpellsCivil t other in
     let fits = s.at.fits in
-    let spelled = subst P (sym ((bytes_eq-Decides text (civil_text_at other)).0 e)) (civil_text_at-spells other (omega arith)) in
+    let spelled =
+    subst P (sym ((bytes_eq-Decides text (civil_text_at other)).0 e)) (civil_text_at-spells other (omega arith)) in
     absurd (let same = one_civil_time text secs other s spelled in omega arith)
 
 pub spells-civil_in : (text : List ℕ) (secs : ℕ) → SpellsCivil text secs → civil_in text ≡ Some secs
@@ -285,7 +315,8 @@ no_seconds : (r : Option ℕ) (text : List ℕ) → seconds_in text ≡ r → le
 no_seconds None text e long = refl
 no_seconds (Some n) text e long = absurd (let s = seconds_in-spells text n e in let few = s.number.few in omega arith)
 
-number_or_civil : (a b : Option ℕ) (text : List ℕ) (secs : ℕ) → seconds_in text ≡ a → civil_in text ≡ b → option_or a b ≡ Some secs → SpellsTime text secs
+number_or_civil : (a b : Option ℕ) (text : List ℕ) (secs : ℕ) → seconds_in text ≡ a → civil_in text ≡ b
+    → option_or a b ≡ Some secs → SpellsTime text secs
 unfolding SpellsTime
 number_or_civil None b text secs ea eb e = inr (inr (civil_in-spells text secs (eb ∙ e)))
 number_or_civil (Some n) b text secs ea eb e = inr (inl (seconds_in-spells text secs (ea ∙ e)))
@@ -298,7 +329,8 @@ time_in-spells text secs e =
       | inr other ↦ number_or_civil (seconds_in text) (civil_in text) text secs refl refl (rw other at e)
     ]
 
-else_time_in : (text : List ℕ) (secs : ℕ) → text ≢ codes "never" → SpellsTime text secs → option_or (seconds_in text) (civil_in text) ≡ Some secs
+else_time_in : (text : List ℕ) (secs : ℕ) → text ≢ codes "never" → SpellsTime text secs
+    → option_or (seconds_in text) (civil_in text) ≡ Some secs
 unfolding SpellsTime
 else_time_in text secs other (inl never) = absurd (other never.0)
 else_time_in text secs other (inr (inl number)) = rw (spells-seconds_in text secs number) refl
@@ -310,14 +342,17 @@ pub spells-time_in : (text : List ℕ) (secs : ℕ) → SpellsTime text secs →
 unfolding time_in
 spells-time_in text secs s =
     elim (cases_Bool (bytes_eq text (codes "never"))) [
-      | inl never ↦ rw never (ap Some (sym (never_is_zero text secs ((bytes_eq-Decides text (codes "never")).0 never) s)))
+      | inl never ↦
+          rw never (ap Some (sym (never_is_zero text secs ((bytes_eq-Decides text (codes "never")).0 never) s)))
       | inr other ↦
           let differs : text ≢ codes "never" = λ e. let same = (bytes_eq-Decides text (codes "never")).1 e in cc in
           rw other (else_time_in text secs differs s)
     ]
 
-pub time_value : (r : Option ℕ) (text : List ℕ) → IfSome r (λ n. SpellsTime text n) → ((n : ℕ) → SpellsTime text n → r ≡ Some n) → r ≡ time_in text
-time_value r text spelled only = same_reading (SpellsTime text) r (time_in text) spelled only (time_in-spells text) (spells-time_in text)
+pub time_value : (r : Option ℕ) (text : List ℕ) → IfSome r (λ n. SpellsTime text n)
+    → ((n : ℕ) → SpellsTime text n → r ≡ Some n) → r ≡ time_in text
+time_value r text spelled only =
+    same_reading (SpellsTime text) r (time_in text) spelled only (time_in-spells text) (spells-time_in text)
 
 -- what is written for a time is read as it
 pub time_in-civil_text_at : (secs : ℕ) → secs < 2 ^ 32 → time_in (civil_text_at secs) ≡ Some secs

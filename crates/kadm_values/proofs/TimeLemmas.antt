@@ -1,9 +1,12 @@
 -- A number of seconds has one civil time, and so one spelling as such.
-use Rattle.std.proofs.Common.{◌≡◌, ℕ, ◌*◌, ◌^◌, ◌<◌, List, refl, sym, ap, ◌∙◌, arith, ℤ, pos, negsuc, ◌≤ℤ◌, ◌≤◌, inl, w8, w16, w64, FitsSigned, to_z, of_z, unsigned_abs, length, inr, codes, ◌≢◌, Option, Some, None, IfSome}
+use Rattle.std.proofs.Common.{◌≡◌, ℕ, ◌*◌, ◌^◌, ◌<◌, List, refl, sym, ap, ◌∙◌, arith, ℤ, pos}
+use Rattle.std.proofs.Common.{negsuc, ◌≤ℤ◌, ◌≤◌, inl, w8, w16, w64, FitsSigned, to_z, of_z}
+use Rattle.std.proofs.Common.{unsigned_abs, length, inr, codes, ◌≢◌, Option, Some, None, IfSome}
 use Rattle.std.proofs.lemmas.Int.{by_lt_z, to_z-of_z}
 use Rattle.jiff.specs.Types.{Date, DateTime}
 use Rattle.jiff.specs.Words.{civil_seconds, civil_nanos, epoch_day, IsDate, IsTime, IsYmd, IsYear, days_in_month}
-use Rattle.jiff.proofs.Family.{civil_nanos-civil_seconds, civil_nanos_injective, time_nanos_injective, epoch_day_injective, epoch_day-lt, epoch_day_same}
+use Rattle.jiff.proofs.Family.{civil_nanos-civil_seconds, civil_nanos_injective, time_nanos_injective}
+use Rattle.jiff.proofs.Family.{epoch_day_injective, epoch_day-lt, epoch_day_same}
 use Rattle.jiff.proofs.SpanFacts.{signed_arith}
 use Rattle.jiff.proofs.OnLiterals.{jiff_on_literals}
 use Rattle.kadm_values.specs.Numbers.{SpellsSeconds}
@@ -34,12 +37,20 @@ same_text a b secs at at' =
     cc
 
 -- so each other spelling of these seconds is that text
-pub only_text : (t : DateTime) (secs : ℕ) (text other : List ℕ) → IsAt t secs → text ≡ civil_text t → SpellsCivil other secs → other ≡ text
+pub only_text : (t : DateTime) (secs : ℕ) (text other : List ℕ) → IsAt t secs → text ≡ civil_text t
+    → SpellsCivil other secs → other ≡ text
 only_text t secs text other at e s = s.text_is ∙ same_text s.time t secs s.at at ∙ sym e
 
 -- the day that is counted 0
 first_day : Date
-first_day = record { year = pos 1970; month = 1; day = 1; year_in = omega (arith, signed_arith); month_in = omega arith; day_in = omega arith }
+first_day = record {
+  year = pos 1970;
+  month = 1;
+  day = 1;
+  year_in = omega (arith, signed_arith);
+  month_in = omega arith;
+  day_in = omega arith;
+}
 
 first_day-epoch_day : epoch_day first_day ≡ pos 0
 unfolding jiff_on_literals first_day
@@ -50,7 +61,8 @@ unfolding first_day civil_seconds
 since_1970 t secs at =
     let seconds = at.seconds in
     by_lt_z t.date.year (pos 1970)
-    (λ early. absurd (let before = epoch_day-lt t.date first_day (inl early) in omega (arith, signed_arith, first_day-epoch_day)))
+    (λ early.
+    absurd (let before = epoch_day-lt t.date first_day (inl early) in omega (arith, signed_arith, first_day-epoch_day)))
     (λ late. late)
 
 natural : (z : ℤ) → pos 0 ≤ℤ z → z ≡ pos (unsigned_abs z)
@@ -92,8 +104,10 @@ can_make t y mo d h mi s ey emo ed eh emi es =
     rw (ey, emo, ed, eh, emi, es) (omega (arith, signed_arith))
 
 -- and times with the same parts have the same seconds
-pub same_seconds : (a b : DateTime) (y mo d h mi s : ℤ) → IsYmd y mo d a.date → pos a.time.hour ≡ h → pos a.time.minute ≡ mi → pos a.time.second ≡ s
-    → y ≡ b.date.year → mo ≡ pos b.date.month → d ≡ pos b.date.day → h ≡ pos b.time.hour → mi ≡ pos b.time.minute → s ≡ pos b.time.second
+pub same_seconds : (a b : DateTime) (y mo d h mi s : ℤ) → IsYmd y mo d a.date → pos a.time.hour ≡ h
+    → pos a.time.minute ≡ mi → pos a.time.second ≡ s
+    → y ≡ b.date.year → mo ≡ pos b.date.month → d ≡ pos b.date.day → h ≡ pos b.time.hour → mi ≡ pos b.time.minute
+    → s ≡ pos b.time.second
     → civil_seconds a ≡ civil_seconds b
 unfolding civil_seconds
 same_seconds a b y mo d h mi s ymd ah ami as' ey emo ed eh emi es =
@@ -122,18 +136,22 @@ twenty_is_civil text secs e (inl zero) = absurd (omega (arith, ap length zero.0)
 twenty_is_civil text secs e (inr (inl number)) = absurd (omega (arith, number.number.few))
 twenty_is_civil text secs e (inr (inr civil)) = civil
 
-pub else_number : (text : List ℕ) (secs : ℕ) → text ≢ codes "never" → length text ≢ 20 → SpellsTime text secs → SpellsSeconds text secs
+pub else_number : (text : List ℕ) (secs : ℕ) → text ≢ codes "never" → length text ≢ 20 → SpellsTime text secs
+    → SpellsSeconds text secs
 unfolding SpellsTime
 else_number text secs other long (inl zero) = absurd (other zero.0)
 else_number text secs other long (inr (inl number)) = number
-else_number text secs other long (inr (inr civil)) = absurd (long (ap length civil.text_is ∙ length-civil_text civil.time))
+else_number text secs other long (inr (inr civil)) =
+    absurd (long (ap length civil.text_is ∙ length-civil_text civil.time))
 
-pub civil_then_time : (r : Option ℕ) (text : List ℕ) → IfSome r (λ secs. SpellsCivil text secs) → IfSome r (λ secs. SpellsTime text secs)
+pub civil_then_time : (r : Option ℕ) (text : List ℕ) → IfSome r (λ secs. SpellsCivil text secs)
+    → IfSome r (λ secs. SpellsTime text secs)
 unfolding SpellsTime
 civil_then_time None text h = h
 civil_then_time (Some secs) text h = inr (inr h)
 
-pub number_then_time : (r : Option ℕ) (text : List ℕ) → IfSome r (λ secs. SpellsSeconds text secs) → IfSome r (λ secs. SpellsTime text secs)
+pub number_then_time : (r : Option ℕ) (text : List ℕ) → IfSome r (λ secs. SpellsSeconds text secs)
+    → IfSome r (λ secs. SpellsTime text secs)
 unfolding SpellsTime
 number_then_time None text h = h
 number_then_time (Some secs) text h = inr (inl h)

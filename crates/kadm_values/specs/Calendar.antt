@@ -31,24 +31,52 @@ has_january = (omega arith, omega arith)
 
 -- 1970-01-01
 unfoldable pub first_day : Date
-first_day = record { year = pos 1970; month = 1; day = 1; year_in = has_1970; month_in = has_january; day_in = has_first (pos 1970) 1 }
+first_day = record {
+  year = pos 1970;
+  month = 1;
+  day = 1;
+  year_in = has_1970;
+  month_in = has_january;
+  day_in = has_first (pos 1970) 1;
+}
 
 -- 1 January of the next year; 9999-12-31 has no day after it
 unfoldable pub next_year : (d : Date) → (d.year <ℤ pos 9999) ⊎ (pos 9999 ≤ℤ d.year) → Date
 next_year d (inl within) =
-    record { year = d.year +ℤ pos 1; month = 1; day = 1; year_in = has_next_year d within; month_in = has_january; day_in = has_first (d.year +ℤ pos 1) 1 }
+    record {
+      year = d.year +ℤ pos 1;
+      month = 1;
+      day = 1;
+      year_in = has_next_year d within;
+      month_in = has_january;
+      day_in = has_first (d.year +ℤ pos 1) 1;
+    }
 next_year d (inr last) = d
 
 -- the first of the next month
 unfoldable pub next_month : (d : Date) → (d.month < 12) ⊎ (12 ≤ d.month) → Date
 next_month d (inl within) =
-    record { year = d.year; month = d.month + 1; day = 1; year_in = d.year_in; month_in = has_next_month d within; day_in = has_first d.year (d.month + 1) }
+    record {
+      year = d.year;
+      month = d.month + 1;
+      day = 1;
+      year_in = d.year_in;
+      month_in = has_next_month d within;
+      day_in = has_first d.year (d.month + 1);
+    }
 next_month d (inr last) = next_year d (by_lt_z d.year (pos 9999) inl inr)
 
 -- the next day of the month, and behind its last day the first of the next month
 unfoldable pub day_after : (d : Date) → (d.day < month_length d) ⊎ (month_length d ≤ d.day) → Date
 day_after d (inl within) =
-    record { year = d.year; month = d.month; day = d.day + 1; year_in = d.year_in; month_in = d.month_in; day_in = has_next_day d within }
+    record {
+      year = d.year;
+      month = d.month;
+      day = d.day + 1;
+      year_in = d.year_in;
+      month_in = d.month_in;
+      day_in = has_next_day d within;
+    }
 day_after d (inr last) = next_month d (cases_lt d.month 12)
 
 -- the day after it

@@ -1,5 +1,6 @@
 -- Durations as text.
-use Rattle.std.specs.Prelude.{ℕ, ◌≡◌, ◌+◌, ◌*◌, ◌^◌, ◌<◌, ◌≤◌, ◌⊎◌, true, false, not, nat_eq, ⊤, List, [], ◌∷◌, ◌++◌, length}
+use Rattle.std.specs.Prelude.{ℕ, ◌≡◌, ◌+◌, ◌*◌, ◌^◌, ◌<◌, ◌≤◌, ◌⊎◌, true, false}
+use Rattle.std.specs.Prelude.{not, nat_eq, ⊤, List, [], ◌∷◌, ◌++◌, length}
 use Rattle.std.specs.List.{list_all}
 use Rattle.kadm_values.specs.declared.durations.Unit.{Unit}
 use Rattle.kadm_values.specs.Numbers.{is_digit, decimal_value, IsDigits, SpellsSeconds}

@@ -1,5 +1,6 @@
 -- The words of encryption types (kdc.conf of the MIT Kerberos administration guide), and lists of them.
-use Rattle.std.specs.Prelude.{ℕ, ◌≡◌, ◌⊎◌, ◌-◌, ◌==◌, Bool, true, nat_le, List, [], ◌∷◌, ◌++◌, codes, length, drop, take, find, count_by, Option, Some, None, option_map, if◌then◌else◌}
+use Rattle.std.specs.Prelude.{ℕ, ◌≡◌, ◌⊎◌, ◌-◌, ◌==◌, Bool, true, nat_le, List, [], ◌∷◌, ◌++◌, codes, length}
+use Rattle.std.specs.Prelude.{drop, take, find, count_by, Option, Some, None, option_map, if◌then◌else◌}
 use Rattle.std.specs.List.{AllZip, Contains, list_all, slice_split}
 use Rattle.std.specs.Option.{option_and_then}
 use Rattle.std.specs.Str.{bytes_eq}
@@ -84,4 +85,5 @@ all_listed (item ∷ items) = before_listed (listed_in item) (all_listed items)
 
 -- the types of a text, where it is a list of them
 unfoldable pub etypes_in : List ℕ → Option (List Etype)
-etypes_in text = option_and_then (λ etypes. if are_once etypes then Some etypes else None) (all_listed (slice_split is_comma text))
+etypes_in text =
+    option_and_then (λ etypes. if are_once etypes then Some etypes else None) (all_listed (slice_split is_comma text))

@@ -1,5 +1,6 @@
 -- The attribute bits of a principal, and the words of kadmin for them.
-use Rattle.std.specs.Prelude.{ℕ, Bool, true, false, not, nat_eq, List, [], ◌∷◌, codes, filter, find, fold, Option, Some, None, if◌then◌else◌, bit_and, bit_or}
+use Rattle.std.specs.Prelude.{ℕ, Bool, true, false, not, nat_eq, List, [], ◌∷◌, codes, filter}
+use Rattle.std.specs.Prelude.{find, fold, Option, Some, None, if◌then◌else◌, bit_and, bit_or}
 use Rattle.std.specs.Int.{bit_not}
 use Rattle.std.specs.Int.Width.{w32}
 use Rattle.std.specs.Str.{bytes_eq}
@@ -55,7 +56,8 @@ flag_change (sign ∷ word) =
 
 -- a flag's bit is set or cleared; all other bits stay
 abbrev pub with_flag : ℕ → FlagChange → ℕ
-with_flag attributes change = if change.set then bit_or attributes change.bit else bit_and attributes (bit_not w32 change.bit)
+with_flag attributes change =
+    if change.set then bit_or attributes change.bit else bit_and attributes (bit_not w32 change.bit)
 
 -- from left to right, so that the last flag on a bit counts
 unfoldable pub with_flags : ℕ → List FlagChange → ℕ

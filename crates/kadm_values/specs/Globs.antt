@@ -1,5 +1,6 @@
 -- Globs: patterns in which * stands for any bytes and ? for one byte.
-use Rattle.std.specs.Prelude.{ℕ, ◌≡◌, ◌≢◌, ◌⊎◌, ◌+◌, ◌<◌, ◌≤◌, Bool, true, false, ◌||◌, ◌&&◌, nat_eq, List, [], ◌∷◌, length, drop, Option, Some, None, if◌then◌else◌}
+use Rattle.std.specs.Prelude.{ℕ, ◌≡◌, ◌≢◌, ◌⊎◌, ◌+◌, ◌<◌, ◌≤◌, Bool, true, false, ◌||◌, ◌&&◌, nat_eq}
+use Rattle.std.specs.Prelude.{List, [], ◌∷◌, length, drop, Option, Some, None, if◌then◌else◌}
 use Rattle.std.specs.List.{list_any}
 use Rattle.kadm_values.specs.declared.globs.Laid.{Laid}
 use Rattle.kadm_values.specs.declared.globs.Laid.TheVariants.{Whole, Star, Apart}
@@ -29,7 +30,8 @@ pub record IsStar (glob text : List ℕ) (count : ℕ) : Type 0 where
   pub within : count < length glob
   pub long : count ≤ length text
   pub back : AnyBytes (Matches (drop (count + 1) glob)) (drop count text) → Matches glob text
-  pub forth : (skipped : ℕ) → Matches glob (drop skipped text) → AnyBytes (Matches (drop (count + 1) glob)) (drop count text)
+  pub forth : (skipped : ℕ) → Matches glob (drop skipped text)
+      → AnyBytes (Matches (drop (count + 1) glob)) (drop count text)
 
 -- what comes of a glob that is laid on a text up to its first *
 abbrev pub IsLaid : List ℕ → List ℕ → Laid → Type 0
@@ -52,7 +54,8 @@ leads wanted rest (byte ∷ text) = (nat_eq wanted 63 || nat_eq wanted byte) && 
 -- whether the glob matches the whole text
 unfoldable pub matches : List ℕ → List ℕ → Bool
 matches [] text = nat_eq (length text) 0
-matches (wanted ∷ glob) text = if nat_eq wanted 42 then list_any (matches glob) (ends_of text) else leads wanted (matches glob) text
+matches (wanted ∷ glob) text =
+    if nat_eq wanted 42 then list_any (matches glob) (ends_of text) else leads wanted (matches glob) text
 
 -- the glob matches the name, or there is none
 abbrev pub is_listed : Option (List ℕ) → List ℕ → Bool

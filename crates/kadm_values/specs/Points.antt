@@ -8,4 +8,5 @@ six_digits n = replicate (6 - length (decimal n)) 48 ++ decimal n
 
 -- the serial number, the seconds, and the microseconds in six digits
 unfoldable pub point_text : Point → List ℕ
-point_text point = decimal point.sno ++ (codes " " ++ (decimal point.time.secs ++ (codes "." ++ six_digits point.time.usecs)))
+point_text point =
+    decimal point.sno ++ (codes " " ++ (decimal point.time.secs ++ (codes "." ++ six_digits point.time.usecs)))

@@ -1,5 +1,6 @@
 -- What a text spells, as a function of its bytes; nothing where it spells no such value.
-use Rattle.std.specs.Prelude.{ℕ, zero, suc, ◌+◌, ◌*◌, ◌^◌, Bool, ◌&&◌, nat_lt, nat_le, nat_eq, if◌then◌else◌, List, [], ◌∷◌, length, take, drop, slice_index, codes, Option, Some, None, option_map}
+use Rattle.std.specs.Prelude.{ℕ, zero, suc, ◌+◌, ◌*◌, ◌^◌, Bool, ◌&&◌, nat_lt, nat_le, nat_eq, if◌then◌else◌, List}
+use Rattle.std.specs.Prelude.{[], ◌∷◌, length, take, drop, slice_index, codes, Option, Some, None, option_map}
 use Rattle.std.specs.List.{list_all, prefix_len}
 use Rattle.std.specs.Option.{option_or}
 use Rattle.std.specs.Str.{bytes_eq}
@@ -11,7 +12,8 @@ use Rattle.kadm_values.specs.Calendar.{civil_text_at}
 -- the value of 1 to 10 digits
 unfoldable pub number_in : List ℕ → Option ℕ
 number_in text =
-    if nat_lt 0 (length text) && nat_le (length text) 10 && list_all is_digit text then Some (decimal_value text) else None
+    if nat_lt 0 (length text) && nat_le (length text) 10 && list_all is_digit text
+    then Some (decimal_value text) else None
 
 -- seconds that fit 32 bits
 unfoldable pub fitting : Option ℕ → Option ℕ
@@ -36,7 +38,8 @@ groups_in [] (byte ∷ text) = None
 groups_in (unit ∷ others) text =
     let count = prefix_len is_digit text in
     if is_led_by unit.letter text
-    then option_map (λ more. decimal_value (take count text) * unit.seconds + more) (groups_in others (drop (count + 1) text))
+    then option_map (λ more. decimal_value (take count text) * unit.seconds + more)
+    (groups_in others (drop (count + 1) text))
     else groups_in others text
 
 -- digits alone are seconds; else groups with a sum that fits

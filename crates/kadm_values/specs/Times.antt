@@ -12,8 +12,10 @@ two_digits number = (48 + number / 10) ∷ (48 + number % 10) ∷ []
 unfoldable pub civil_text : DateTime → List ℕ
 civil_text t =
     let year = unsigned_abs t.date.year in
-    two_digits (year / 100) ++ two_digits (year % 100) ++ codes "-" ++ two_digits t.date.month ++ codes "-" ++ two_digits t.date.day
-    ++ codes "T" ++ two_digits t.time.hour ++ codes ":" ++ two_digits t.time.minute ++ codes ":" ++ two_digits t.time.second ++ codes "Z"
+    two_digits (year / 100) ++ two_digits (year % 100) ++ codes "-" ++ two_digits t.date.month ++ codes "-"
+    ++ two_digits t.date.day
+    ++ codes "T" ++ two_digits t.time.hour ++ codes ":" ++ two_digits t.time.minute ++ codes ":"
+    ++ two_digits t.time.second ++ codes "Z"
 
 -- the date and time, which the calendar and the clock have, is that many whole seconds behind
 -- 1970-01-01T00:00:00; at most 2^32 - 1, which is 2106-02-07T06:28:15

@@ -1,4 +1,5 @@
-ghost use Rattle.std.specs.Prelude.{List, ℕ, ◌≡◌, ◌+◌, ◌*◌, ◌^◌, ◌<◌, ◌≤◌, [], ◌∷◌, ◌++◌, take, drop, true, false, Some, IfSome, length};
+ghost use Rattle.std.specs.Prelude.{List, ℕ, ◌≡◌, ◌+◌, ◌*◌, ◌^◌, ◌<◌, ◌≤◌, [], ◌∷◌, ◌++◌};
+ghost use Rattle.std.specs.Prelude.{take, drop, true, false, Some, IfSome, length};
 ghost use Rattle.kadm_values.specs.Numbers.{is_digit, decimal_value, IsDigits};
 ghost use Rattle.std.specs.List.{prefix_len};
 ghost use Rattle.kadm_values.specs.Durations.{units, IsUnits, SpellsGroups, SpellsSum, SpellsDuration};
@@ -51,7 +52,8 @@ fn digits_before(text: &[u8], letter: u8) -> usize
     ensures within { 1 ≤ result → result < length text.now }
     ensures digits { 1 ≤ result → IsDigits (take result text.now) }
     ensures split { 1 ≤ result → text.now ≡ take result text.now ++ letter ∷ drop (result + 1) text.now }
-    ensures only { (number behind : List ℕ) → IsDigits number → text.now ≡ number ++ letter ∷ behind → result ≡ length number }
+    ensures only { (number behind : List ℕ) → IsDigits number → text.now ≡ number ++ letter ∷ behind
+        → result ≡ length number }
 {
     let count = count_digits(text);
     if count >= text.len() {

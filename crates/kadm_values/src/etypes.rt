@@ -1,8 +1,11 @@
-ghost use Rattle.std.specs.Prelude.{List, ℕ, ◌≡◌, ◌-◌, ◌≤◌, IfOk, IfSome, None, Some, count_by, drop, find, length, map, nat_le, option_map, take};
+ghost use Rattle.std.specs.Prelude.{List, ℕ, ◌≡◌, ◌-◌, ◌≤◌, IfOk, IfSome, None, Some, count_by};
+ghost use Rattle.std.specs.Prelude.{drop, find, length, map, nat_le, option_map, take};
 ghost use Rattle.std.specs.List.{list_all, slice_split};
 ghost use Rattle.std.specs.Str.{bytes_eq};
 ghost use Rattle.kdb_base.specs.declared.keys.Etype.{Etype as EtypeShape};
-ghost use Rattle.kadm_values.specs.EtypeWords.{SpellsEtype, SpellsEtypes, all_listed, are_once, etype_named, etype_rows, etypes_in, is_comma, known_etypes, listed_in, row_of, same_etype, without_salt};
+ghost use Rattle.kadm_values.specs.EtypeWords.{SpellsEtype, SpellsEtypes, all_listed, are_once};
+ghost use Rattle.kadm_values.specs.EtypeWords.{etype_named, etype_rows, etypes_in, is_comma, known_etypes};
+ghost use Rattle.kadm_values.specs.EtypeWords.{listed_in, row_of, same_etype, without_salt};
 
 use crate::bytes::{after, before, is_same};
 use kdb_base::{Etype, MemoryOut};
@@ -205,7 +208,8 @@ fn etypes_in(alloc: Global, text: &[u8]) -> Result<Option<Vec<Etype>>, MemoryOut
 /// stand behind each. A type that stands twice is refused.
 pub fn read_etypes(alloc: Global, text: &[u8]) -> Result<Option<Vec<Etype>>, MemoryOut>
     ensures spelled { IfOk result (λ etypes. IfSome etypes (λ v. SpellsEtypes text.now v.items)) }
-    ensures only { (etypes : List EtypeShape) → SpellsEtypes text.now etypes → IfOk result (λ found. option_map (λ v. v.items) found ≡ Some etypes) }
+    ensures only { (etypes : List EtypeShape) → SpellsEtypes text.now etypes
+        → IfOk result (λ found. option_map (λ v. v.items) found ≡ Some etypes) }
     ensures value { IfOk result (λ etypes. option_map (λ v. v.items) etypes ≡ etypes_in text.now) }
 {
     let etypes = etypes_in(alloc, text)?;

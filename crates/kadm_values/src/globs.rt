@@ -1,4 +1,5 @@
-ghost use Rattle.std.specs.Prelude.{List, ℕ, ◌≡◌, ◌+◌, ◌<◌, ◌≤◌, ◌≢◌, ◌⊎◌, true, false, length, drop, slice_index, not, nat_eq};
+ghost use Rattle.std.specs.Prelude.{List, ℕ, ◌≡◌, ◌+◌, ◌<◌, ◌≤◌, ◌≢◌, ◌⊎◌, true};
+ghost use Rattle.std.specs.Prelude.{false, length, drop, slice_index, not, nat_eq};
 ghost use Rattle.std.specs.List.{list_all};
 ghost use Rattle.kadm_values.specs.Globs.{AnyBytes, Matches, IsLaid, matches};
 

@@ -1,4 +1,5 @@
-ghost use Rattle.std.specs.Prelude.{List, ℕ, ◌≡◌, ◌+◌, ◌/◌, ◌%◌, ◌^◌, ◌<◌, ◌≤◌, pos, ◌≤ℤ◌, Some, IfSome, length, slice_index};
+ghost use Rattle.std.specs.Prelude.{List, ℕ, ◌≡◌, ◌+◌, ◌/◌, ◌%◌, ◌^◌, ◌<◌, ◌≤◌};
+ghost use Rattle.std.specs.Prelude.{pos, ◌≤ℤ◌, Some, IfSome, length, slice_index};
 ghost use Rattle.jiff.specs.Types.{DateTime as CivilTime};
 ghost use Rattle.kadm_values.specs.Calendar.{civil_text_at};
 ghost use Rattle.kadm_values.specs.Readings.{time_in};
@@ -37,7 +38,8 @@ fn digit_value(byte: u8) -> u8
 // The number below 100 whose two digits stand there; some such number where no digits stand.
 fn two_at(text: &[u8], at: usize) -> i8
     requires { at + 1 < length text.now }
-    ensures value { (x : ℕ) → x < 100 → slice_index text.now at ≡ 48 + x / 10 → slice_index text.now (at + 1) ≡ 48 + x % 10 → result ≡ pos x }
+    ensures value { (x : ℕ) → x < 100 → slice_index text.now at ≡ 48 + x / 10
+        → slice_index text.now (at + 1) ≡ 48 + x % 10 → result ≡ pos x }
     ensures low { pos 0 ≤ℤ result }
     ensures high { result ≤ℤ pos 99 }
 {
@@ -48,7 +50,8 @@ fn two_at(text: &[u8], at: usize) -> i8
 // The number below 10000 whose four digits stand in front; some such number where no digits stand.
 fn year_at(text: &[u8]) -> i16
     requires { 4 ≤ length text.now }
-    ensures { (x : ℕ) → x < 10000 → slice_index text.now 0 ≡ 48 + x / 100 / 10 → slice_index text.now 1 ≡ 48 + x / 100 % 10
+    ensures { (x : ℕ) → x < 10000 → slice_index text.now 0 ≡ 48 + x / 100 / 10
+        → slice_index text.now 1 ≡ 48 + x / 100 % 10
         → slice_index text.now 2 ≡ 48 + x % 100 / 10 → slice_index text.now 3 ≡ 48 + x % 100 % 10 → result ≡ pos x }
 {
     100 * i16::from(two_at(text, 0)) + i16::from(two_at(text, 2))

@@ -6,7 +6,8 @@ use Rattle.kadm_wire.specs.declared.verbs.Verb.{Verb}
 use Rattle.kadm_wire.specs.declared.verbs.VerbWord.{VerbWord}
 use Rattle.kadm_values.proofs.FlagLemmas.{find-map}
 
-verb_of : (r : Option VerbWord) → option_map (λ row. row.verb) r ≡ option_map (λ (row : VerbRow). row.verb) (option_map verb_row r)
+verb_of : (r : Option VerbWord)
+    → option_map (λ row. row.verb) r ≡ option_map (λ (row : VerbRow). row.verb) (option_map verb_row r)
 verb_of None = refl
 verb_of (Some row) = refl
 

@@ -12,7 +12,10 @@ use Rattle.kadm_options.specs.OptionValues.{flag_of, number_within, seconds_give
 use Rattle.kadm_options.specs.Options.{is_given}
 use Rattle.kadm_options.specs.declared.options.Given.{Given}
 use Rattle.kadm_options.specs.declared.options.OptionName.{OptionName}
-use Rattle.kadm_options.specs.declared.options.OptionName.TheVariants.{NoKey, Password, KeepOld, Enctypes, Policy, ClearPolicy, Expire, PwExpire, MaxLife, MaxRenewLife, MinLife, MinLength, MinClasses, History, KeepKvno}
+use Rattle.kadm_options.specs.declared.options.OptionName.TheVariants.{NoKey, Password, KeepOld, Enctypes}
+use Rattle.kadm_options.specs.declared.options.OptionName.TheVariants.{Policy, ClearPolicy, Expire, PwExpire}
+use Rattle.kadm_options.specs.declared.options.OptionName.TheVariants.{MaxLife, MaxRenewLife, MinLife, MinLength}
+use Rattle.kadm_options.specs.declared.options.OptionName.TheVariants.{MinClasses, History, KeepKvno}
 use Rattle.kadm_values.specs.EtypeWords.{etype_named, etypes_in}
 use Rattle.kdb_base.specs.declared.keys.Etype.{Etype}
 use Rattle.kdb_base.specs.declared.keys.Etype.TheVariants.{Aes128, Aes256}
@@ -100,14 +103,20 @@ rules_changed options name = record {
 
 unfoldable pub princ_command : PrincVerb → List Given → NameParts → Command
 princ_command princ.Add options name =
-    command.AddPrinc (record { name = name; keys = keys_given options; policy = chosen_policy options; options = fields_given options })
+    command.AddPrinc (record {
+      name = name;
+      keys = keys_given options;
+      policy = chosen_policy options;
+      options = fields_given options;
+    })
 princ_command princ.Modify options name =
     command.ModPrinc (record { name = name; policy = chosen_policy options; options = fields_given options })
 princ_command princ.ChangeKeys options name =
     command.ChangeKeys (record { name = name; keys = new_keys options; keep_old = is_given KeepOld options })
 princ_command princ.Delete options name = command.DelPrinc name
 princ_command princ.Show options name = command.GetPrinc name
-princ_command princ.PurgeKeys options name = command.PurgeKeys (record { name = name; keep = number_given KeepKvno 1 65535 options })
+princ_command princ.PurgeKeys options name =
+    command.PurgeKeys (record { name = name; keep = number_given KeepKvno 1 65535 options })
 princ_command princ.ShowStrings options name = command.GetStrings name
 princ_command princ.Extract options name = command.Extract name
 

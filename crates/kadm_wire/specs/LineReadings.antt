@@ -1,5 +1,6 @@
 -- What a line says, as a function of its bytes.
-use Rattle.std.specs.Prelude.{ℕ, Bool, false, ◌==◌, nat_le, nat_lt, if◌then◌else◌, List, [], ◌∷◌, length, Option, Some, None, Result, Ok, Err}
+use Rattle.std.specs.Prelude.{ℕ, Bool, false, ◌==◌, nat_le, nat_lt, if◌then◌else◌, List}
+use Rattle.std.specs.Prelude.{[], ◌∷◌, length, Option, Some, None, Result, Ok, Err}
 use Rattle.std.specs.List.{list_all}
 use Rattle.kadm_commands.specs.declared.commands.Command.{Command}
 use Rattle.kadm_commands.specs.declared.commands.Command.TheVariants as command
@@ -39,15 +40,18 @@ rename_reading realm word new =
 
 unfoldable pub set_reading : List ℕ → List ℕ → List ℕ → List ℕ → Reading
 set_reading realm word key value =
-    with_name (own_name_in word realm) (λ name. when_good (is_string_key key) Key (when_good (is_string_value value) Value
+    with_name (own_name_in word realm)
+    (λ name. when_good (is_string_key key) Key (when_good (is_string_value value) Value
     (Says (command.SetString (record { name = name; key = key; value = value })))))
 
 unfoldable pub delete_reading : List ℕ → List ℕ → List ℕ → Reading
 delete_reading realm word key =
-    with_name (own_name_in word realm) (λ name. when_good (is_string_key key) Key (Says (command.DelString (record { name = name; key = key }))))
+    with_name (own_name_in word realm)
+    (λ name. when_good (is_string_key key) Key (Says (command.DelString (record { name = name; key = key }))))
 
 unfoldable pub policy_reading : PolicyVerb → List Given → List ℕ → Reading
-policy_reading v options word = unless_bad (first_bad_in options) (when_good (is_policy_name word) Policy (Says (policy_command v options word)))
+policy_reading v options word =
+    unless_bad (first_bad_in options) (when_good (is_policy_name word) Policy (Says (policy_command v options word)))
 
 unfoldable pub names_reading : List ℕ → NamesVerb → List ℕ → Reading
 names_reading realm v word = when_good (is_glob_word word) Glob (Says (names_command v (Some (whole_glob realm word))))
@@ -60,7 +64,8 @@ use_reading word = with_value (number_within 1 65535 word) Mkvno (λ version. us
 
 unfoldable pub use_from_reading : List ℕ → List ℕ → Reading
 use_from_reading word time =
-    with_value (number_within 1 65535 word) Mkvno (λ version. with_value (activation_in time) Time (λ secs. use_says version (Some secs)))
+    with_value (number_within 1 65535 word) Mkvno
+    (λ version. with_value (activation_in time) Time (λ secs. use_says version (Some secs)))
 
 unfoldable pub lone_reading : LoneVerb → List Given → Reading
 lone_reading v options = unless_bad (first_bad_in options) (Says (lone_command v options))
@@ -80,7 +85,8 @@ command_reading realm verb.UseMaster options (word ∷ time ∷ []) = use_from_r
 command_reading realm v options words = Refuses BadLine
 
 abbrev pub whole_reading : List ℕ → Verb → List Given → List (List ℕ) → Reading
-whole_reading realm verb options others = if is_whole verb options then command_reading realm verb options others else Refuses BadLine
+whole_reading realm verb options others = if is_whole verb options then command_reading realm verb options others
+    else Refuses BadLine
 
 abbrev pub shape_reading : List ℕ → Option Shape → Reading
 shape_reading realm None = Refuses BadLine

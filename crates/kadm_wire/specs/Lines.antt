@@ -26,22 +26,28 @@ longest_line = 65536
 abbrev pub Is : Reading → Reading → Type 0
 Is what reading = reading ≡ what
 
--- what is read of a command from its options and other words: names first, then the values of options, then other values, each kind from
--- the left. A line with missing or extra words is none
+-- what is read of a command from its options and other words: names first, then the values of options, then other
+-- values, each kind from the left. A line with missing or extra words is none
 unfoldable pub Gives : List ℕ → Verb → List Given → List (List ℕ) → Reading → Type 0
-Gives realm (verb.OnPrinc v) options (word ∷ []) = IfNamed realm word (λ name. IfReadable options (Is (Says (princ_command v options name))))
+Gives realm (verb.OnPrinc v) options (word ∷ []) =
+    IfNamed realm word (λ name. IfReadable options (Is (Says (princ_command v options name))))
 Gives realm verb.RenPrinc options (word ∷ new ∷ []) =
-    IfNamed realm word (λ name. IfNamed realm new (λ new_name. Is (Says (command.RenPrinc (record { name = name; new_name = new_name })))))
+    IfNamed realm word
+    (λ name. IfNamed realm new (λ new_name. Is (Says (command.RenPrinc (record { name = name; new_name = new_name })))))
 Gives realm verb.SetString options (word ∷ key ∷ value ∷ []) =
     IfNamed realm word (λ name. IfGood (is_string_key key) Key (IfGood (is_string_value value) Value
     (Is (Says (command.SetString (record { name = name; key = key; value = value }))))))
 Gives realm verb.DelString options (word ∷ key ∷ []) =
-    IfNamed realm word (λ name. IfGood (is_string_key key) Key (Is (Says (command.DelString (record { name = name; key = key })))))
-Gives realm (verb.OnPolicy v) options (word ∷ []) = IfReadable options (IfGood (is_policy_name word) Policy (Is (Says (policy_command v options word))))
+    IfNamed realm word
+    (λ name. IfGood (is_string_key key) Key (Is (Says (command.DelString (record { name = name; key = key })))))
+Gives realm (verb.OnPolicy v) options (word ∷ []) =
+    IfReadable options (IfGood (is_policy_name word) Policy (Is (Says (policy_command v options word))))
 Gives realm (verb.OnNames v) options [] = Is (Says (names_command v None))
-Gives realm (verb.OnNames v) options (word ∷ []) = IfGood (is_glob_word word) Glob (Is (Says (names_command v (Some (whole_glob realm word)))))
+Gives realm (verb.OnNames v) options (word ∷ []) =
+    IfGood (is_glob_word word) Glob (Is (Says (names_command v (Some (whole_glob realm word)))))
 Gives realm verb.UseMaster options (word ∷ []) =
-    IfSpelled (SpellsWithin 1 65535 word) Mkvno (λ version. Is (Says (command.UseMaster (record { version = version; secs = None }))))
+    IfSpelled (SpellsWithin 1 65535 word) Mkvno
+    (λ version. Is (Says (command.UseMaster (record { version = version; secs = None }))))
 Gives realm verb.UseMaster options (word ∷ time ∷ []) =
     IfSpelled (SpellsWithin 1 65535 word) Mkvno (λ version. IfSpelled (SpellsActivation time) Time (λ secs.
     Is (Says (command.UseMaster (record { version = version; secs = Some secs })))))
@@ -100,4 +106,5 @@ pub record IsOfNone (line : List ℕ) (reading : Reading) : Type 0 where
 
 -- what is read from a line, in a database of this realm
 abbrev pub IsReading : List ℕ → List ℕ → Reading → Type 0
-IsReading line realm reading = (IsLong line reading ⊎ IsPassedOver line reading) ⊎ (IsOfCommand realm line reading ⊎ IsOfNone line reading)
+IsReading line realm reading =
+    (IsLong line reading ⊎ IsPassedOver line reading) ⊎ (IsOfCommand realm line reading ⊎ IsOfNone line reading)

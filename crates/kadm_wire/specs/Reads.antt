@@ -1,5 +1,7 @@
--- What is read of words and options in turn: the first fault is what is read. Each part twice, as a relation and as a function.
-use Rattle.std.specs.Prelude.{ℕ, ◌≡◌, ◌≤◌, ◌<◌, ◌⊎◌, Bool, true, false, not, ◌==◌, List, [], ◌∷◌, ◌++◌, Option, Some, None, Result, Ok, Err, if◌then◌else◌}
+-- What is read of words and options in turn: the first fault is what is read. Each part twice, as a relation and as a
+-- function.
+use Rattle.std.specs.Prelude.{ℕ, ◌≡◌, ◌≤◌, ◌<◌, ◌⊎◌, Bool, true, false, not, ◌==◌, List, []}
+use Rattle.std.specs.Prelude.{◌∷◌, ◌++◌, Option, Some, None, Result, Ok, Err, if◌then◌else◌}
 use Rattle.std.specs.List.{list_any, list_all}
 use Rattle.std.specs.Option.{option_and_then}
 use Rattle.kadm_options.specs.OptionValues.{AreReadable, IsFirstBad}
@@ -31,7 +33,8 @@ IfNamed realm word Next reading =
 -- options with readable values, or the field of the first one whose value is unreadable
 abbrev pub IfReadable : List Given → (Reading → Type 0) → Reading → Type 0
 IfReadable options Next reading =
-    (AreReadable options × Next reading) ⊎ ((field : Field) × IsFirstBad options field × (reading ≡ Refuses (BadValue field)))
+    (AreReadable options × Next reading)
+    ⊎ ((field : Field) × IsFirstBad options field × (reading ≡ Refuses (BadValue field)))
 
 -- a value that the word spells, or none
 abbrev pub IfSpelled : {A : Type 0} → (A → Type 0) → Field → (A → Reading → Type 0) → Reading → Type 0
@@ -40,7 +43,8 @@ IfSpelled {A} SpellsIt field Next reading =
 
 -- a word that passes a test
 abbrev pub IfGood : Bool → Field → (Reading → Type 0) → Reading → Type 0
-IfGood good field Next reading = ((good ≡ true) × Next reading) ⊎ ((good ≡ false) × (reading ≡ Refuses (BadValue field)))
+IfGood good field Next reading =
+    ((good ≡ true) × Next reading) ⊎ ((good ≡ false) × (reading ≡ Refuses (BadValue field)))
 
 -- a time from which on a version is active: 0 is never, and no such time
 pub record SpellsActivation (word : List ℕ) (secs : ℕ) : Type 0 where

@@ -1,5 +1,6 @@
 -- The shape of a command's words: the command, its options and its other words.
-use Rattle.std.specs.Prelude.{ℕ, ◌≡◌, ◌⊎◌, Bool, false, List, [], ◌∷◌, codes, Option, Some, None, option_map, if◌then◌else◌}
+use Rattle.std.specs.Prelude.{ℕ, ◌≡◌, ◌⊎◌, Bool, false, List, [], ◌∷◌, codes}
+use Rattle.std.specs.Prelude.{Option, Some, None, option_map, if◌then◌else◌}
 use Rattle.kadm_options.specs.Options.{OptionParts, SpellsOptions, is_dashes, is_signed, options_in}
 use Rattle.kadm_options.specs.declared.options.Given.{Given}
 use Rattle.kadm_wire.specs.Verbs.{named_by, verb_named}

@@ -1,12 +1,14 @@
 -- The commands: their words, and which options each of them has.
-use Rattle.std.specs.Prelude.{ℕ, ◌≡◌, Bool, true, false, not, ◌||◌, ◌&&◌, List, [], ◌∷◌, ◌++◌, codes, find, Option, option_map}
+use Rattle.std.specs.Prelude.{ℕ, ◌≡◌, Bool, true, false, not, ◌||◌, ◌&&◌, List}
+use Rattle.std.specs.Prelude.{[], ◌∷◌, ◌++◌, codes, find, Option, option_map}
 use Rattle.std.specs.Str.{bytes_eq}
 use Rattle.kadm_options.specs.Options.{are_single, is_chosen, option_named}
 use Rattle.kadm_options.specs.declared.options.Given.{Given}
 use Rattle.kadm_options.specs.declared.options.Opening.{Opening}
 use Rattle.kadm_options.specs.declared.options.Opening.TheVariants.{Alone as BareOption, Value}
 use Rattle.kadm_options.specs.declared.options.OptionName.TheVariants as option
-use Rattle.kadm_options.specs.declared.options.ValueKind.TheVariants.{Time, Duration, PolicyName, Word, EtypeList, OneEtype, Number}
+use Rattle.kadm_options.specs.declared.options.ValueKind.TheVariants.{Time, Duration, PolicyName, Word}
+use Rattle.kadm_options.specs.declared.options.ValueKind.TheVariants.{EtypeList, OneEtype, Number}
 use Rattle.kdb_base.specs.declared.outcomes.Field.TheVariants as field
 use Rattle.kadm_wire.specs.declared.verbs.PrincVerb.{PrincVerb}
 use Rattle.kadm_wire.specs.declared.verbs.PrincVerb.TheVariants as princ
@@ -17,7 +19,8 @@ use Rattle.kadm_wire.specs.declared.verbs.NamesVerb.TheVariants as names
 use Rattle.kadm_wire.specs.declared.verbs.LoneVerb.{LoneVerb}
 use Rattle.kadm_wire.specs.declared.verbs.LoneVerb.TheVariants as lone
 use Rattle.kadm_wire.specs.declared.verbs.Verb.{Verb}
-use Rattle.kadm_wire.specs.declared.verbs.Verb.TheVariants.{OnPrinc, OnPolicy, OnNames, Alone, RenPrinc, SetString, DelString, UseMaster}
+use Rattle.kadm_wire.specs.declared.verbs.Verb.TheVariants.{OnPrinc, OnPolicy, OnNames, Alone}
+use Rattle.kadm_wire.specs.declared.verbs.Verb.TheVariants.{RenPrinc, SetString, DelString, UseMaster}
 use Rattle.kadm_wire.specs.declared.verbs.VerbWord.{VerbWord}
 
 -- ---- their words

@@ -33,5 +33,6 @@ pub fn reading_answers_as_the_line_says()
 
 /// A command that is read has names of the realm, known flags and values in their ranges.
 pub fn reading_gives_commands()
-    ensures { (realm line : List ℕ) (command : Command) → reading realm line ≡ Ok (Some command) → IsCommand realm command }
+    ensures { (realm line : List ℕ) (command : Command) → reading realm line ≡ Ok (Some command)
+        → IsCommand realm command }
 {}

@@ -6,7 +6,8 @@ ghost use Rattle.kadm_commands.specs.declared.commands.Command.{Command};
 ghost use Rattle.kdb_base.specs.declared.outcomes.Halt.{Halt};
 ghost use Rattle.kdb_base.specs.declared.outcomes.Refusal.{Refusal};
 ghost use Rattle.kadm_words.specs.Words.{AreWithin};
-ghost use Rattle.kadm_wire.specs.LineReadings.{is_comment, line_reading, reading, shape_reading, split_reading, whole_reading, words_answer, words_reading, are_short};
+ghost use Rattle.kadm_wire.specs.LineReadings.{is_comment, line_reading, reading, shape_reading, split_reading};
+ghost use Rattle.kadm_wire.specs.LineReadings.{whole_reading, words_answer, words_reading, are_short};
 ghost use Rattle.kadm_words.specs.Splitting.{words_in};
 ghost use Rattle.kadm_wire.specs.Lines.{IsReading};
 ghost use Rattle.kadm_wire.specs.Shapes.{others_in, shape_behind};
@@ -143,13 +144,17 @@ pub fn read_line(alloc: Global, line: &[u8], realm: &[u8]) -> Result<Reading, Me
 /// without words have none. The first of these causes refuses a line: it has more than 65536 bytes, it is
 /// not of the grammar, a name is bad, a value is unreadable. Only want of memory halts.
 pub fn parse_line(alloc: Global, line: &[u8], realm: &[u8]) -> Result<Option<Command>, Stop>
-    ensures command { (command : Command) → result ≡ Ok (Some command) → IsReading line.now realm.now (Reading.Says command) }
+    ensures command { (command : Command) → result ≡ Ok (Some command)
+        → IsReading line.now realm.now (Reading.Says command) }
     ensures skipped { result ≡ Ok None → IsReading line.now realm.now Reading.Skipped }
-    ensures refused { (refusal : Refusal) → result ≡ Err (Stop.Refused refusal) → IsReading line.now realm.now (Reading.Refuses refusal) }
+    ensures refused { (refusal : Refusal) → result ≡ Err (Stop.Refused refusal)
+        → IsReading line.now realm.now (Reading.Refuses refusal) }
     ensures valid { (command : Command) → result ≡ Ok (Some command) → IsCommand realm.now command }
-    ensures command_value { (command : Command) → result ≡ Ok (Some command) → reading realm.now line.now ≡ Ok (Some command) }
+    ensures command_value { (command : Command) → result ≡ Ok (Some command)
+        → reading realm.now line.now ≡ Ok (Some command) }
     ensures skipped_value { result ≡ Ok None → reading realm.now line.now ≡ Ok None }
-    ensures refused_value { (refusal : Refusal) → result ≡ Err (Stop.Refused refusal) → reading realm.now line.now ≡ Err refusal }
+    ensures refused_value { (refusal : Refusal) → result ≡ Err (Stop.Refused refusal)
+        → reading realm.now line.now ≡ Err refusal }
     ensures memory { (halt : Halt) → result ≡ Err (Stop.Halt halt) → halt ≡ Halt.MemoryOut }
 {
     match read_line(alloc, line, realm) {
@@ -188,9 +193,9 @@ fn words_answer(
     }
 }
 
-/// The command that words spell which come one by one, as a program is given them, in a database of this realm. No words
-/// have none. The first of these causes refuses them: a word has more than 65536 bytes or they are not of the grammar, a
-/// name is bad, a value is unreadable. Only want of memory halts.
+/// The command that words spell which come one by one, as a program is given them, in a database of this realm. No
+/// words have none. The first of these causes refuses them: a word has more than 65536 bytes or they are not of the
+/// grammar, a name is bad, a value is unreadable. Only want of memory halts.
 pub fn parse_words(
     alloc: Global,
     words: &[Blob],

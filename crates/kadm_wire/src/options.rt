@@ -3,7 +3,10 @@
 ghost use Rattle.std.specs.Prelude.{◌≡◌, ◌∷◌};
 ghost use Rattle.kadm_options.specs.declared.options.Opening.TheVariants as opening;
 ghost use Rattle.kadm_options.specs.declared.options.OptionName.TheVariants as option;
-ghost use Rattle.kadm_wire.specs.Verbs.{adding_options, changing_options, field_options, force_options, has_flags, is_whole, lone_options, makes_keys, master_options, names_options, options_for, options_of_policy, policy_options, princ_options, purging_options, short_force_options};
+ghost use Rattle.kadm_wire.specs.Verbs.{adding_options, changing_options, field_options, force_options};
+ghost use Rattle.kadm_wire.specs.Verbs.{has_flags, is_whole, lone_options, makes_keys, master_options};
+ghost use Rattle.kadm_wire.specs.Verbs.{names_options, options_for, options_of_policy, policy_options};
+ghost use Rattle.kadm_wire.specs.Verbs.{princ_options, purging_options, short_force_options};
 
 use crate::verbs::{LoneVerb, NamesVerb, PolicyVerb, PrincVerb, Verb};
 use kadm_options::{Given, Opening, OptionName, Setting, ValueKind, are_single, is_chosen};

@@ -1,7 +1,8 @@
 //! Commands on policies.
 
 ghost use Rattle.std.specs.Prelude.{◌≡◌, ◌≤◌, Some, unwrap_or, IfOk, IsTrue};
-ghost use Rattle.kadm_wire.specs.Commands.{chosen_policy, number_given, policy_by, policy_command, rules_changed, rules_given};
+ghost use Rattle.kadm_wire.specs.Commands.{chosen_policy, number_given, policy_by};
+ghost use Rattle.kadm_wire.specs.Commands.{policy_command, rules_changed, rules_given};
 ghost use Rattle.policy_rules.specs.Names.{is_policy_name};
 
 use crate::values::read_short;

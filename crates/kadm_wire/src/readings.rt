@@ -5,7 +5,9 @@ ghost use Rattle.kadm_commands.specs.declared.commands.Command.TheVariants as co
 ghost use Rattle.kadm_options.specs.OptionValues.{first_bad_in};
 ghost use Rattle.kadm_words.specs.Words.{AreWithin};
 ghost use Rattle.kadm_wire.specs.Commands.{policy_command, princ_command};
-ghost use Rattle.kadm_wire.specs.LineReadings.{command_reading, delete_reading, lone_reading, names_reading, policy_reading, princ_reading, rename_reading, set_reading, use_from_reading, use_reading, use_says};
+ghost use Rattle.kadm_wire.specs.LineReadings.{command_reading, delete_reading, lone_reading, names_reading};
+ghost use Rattle.kadm_wire.specs.LineReadings.{policy_reading, princ_reading, rename_reading, set_reading};
+ghost use Rattle.kadm_wire.specs.LineReadings.{use_from_reading, use_reading, use_says};
 ghost use Rattle.kadm_wire.specs.Reads.{activation_in, unless_bad, when_good, with_name, with_value};
 ghost use Rattle.kdb_base.specs.declared.outcomes.Field.TheVariants as field;
 ghost use Rattle.policy_rules.specs.Names.{is_policy_name};
@@ -56,7 +58,8 @@ fn on_name(
     options: &[Given],
     name: Name,
 ) -> Result<Reading, MemoryOut>
-    ensures { IfOk result (λ r. r ≡ unless_bad (first_bad_in options.now) (Reading.Says (princ_command verb options.now name))) }
+    ensures { IfOk result
+        (λ r. r ≡ unless_bad (first_bad_in options.now) (Reading.Says (princ_command verb options.now name))) }
 {
     match first_bad(alloc, options)? {
         Some(field) => Ok(bad_value(field)),
@@ -89,7 +92,8 @@ fn read_on_princ(
 
 fn to_name(alloc: Global, name: Name, word: &[u8], realm: &[u8]) -> Result<Reading, MemoryOut>
     requires { length word.now ≤ 65536 }
-    ensures { IfOk result (λ r. r ≡ with_name (own_name_in word.now realm.now) (λ new_name. Reading.Says (command.RenPrinc (record { name = name; new_name = new_name })))) }
+    ensures { IfOk result (λ r. r ≡ with_name (own_name_in word.now realm.now)
+        (λ new_name. Reading.Says (command.RenPrinc (record { name = name; new_name = new_name })))) }
 {
     match read_name(alloc, word, realm)? {
         Ok(new_name) => Ok(Reading::Says(Command::RenPrinc(RenPrinc { name, new_name }))),
@@ -112,7 +116,8 @@ fn read_rename(alloc: Global, word: &[u8], new: &[u8], realm: &[u8]) -> Result<R
 // ---- string attributes
 
 fn set_string(alloc: Global, name: Name, key: &[u8], value: &[u8]) -> Result<Reading, MemoryOut>
-    ensures { IfOk result (λ r. r ≡ when_good (is_string_key key.now) field.Key (when_good (is_string_value value.now) field.Value (Reading.Says (command.SetString (record { name = name; key = key.now; value = value.now }))))) }
+    ensures { IfOk result (λ r. r ≡ when_good (is_string_key key.now) field.Key (when_good (is_string_value value.now)
+        field.Value (Reading.Says (command.SetString (record { name = name; key = key.now; value = value.now }))))) }
 {
     if !is_string_key(key) {
         return Ok(bad_value(Field::Key));
@@ -143,7 +148,8 @@ fn read_set_string(
 }
 
 fn del_string(alloc: Global, name: Name, key: &[u8]) -> Result<Reading, MemoryOut>
-    ensures { IfOk result (λ r. r ≡ when_good (is_string_key key.now) field.Key (Reading.Says (command.DelString (record { name = name; key = key.now })))) }
+    ensures { IfOk result (λ r. r ≡ when_good (is_string_key key.now) field.Key
+        (Reading.Says (command.DelString (record { name = name; key = key.now })))) }
 {
     if !is_string_key(key) {
         return Ok(bad_value(Field::Key));
@@ -176,7 +182,8 @@ fn on_policy(
     options: &[Given],
     word: &[u8],
 ) -> Result<Reading, MemoryOut>
-    ensures { IfOk result (λ r. r ≡ when_good (is_policy_name word.now) field.Policy (Reading.Says (policy_command verb options.now word.now))) }
+    ensures { IfOk result (λ r. r
+        ≡ when_good (is_policy_name word.now) field.Policy (Reading.Says (policy_command verb options.now word.now))) }
 {
     if !is_policy_name(word) {
         return Ok(bad_value(Field::Policy));

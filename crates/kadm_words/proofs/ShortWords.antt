@@ -1,5 +1,6 @@
 -- Words are no longer than their line.
-use Rattle.std.proofs.Common.{ℕ, zero, suc, ◌≤◌, Bool, true, false, ◌==◌, List, [], ◌∷◌, ◌++◌, length, drop, ◌⊎◌, inl, inr, ap, arith, length-append, if◌then◌else◌}
+use Rattle.std.proofs.Common.{ℕ, zero, suc, ◌≤◌, Bool, true, false, ◌==◌, List, [], ◌∷◌, ◌++◌}
+use Rattle.std.proofs.Common.{length, drop, ◌⊎◌, inl, inr, ap, arith, length-append, if◌then◌else◌}
 use Rattle.std.specs.List.{flat_map}
 use Rattle.kadm_words.specs.Words.{SpellsWords, SpellsPlain, SpellsQuoted, quoted, quoted_byte, AreWithin}
 
@@ -16,9 +17,11 @@ length-quoted (byte ∷ word) =
 
 word_short : (word text : List ℕ) → SpellsPlain word text ⊎ SpellsQuoted word text → length word ≤ length text
 word_short word text (inl plain) = let e = ap length plain.text_is in omega arith
-word_short word text (inr quotes) = omega (arith, ap length quotes.text_is, length-append (quoted word) (34 ∷ []), length-quoted word)
+word_short word text (inr quotes) =
+    omega (arith, ap length quotes.text_is, length-append (quoted word) (34 ∷ []), length-quoted word)
 
-pub words_short : (most : ℕ) (words : List (List ℕ)) (line : List ℕ) → SpellsWords words line → length line ≤ most → AreWithin most words
+pub words_short : (most : ℕ) (words : List (List ℕ)) (line : List ℕ) → SpellsWords words line → length line ≤ most
+    → AreWithin most words
 unfolding SpellsWords AreWithin
 words_short most [] line s fits = tt
 words_short most (word ∷ words) line led fits =

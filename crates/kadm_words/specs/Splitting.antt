@@ -37,7 +37,8 @@ words_from InPlain [] = Some ([] ∷ [])
 words_from InQuoted [] = None
 words_from BehindQuote [] = Some ([] ∷ [])
 words_from Between (byte ∷ rest) =
-    by_kind (kind_of byte) (words_from Between rest) (words_from InQuoted rest) None (before (byte ∷ []) (words_from InPlain rest))
+    by_kind (kind_of byte) (words_from Between rest) (words_from InQuoted rest) None
+    (before (byte ∷ []) (words_from InPlain rest))
 words_from InPlain (byte ∷ rest) =
     by_kind (kind_of byte) (ended (words_from Between rest)) None None (before (byte ∷ []) (words_from InPlain rest))
 words_from InQuoted (byte ∷ rest) =

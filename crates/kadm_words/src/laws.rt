@@ -16,5 +16,6 @@ pub fn words_are_spelled()
 
 /// No word is longer than its line.
 pub fn words_are_no_longer_than_their_line()
-    ensures { (line : List ℕ) (words : List (List ℕ)) (most : ℕ) → SpellsWords words line → length line ≤ most → AreWithin most words }
+    ensures { (line : List ℕ) (words : List (List ℕ)) (most : ℕ) → SpellsWords words line → length line ≤ most
+        → AreWithin most words }
 {}

@@ -12,8 +12,10 @@ use Rattle.kdb_base.specs.declared.keys.Etype.{Etype}
 pub same_keys : (a b : Key) → is_same_key a b ≡ true → a ≡ b
 same_keys a b e =
     let parts = and_parts (nat_eq (number_of a.etype) (number_of b.etype)) (bytes_eq a.bytes b.bytes) e in
-    ap (λ (t : Etype). let k : Key = record { etype = t; bytes = a.bytes } in k) (same_etype a.etype b.etype (eqb-true (number_of a.etype) (number_of b.etype) parts.0))
-    ∙ ap (λ (x : List ℕ). let k : Key = record { etype = b.etype; bytes = x } in k) ((bytes_eq-Decides a.bytes b.bytes).0 parts.1)
+    ap (λ (t : Etype). let k : Key = record { etype = t; bytes = a.bytes } in k)
+    (same_etype a.etype b.etype (eqb-true (number_of a.etype) (number_of b.etype) parts.0))
+    ∙ ap (λ (x : List ℕ). let k : Key = record { etype = b.etype; bytes = x } in k)
+    ((bytes_eq-Decides a.bytes b.bytes).0 parts.1)
 
 pub keys_same : (a b : Key) → a ≡ b → is_same_key a b ≡ true
 keys_same a b e =

@@ -3,7 +3,8 @@ use Rattle.std.specs.Prelude.{ℕ, List, codes}
 use Rattle.kdb_base.specs.declared.outcomes.Status.{Status}
 use Rattle.kdb_base.specs.declared.outcomes.Field.{Field}
 use Rattle.kdb_base.specs.declared.outcomes.Field.TheVariants as field
-use Rattle.kdb_base.specs.declared.outcomes.Status.TheVariants.{Done, Refused, MemoryOut, ReadFault, WriteFault, DiskFault, LinkFault, InputTooLong}
+use Rattle.kdb_base.specs.declared.outcomes.Status.TheVariants.{Done, Refused, MemoryOut, ReadFault, WriteFault}
+use Rattle.kdb_base.specs.declared.outcomes.Status.TheVariants.{DiskFault, LinkFault, InputTooLong}
 
 abbrev pub code_of : Status → ℕ
 code_of Done = 0

@@ -1,5 +1,6 @@
 -- The rows of a file that was scanned: each key is there once.
-use Rattle.std.proofs.Common.{◌≡◌, ℕ, suc, ◌+◌, ◌<◌, false, List, [], ◌∷◌, length, Some, None, refl, sym, ap, subst, ◌∙◌, arith}
+use Rattle.std.proofs.Common.{◌≡◌, ℕ, suc, ◌+◌, ◌<◌, false, List, [], ◌∷◌, length}
+use Rattle.std.proofs.Common.{Some, None, refl, sym, ap, subst, ◌∙◌, arith}
 use Rattle.std.specs.List.{All, AllByRecursion, IsDistinct}
 use Rattle.std.specs.Str.{bytes_eq}
 use Rattle.std.proofs.lemmas.Bool.{false_from_ne_true, true≢false}
@@ -45,27 +46,38 @@ first_once : (c : Cell) (cells : List Cell) → EachOnce (c ∷ cells) → NoneH
 unfolding cell_no
 first_once c cells once j = once 0 (suc j) (omega arith)
 
-pub princ_alone : (p : Principal) (cells : List Cell) → NoneHas (Some (Princ p)) cells → AllByRecursion (λ k. bytes_eq p.name k ≡ false) (princ_keys (princs_of cells))
+pub princ_alone : (p : Principal) (cells : List Cell) → NoneHas (Some (Princ p)) cells
+    → AllByRecursion (λ k. bytes_eq p.name k ≡ false) (princ_keys (princs_of cells))
 unfolding princs_of
 princ_alone p [] none = tt
 princ_alone p (None ∷ cells) none = princ_alone p cells (behind_none (Some (Princ p)) None cells none)
-princ_alone p (Some (Princ q) ∷ cells) none =
-    (other_way q.name p.name (first_none (Some (Princ p)) (Some (Princ q)) cells none), princ_alone p cells (behind_none (Some (Princ p)) (Some (Princ q)) cells none))
-princ_alone p (Some (Policy q) ∷ cells) none = princ_alone p cells (behind_none (Some (Princ p)) (Some (Policy q)) cells none)
+princ_alone p (Some (Princ q) ∷ cells) none = (
+  other_way q.name p.name (first_none (Some (Princ p)) (Some (Princ q)) cells none),
+  princ_alone p cells (behind_none (Some (Princ p)) (Some (Princ q)) cells none),
+)
+princ_alone p (Some (Policy q) ∷ cells) none =
+    princ_alone p cells (behind_none (Some (Princ p)) (Some (Policy q)) cells none)
 
-pub policy_alone : (p : Rules) (cells : List Cell) → NoneHas (Some (Policy p)) cells → AllByRecursion (λ k. bytes_eq p.name k ≡ false) (policy_keys (policies_of cells))
+pub policy_alone : (p : Rules) (cells : List Cell) → NoneHas (Some (Policy p)) cells
+    → AllByRecursion (λ k. bytes_eq p.name k ≡ false) (policy_keys (policies_of cells))
 unfolding policies_of
 policy_alone p [] none = tt
 policy_alone p (None ∷ cells) none = policy_alone p cells (behind_none (Some (Policy p)) None cells none)
-policy_alone p (Some (Princ q) ∷ cells) none = policy_alone p cells (behind_none (Some (Policy p)) (Some (Princ q)) cells none)
-policy_alone p (Some (Policy q) ∷ cells) none =
-    (other_way q.name p.name (first_none (Some (Policy p)) (Some (Policy q)) cells none), policy_alone p cells (behind_none (Some (Policy p)) (Some (Policy q)) cells none))
+policy_alone p (Some (Princ q) ∷ cells) none =
+    policy_alone p cells (behind_none (Some (Policy p)) (Some (Princ q)) cells none)
+policy_alone p (Some (Policy q) ∷ cells) none = (
+  other_way q.name p.name (first_none (Some (Policy p)) (Some (Policy q)) cells none),
+  policy_alone p cells (behind_none (Some (Policy p)) (Some (Policy q)) cells none),
+)
 
 princs_once : (cells : List Cell) → EachOnce cells → IsDistinct bytes_eq (princ_keys (princs_of cells))
 unfolding princs_of IsDistinct
 princs_once [] once = tt
 princs_once (None ∷ cells) once = princs_once cells (behind_once None cells once)
-princs_once (Some (Princ p) ∷ cells) once = (princ_alone p cells (first_once (Some (Princ p)) cells once), princs_once cells (behind_once (Some (Princ p)) cells once))
+princs_once (Some (Princ p) ∷ cells) once = (
+  princ_alone p cells (first_once (Some (Princ p)) cells once),
+  princs_once cells (behind_once (Some (Princ p)) cells once),
+)
 princs_once (Some (Policy p) ∷ cells) once = princs_once cells (behind_once (Some (Policy p)) cells once)
 
 policies_once : (cells : List Cell) → EachOnce cells → IsDistinct bytes_eq (policy_keys (policies_of cells))
@@ -73,7 +85,10 @@ unfolding policies_of IsDistinct
 policies_once [] once = tt
 policies_once (None ∷ cells) once = policies_once cells (behind_once None cells once)
 policies_once (Some (Princ p) ∷ cells) once = policies_once cells (behind_once (Some (Princ p)) cells once)
-policies_once (Some (Policy p) ∷ cells) once = (policy_alone p cells (first_once (Some (Policy p)) cells once), policies_once cells (behind_once (Some (Policy p)) cells once))
+policies_once (Some (Policy p) ∷ cells) once = (
+  policy_alone p cells (first_once (Some (Policy p)) cells once),
+  policies_once cells (behind_once (Some (Policy p)) cells once),
+)
 
 -- each cell is of the format
 abbrev AreStored : ℕ → List Cell → Type 0
@@ -91,15 +106,24 @@ princs_stored : (format : ℕ) (cells : List Cell) → AreStored format cells �
 unfolding princs_of
 princs_stored format [] stored = tt
 princs_stored format (None ∷ cells) stored = princs_stored format cells (behind_stored format None cells stored)
-princs_stored format (Some (Princ p) ∷ cells) stored = ((first_stored format (Some (Princ p)) cells stored).row, princs_stored format cells (behind_stored format (Some (Princ p)) cells stored))
-princs_stored format (Some (Policy p) ∷ cells) stored = princs_stored format cells (behind_stored format (Some (Policy p)) cells stored)
+princs_stored format (Some (Princ p) ∷ cells) stored = (
+  (first_stored format (Some (Princ p)) cells stored).row,
+  princs_stored format cells (behind_stored format (Some (Princ p)) cells stored),
+)
+princs_stored format (Some (Policy p) ∷ cells) stored =
+    princs_stored format cells (behind_stored format (Some (Policy p)) cells stored)
 
-policies_stored : (format : ℕ) (cells : List Cell) → AreStored format cells → AllByRecursion IsPolicy (policies_of cells)
+policies_stored : (format : ℕ) (cells : List Cell) → AreStored format cells
+    → AllByRecursion IsPolicy (policies_of cells)
 unfolding policies_of
 policies_stored format [] stored = tt
 policies_stored format (None ∷ cells) stored = policies_stored format cells (behind_stored format None cells stored)
-policies_stored format (Some (Princ p) ∷ cells) stored = policies_stored format cells (behind_stored format (Some (Princ p)) cells stored)
-policies_stored format (Some (Policy p) ∷ cells) stored = (first_stored format (Some (Policy p)) cells stored, policies_stored format cells (behind_stored format (Some (Policy p)) cells stored))
+policies_stored format (Some (Princ p) ∷ cells) stored =
+    policies_stored format cells (behind_stored format (Some (Princ p)) cells stored)
+policies_stored format (Some (Policy p) ∷ cells) stored = (
+  first_stored format (Some (Policy p)) cells stored,
+  policies_stored format cells (behind_stored format (Some (Policy p)) cells stored),
+)
 
 -- each row is a principal or a policy
 pub taken_rows : (cells : List Cell) → taken cells ≡ length (princs_of cells) + length (policies_of cells)
@@ -109,13 +133,26 @@ taken_rows (None ∷ cells) = omega (arith, taken_rows cells)
 taken_rows (Some (Princ p) ∷ cells) = omega (arith, taken_rows cells)
 taken_rows (Some (Policy p) ∷ cells) = omega (arith, taken_rows cells)
 
-pub gathered_apart : (format : ℕ) (u : Units) (n : ℕ) (princs : List Principal) (policies : List Rules) (cells : List Cell) → IsGathered format u n princs policies cells → AreApart princs policies
+pub gathered_apart : (format : ℕ) (u : Units) (n : ℕ) (princs : List Principal) (policies : List Rules)
+    (cells : List Cell) → IsGathered format u n princs policies cells → AreApart princs policies
 gathered_apart format u n princs policies cells is =
-    let once : EachOnce cells = λ i j lt. clash_free u cells i j (cell_no j cells) (cell_no i cells) is.cells_are lt refl refl in
+    let once : EachOnce cells =
+    λ i j lt. clash_free u cells i j (cell_no j cells) (cell_no i cells) is.cells_are lt refl refl in
     record {
-      each_princ = subst (All IsRow) (sym is.princs_are) (All-from_recursion IsRow (princs_of cells) (princs_stored format cells is.stored));
-      each_policy = subst (All IsPolicy) (sym is.policies_are) (All-from_recursion IsPolicy (policies_of cells) (policies_stored format cells is.stored));
-      princ_once = subst (λ (l : List Principal). IsDistinct bytes_eq (princ_keys l)) (sym is.princs_are) (princs_once cells once);
-      policy_once = subst (λ (l : List Rules). IsDistinct bytes_eq (policy_keys l)) (sym is.policies_are) (policies_once cells once);
-      few = omega (arith, is.few, is.count_is, taken_rows cells, ap (λ (l : List Principal). length l) is.princs_are, ap (λ (l : List Rules). length l) is.policies_are);
+      each_princ = subst (All IsRow) (sym is.princs_are)
+          (All-from_recursion IsRow (princs_of cells) (princs_stored format cells is.stored));
+      each_policy = subst (All IsPolicy) (sym is.policies_are)
+          (All-from_recursion IsPolicy (policies_of cells) (policies_stored format cells is.stored));
+      princ_once = subst (λ (l : List Principal). IsDistinct bytes_eq (princ_keys l)) (sym is.princs_are)
+          (princs_once cells once);
+      policy_once = subst (λ (l : List Rules). IsDistinct bytes_eq (policy_keys l)) (sym is.policies_are)
+          (policies_once cells once);
+      few = omega (
+        arith,
+        is.few,
+        is.count_is,
+        taken_rows cells,
+        ap (λ (l : List Principal). length l) is.princs_are,
+        ap (λ (l : List Rules). length l) is.policies_are,
+      );
     }

@@ -1,5 +1,6 @@
 -- Reading the first unit of a file.
-use Rattle.std.proofs.Common.{◌≡◌, ℕ, ◌<◌, Bool, true, false, cond, ltb, eqb, List, length, take, drop, Option, Some, None, refl, sym, ap, ◌∙◌, arith}
+use Rattle.std.proofs.Common.{◌≡◌, ℕ, ◌<◌, Bool, true, false, cond, ltb, eqb, List, length}
+use Rattle.std.proofs.Common.{take, drop, Option, Some, None, refl, sym, ap, ◌∙◌, arith}
 use Rattle.std.specs.Prelude.{option_and_then}
 use Rattle.std.specs.List.{list_all}
 use Rattle.std.proofs.lemmas.Bool.{le-ltb, lt-ltb}
@@ -20,18 +21,22 @@ front_known : (o : Option (List ℕ)) (rest : List ℕ) → front_of (known o re
 front_known None rest = refl
 front_known (Some c) rest = refl
 
-heading_is : (format : ℕ) (bytes : List ℕ) → length bytes ≡ unit_size format → heading_of format bytes ≡ with_zeros (heading_at format bytes)
+heading_is : (format : ℕ) (bytes : List ℕ) → length bytes ≡ unit_size format
+    → heading_of format bytes ≡ with_zeros (heading_at format bytes)
 unfolding heading_of padded bytes_at
 heading_is format bytes long =
-    let enough : ltb (length bytes) (unit_size format) ≡ false = le-ltb (length bytes) (unit_size format) (omega (arith, long)) in
+    let enough : ltb (length bytes) (unit_size format) ≡ false =
+    le-ltb (length bytes) (unit_size format) (omega (arith, long)) in
     let all : take (unit_size format) bytes ≡ bytes = take_all (unit_size format) bytes (omega (arith, long)) in
     rw (enough, all) (front_known (with_zeros (heading_at format bytes)) (drop (unit_size format) bytes))
 
-pub no_heading : (e : FormatFault) (format : ℕ) (bytes : List ℕ) → length bytes ≡ unit_size format → Refuses e (heading_at format bytes) → Refuses e (heading_of format bytes)
+pub no_heading : (e : FormatFault) (format : ℕ) (bytes : List ℕ) → length bytes ≡ unit_size format
+    → Refuses e (heading_at format bytes) → Refuses e (heading_of format bytes)
 no_heading faults.MemoryOut format bytes long none = tt
 no_heading faults.Malformed format bytes long none = heading_is format bytes long ∙ ap with_zeros none
 
-pub heading_found : (format : ℕ) (bytes rest left realm : List ℕ) (b : Bool) → length bytes ≡ unit_size format → heading_at format bytes ≡ Some (realm, rest) → left ≡ rest → list_all (λ b. eqb b 0) left ≡ b
+pub heading_found : (format : ℕ) (bytes rest left realm : List ℕ) (b : Bool) → length bytes ≡ unit_size format
+    → heading_at format bytes ≡ Some (realm, rest) → left ≡ rest → list_all (λ b. eqb b 0) left ≡ b
     → heading_of format bytes ≡ cond b (Some realm) None
 heading_found format bytes rest left realm b long e same test =
     heading_is format bytes long ∙ ap with_zeros e

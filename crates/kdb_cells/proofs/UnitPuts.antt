@@ -1,5 +1,6 @@
 -- The units of a file in which one was written.
-use Rattle.std.proofs.Common.{◌≡◌, ◌≢◌, ℕ, ◌+◌, ◌*◌, ◌/◌, ◌%◌, ◌<◌, ◌≤◌, ⊎_elim, max, Bool, true, false, cond, List, length, take, drop, Option, Some, None, sym, ◌∙◌, ap, arith}
+use Rattle.std.proofs.Common.{◌≡◌, ◌≢◌, ℕ, ◌+◌, ◌*◌, ◌/◌, ◌%◌, ◌<◌, ◌≤◌, ⊎_elim, max, Bool, true, false}
+use Rattle.std.proofs.Common.{cond, List, length, take, drop, Option, Some, None, sym, ◌∙◌, ap, arith}
 use Rattle.std.specs.Prelude.{nat_eq}
 use Rattle.std.proofs.Math.Nat.{div-add-mod, mod-lt, mul-le-mul_right}
 use Rattle.std.proofs.lemmas.Bool.{cases_lt, cond-false, ne_eqb}
@@ -26,11 +27,14 @@ place_below unit i k lt =
 
 -- ---- the bytes of a unit
 
-pub unit_here : (format i : ℕ) (text file : List ℕ) → length text ≡ unit_size format → i * unit_size format ≤ length file → unit_bytes format i (put (i * unit_size format) text file) ≡ text
+pub unit_here : (format i : ℕ) (text file : List ℕ) → length text ≡ unit_size format
+    → i * unit_size format ≤ length file → unit_bytes format i (put (i * unit_size format) text file) ≡ text
 unit_here format i text file long within =
-    ap (λ (n : ℕ). take n (drop (i * unit_size format) (put (i * unit_size format) text file))) (sym long) ∙ between-put (i * unit_size format) text file within
+    ap (λ (n : ℕ). take n (drop (i * unit_size format) (put (i * unit_size format) text file))) (sym long)
+    ∙ between-put (i * unit_size format) text file within
 
-pub unit_other : (format i j : ℕ) (text file : List ℕ) → length text ≡ unit_size format → i * unit_size format ≤ length file → j ≢ i → unit_bytes format j (put (i * unit_size format) text file) ≡ unit_bytes format j file
+pub unit_other : (format i j : ℕ) (text file : List ℕ) → length text ≡ unit_size format → i * unit_size format
+    ≤ length file → j ≢ i → unit_bytes format j (put (i * unit_size format) text file) ≡ unit_bytes format j file
 unit_other format i j text file long within other =
     let unit = unit_size format in
     ⊎_elim
@@ -81,12 +85,15 @@ div_max n unit k some = ⊎_elim
     ap (λ (m : ℕ). m / unit) same ∙ omega (arith, most))
     (cases_lt n (k * unit))
 
-pub count_put : (format i : ℕ) (text file : List ℕ) → length text ≡ unit_size format → i * unit_size format ≤ length file → count_of format (put (i * unit_size format) text file) ≡ max (count_of format file) (i + 1)
+pub count_put : (format i : ℕ) (text file : List ℕ) → length text ≡ unit_size format → i * unit_size format
+    ≤ length file → count_of format (put (i * unit_size format) text file) ≡ max (count_of format file) (i + 1)
 unfolding count_of
 count_put format i text file long within =
     let unit = unit_size format in
-    let sum : max (length file) (i * unit + length text) ≡ max (length file) ((i + 1) * unit) = ap (λ (n : ℕ). max (length file) n) (omega (arith, long)) in
-    ap (λ (n : ℕ). n / unit) (length-put (i * unit) text file within ∙ sum) ∙ div_max (length file) unit (i + 1) (some_unit format)
+    let sum : max (length file) (i * unit + length text) ≡ max (length file) ((i + 1) * unit) =
+    ap (λ (n : ℕ). max (length file) n) (omega (arith, long)) in
+    ap (λ (n : ℕ). n / unit) (length-put (i * unit) text file within ∙ sum)
+    ∙ div_max (length file) unit (i + 1) (some_unit format)
 
 -- a unit that is in the file, or comes next, begins within it
 pub place_within : (format i : ℕ) (file : List ℕ) → i ≤ count_of format file → i * unit_size format ≤ length file
@@ -99,21 +106,28 @@ place_within format i file le =
 
 -- ---- what the units hold
 
-pub realm_put : (format i : ℕ) (text file : List ℕ) → length text ≡ unit_size format → i * unit_size format ≤ length file → 1 ≤ i → realm_in format (put (i * unit_size format) text file) ≡ realm_in format file
+pub realm_put : (format i : ℕ) (text file : List ℕ) → length text ≡ unit_size format → i * unit_size format
+    ≤ length file → 1 ≤ i → realm_in format (put (i * unit_size format) text file) ≡ realm_in format file
 unfolding realm_in
 realm_put format i text file long within from =
-    ap (λ (b : List ℕ). front_of (padded (unit_size format) (heading_at format) b)) (unit_other format i 0 text file long within (λ e. absurd (omega (arith, e, from))))
+    ap (λ (b : List ℕ). front_of (padded (unit_size format) (heading_at format) b))
+    (unit_other format i 0 text file long within (λ e. absurd (omega (arith, e, from))))
 
-pub cell_other : (format i j : ℕ) (text file : List ℕ) → length text ≡ unit_size format → i * unit_size format ≤ length file → j ≢ i → cell_in format (put (i * unit_size format) text file) j ≡ cell_in format file j
+pub cell_other : (format i j : ℕ) (text file : List ℕ) → length text ≡ unit_size format → i * unit_size format
+    ≤ length file → j ≢ i → cell_in format (put (i * unit_size format) text file) j ≡ cell_in format file j
 unfolding cell_in
 cell_other format i j text file long within other =
-    ap (λ (b : List ℕ). cond (nat_eq j 0) (Some None) (cell_of format b)) (unit_other format i j text file long within other)
+    ap (λ (b : List ℕ). cond (nat_eq j 0) (Some None) (cell_of format b))
+    (unit_other format i j text file long within other)
 
-pub cell_here : (format i : ℕ) (c : Cell) (file : List ℕ) → IsCell format c → i * unit_size format ≤ length file → 1 ≤ i → cell_in format (put_cell format i c file) i ≡ Some c
+pub cell_here : (format i : ℕ) (c : Cell) (file : List ℕ) → IsCell format c → i * unit_size format ≤ length file → 1 ≤ i
+    → cell_in format (put_cell format i c file) i ≡ Some c
 unfolding cell_in put_cell
 cell_here format i c file fits within from =
     let here = unit_here format i (unit_text format c) file (length-unit format c fits) within in
     let free : Option Cell = Some None in
-    cond-false (nat_eq i 0) free (cell_of format (unit_bytes format i (put (i * unit_size format) (unit_text format c) file))) (ne_eqb i 0 (λ e. absurd (omega (arith, e, from))))
+    cond-false (nat_eq i 0) free
+    (cell_of format (unit_bytes format i (put (i * unit_size format) (unit_text format c) file)))
+    (ne_eqb i 0 (λ e. absurd (omega (arith, e, from))))
     ∙ ap (cell_of format) here
     ∙ unit_again format c fits

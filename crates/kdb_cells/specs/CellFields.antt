@@ -1,5 +1,6 @@
 -- What is read as a cell or a unit is spelled so, and the other way round.
-use Rattle.std.proofs.Common.{◌≡◌, ℕ, ◌+◌, ◌^◌, ◌<◌, ◌≤◌, Bool, true, false, cond, [], length, Some, None, refl, sym, ap, ◌∙◌, arith, length-append}
+use Rattle.std.proofs.Common.{◌≡◌, ℕ, ◌+◌, ◌^◌, ◌<◌, ◌≤◌, Bool, true, false, cond, []}
+use Rattle.std.proofs.Common.{length, Some, None, refl, sym, ap, ◌∙◌, arith, length-append}
 use Rattle.std.specs.Prelude.{nat_eq}
 use Rattle.std.proofs.lemmas.Bool.{eqb-true, eq-eqb}
 use Rattle.kdb_base.specs.Limits.{longest_row, longest_row_1}
@@ -8,7 +9,8 @@ use Rattle.kdb_format.specs.Spellings.{big, counted}
 use Rattle.kdb_format.specs.Fields.{IsField}
 use Rattle.kdb_format.specs.Lengths.{length-counted}
 use Rattle.kdb_format.specs.Numbers.{length-big}
-use Rattle.kdb_format.specs.Laws.{same_field, first_field, made_field, done_field, big_field, checked_field, choice_field, refuse_field, padded_field}
+use Rattle.kdb_format.specs.Laws.{same_field, first_field, made_field, done_field, big_field}
+use Rattle.kdb_format.specs.Laws.{checked_field, choice_field, refuse_field, padded_field}
 use Rattle.policy_rules.specs.Rules.{Rules}
 use Rattle.princ_record.specs.RowLimits.{IsRow, is_row_1}
 use Rattle.princ_record.specs.RowLaws.{row_1_from, row_1_test, row_field, policy_row_field}
@@ -16,7 +18,9 @@ use Rattle.princ_record.specs.PolicyLaws.{policy_short}
 use Rattle.princ_record.specs.Policies.{policy, IsPolicy}
 use Rattle.princ_record.specs.Princs.{princ}
 use Rattle.princ_record.specs.declared.princs.Princ.{Princ as Principal}
-use Rattle.kdb_cells.specs.Cells.{Cell, unit_size, kind_of, row_text, IsRowOf, is_row_of, IsStored, IsCell, free_at, princ_at, policy_at, in_state, cell_at, state_of, behind_state, cell_text, unit_at, unit_text}
+use Rattle.kdb_cells.specs.Cells.{Cell, unit_size, kind_of, row_text, IsRowOf, is_row_of}
+use Rattle.kdb_cells.specs.Cells.{IsStored, IsCell, free_at, princ_at, policy_at, in_state}
+use Rattle.kdb_cells.specs.Cells.{cell_at, state_of, behind_state, cell_text, unit_at, unit_text}
 use Rattle.kdb_cells.specs.declared.units.StoredRow.{StoredRow}
 use Rattle.kdb_cells.specs.declared.units.StoredRow.TheVariants.{Princ, Policy}
 
@@ -54,14 +58,16 @@ free_field format = same_field (done_field {A = Cell} None)
     (λ c f. (ap behind_state (sym f), rw f (refl, tt)))
     (λ c f. free_from format c f)
 
-princ_from : (format : ℕ) (c : Cell) → Is format 1 c → (p : Principal) × ((IsRow p × (is_row_of format p ≡ true)) × (Some (Princ p) ≡ c))
+princ_from : (format : ℕ) (c : Cell) → Is format 1 c
+    → (p : Principal) × ((IsRow p × (is_row_of format p ≡ true)) × (Some (Princ p) ≡ c))
 princ_from format None f = absurd (omega (arith, f.0))
 princ_from format (Some (Princ p)) f = (p, ((f.1.row, row_of_test format p f.1), refl))
 princ_from format (Some (Policy p)) f = absurd (omega (arith, f.0))
 
 princ_field : (format : ℕ) → IsField (princ_at format) behind_state (Is format 1)
 unfolding behind_state row_text
-princ_field format = made_field (checked_field (is_row_of format) row_field) (λ (p : Principal). let c : Cell = Some (Princ p) in c)
+princ_field format =
+    made_field (checked_field (is_row_of format) row_field) (λ (p : Principal). let c : Cell = Some (Princ p) in c)
     (λ p f. (refl, (refl, row_of_from format p f.0 f.1)))
     (princ_from format)
 
@@ -77,10 +83,13 @@ policy_field format = made_field policy_row_field (λ (p : Rules). let c : Cell 
     (policy_from format)
 
 -- the same, at a number that is known
-at_state : {read : Reading Cell} (format state n : ℕ) → nat_eq state n ≡ true → IsField read behind_state (Is format n) → IsField read behind_state (Is format state)
-at_state format state n e field = same_field field (λ c f. (refl, (f.0 ∙ sym (eqb-true _ _ e), f.1))) (λ c f. (f.0 ∙ eqb-true _ _ e, f.1))
+at_state : {read : Reading Cell} (format state n : ℕ) → nat_eq state n ≡ true → IsField read behind_state (Is format n)
+    → IsField read behind_state (Is format state)
+at_state format state n e field =
+    same_field field (λ c f. (refl, (f.0 ∙ sym (eqb-true _ _ e), f.1))) (λ c f. (f.0 ∙ eqb-true _ _ e, f.1))
 
-other_state : (c : Cell) (state : ℕ) → state_of c ≡ state → nat_eq state 0 ≡ false → nat_eq state 1 ≡ false → nat_eq state 2 ≡ false → ⊥
+other_state : (c : Cell) (state : ℕ) → state_of c ≡ state → nat_eq state 0 ≡ false → nat_eq state 1 ≡ false
+    → nat_eq state 2 ≡ false → ⊥
 other_state None state e z a b = absurd cc
 other_state (Some (Princ p)) state e z a b = absurd cc
 other_state (Some (Policy p)) state e z a b = absurd cc
@@ -111,7 +120,12 @@ cell_field format = same_field
 
 pub length-cell : (r : StoredRow) → length (cell_text (Some r)) ≡ 3 + length (row_text r)
 unfolding cell_text behind_state
-length-cell r = omega (arith, length-append (big 1 (kind_of r)) (counted (row_text r)), length-big 1 (kind_of r), length-counted (row_text r))
+length-cell r = omega (
+  arith,
+  length-append (big 1 (kind_of r)) (counted (row_text r)),
+  length-big 1 (kind_of r),
+  length-counted (row_text r),
+)
 
 -- the format's longest row
 abbrev longest : ℕ → ℕ

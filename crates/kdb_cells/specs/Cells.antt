@@ -1,5 +1,6 @@
 -- The cells of a file: what a unit holds, and the bytes that say so.
-use Rattle.std.specs.Prelude.{◌≡◌, ℕ, ◌+◌, ◌-◌, Bool, true, nat_eq, if◌then◌else◌, List, [], ◌++◌, length, Option, Some, None}
+use Rattle.std.specs.Prelude.{◌≡◌, ℕ, ◌+◌, ◌-◌, Bool, true, nat_eq, if◌then◌else◌}
+use Rattle.std.specs.Prelude.{List, [], ◌++◌, length, Option, Some, None}
 use Rattle.kdb_format.specs.Readings.{Reading, ◌>>=◌, done, checked, refuse, padded, big_at}
 use Rattle.kdb_format.specs.Spellings.{big, counted, zeros}
 use Rattle.princ_record.specs.RowLimits.{IsRow, IsRow1, is_row_1, row_at, policy_row_at}

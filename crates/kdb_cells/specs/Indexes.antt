@@ -1,5 +1,7 @@
--- How an index keeps the units of a file: entries of keys with their units, and a heap of the units to which no key leads.
-use Rattle.std.specs.Prelude.{◌≡◌, ℕ, ◌+◌, ◌≤◌, ◌<◌, ◌&&◌, nat_eq, nat_le, nat_lt, min, if◌then◌else◌, List, Vec, Option, Some, None, length, get_or}
+-- How an index keeps the units of a file: entries of keys with their units, and a heap of the units to which no key
+-- leads.
+use Rattle.std.specs.Prelude.{◌≡◌, ℕ, ◌+◌, ◌≤◌, ◌<◌, ◌&&◌, nat_eq, nat_le, nat_lt, min}
+use Rattle.std.specs.Prelude.{if◌then◌else◌, List, Vec, Option, Some, None, length, get_or}
 use Rattle.std.specs.List.{sum_by}
 use Rattle.std.specs.Map.{lookup}
 use Rattle.std.specs.Ordering.{nat_cmp}

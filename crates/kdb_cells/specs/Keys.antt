@@ -14,7 +14,8 @@ use Rattle.princ_rows.specs.EntryLaws.{bytes_same}
 -- what holds of each byte holds of those behind a front
 all_behind : (front rest : List ℕ) → list_all is_name_byte (front ++ rest) ≡ true → list_all is_name_byte rest ≡ true
 all_behind [] rest all = all
-all_behind (b ∷ front) rest all = all_behind front rest (and_parts (is_name_byte b) (list_all is_name_byte (front ++ rest)) all).1
+all_behind (b ∷ front) rest all =
+    all_behind front rest (and_parts (is_name_byte b) (list_all is_name_byte (front ++ rest)) all).1
 
 pub printed_is_no_policy : (name : List ℕ) → IsPrinted name → is_policy_name name ≡ true → ⊥
 unfolding printed is_policy_name
@@ -26,8 +27,11 @@ printed_is_no_policy name is named =
     absurd cc
 
 -- rows that may be stored have one key only where they are of one kind
-pub one_kind : (format : ℕ) (r s : StoredRow) → IsStored format r → IsStored format s → name_of r ≡ name_of s → same_key r s ≡ true
+pub one_kind : (format : ℕ) (r s : StoredRow) → IsStored format r → IsStored format s → name_of r ≡ name_of s
+    → same_key r s ≡ true
 one_kind format (Princ p) (Princ q) a b is = bytes_same p.name q.name is
-one_kind format (Princ p) (Policy q) a b is = absurd (printed_is_no_policy p.name a.row.fits.name (ap is_policy_name is ∙ b.named))
-one_kind format (Policy p) (Princ q) a b is = absurd (printed_is_no_policy q.name b.row.fits.name (ap is_policy_name (sym is) ∙ a.named))
+one_kind format (Princ p) (Policy q) a b is =
+    absurd (printed_is_no_policy p.name a.row.fits.name (ap is_policy_name is ∙ b.named))
+one_kind format (Policy p) (Princ q) a b is =
+    absurd (printed_is_no_policy q.name b.row.fits.name (ap is_policy_name (sym is) ∙ a.named))
 one_kind format (Policy p) (Policy q) a b is = bytes_same p.name q.name is

@@ -51,7 +51,8 @@ leading key unit u = record {
 
 -- and this key leads to it
 unfoldable pub more_led : List ℕ → Units → Units
-more_led key u = record { of = λ k. if bytes_eq key k then Some u.next else u.of k; next = u.next + 1; placed = u.placed }
+more_led key u =
+    record { of = λ k. if bytes_eq key k then Some u.next else u.of k; next = u.next + 1; placed = u.placed }
 
 -- and no key leads to it
 abbrev pub more_free : Units → Units

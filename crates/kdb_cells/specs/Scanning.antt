@@ -1,5 +1,6 @@
 -- What a scan of a file of cells reads, and what it answers.
-use Rattle.std.specs.Prelude.{Bool, false, nat_eq, nat_lt, if◌then◌else◌, ℕ, ◌≡◌, ◌≢◌, ◌≤◌, ◌<◌, ◌+◌, ◌*◌, ◌⊎◌, List, [], ◌∷◌, ◌++◌, length, Option, Some, None, Result, Ok, Err}
+use Rattle.std.specs.Prelude.{Bool, false, nat_eq, nat_lt, if◌then◌else◌, ℕ, ◌≡◌, ◌≢◌, ◌≤◌, ◌<◌, ◌+◌, ◌*◌}
+use Rattle.std.specs.Prelude.{◌⊎◌, List, [], ◌∷◌, ◌++◌, length, Option, Some, None, Result, Ok, Err}
 use Rattle.std.specs.List.{All, IsDistinct}
 use Rattle.std.specs.Str.{bytes_eq}
 use Rattle.kdb_base.specs.Limits.{most_rows}
@@ -53,9 +54,10 @@ policies_of (c ∷ cells) = policy_in c ++ policies_of cells
 
 -- ---- what was gathered
 
--- What is kept of the units that were read: where each key leads, and the rows. A unit that is given is one of them, and
--- no row stands in it.
-pub record IsGathered (format : ℕ) (u : Units) (count : ℕ) (princs : List Principal) (policies : List Rules) (cells : List Cell) : Type 0 where
+-- What is kept of the units that were read: where each key leads, and the rows. A unit that is given is one of them,
+-- and no row stands in it.
+pub record IsGathered (format : ℕ) (u : Units) (count : ℕ) (princs : List Principal) (policies : List Rules)
+    (cells : List Cell) : Type 0 where
   pub cells_are : AreCellsOf u cells
   pub count_is : count ≡ taken cells
   pub few : count ≤ most_rows
@@ -105,11 +107,13 @@ MaySkip format torn file = (i : ℕ) → torn ≡ Some i → (1 ≤ i) × (i * u
 
 -- the units of the file, with one passed over, hold these cells
 abbrev pub AreCellsIn : ℕ → Option ℕ → List ℕ → List Cell → Type 0
-AreCellsIn format torn file cells = (i : ℕ) → i < length cells → cell_in format (skipping format torn file) i ≡ Some (cell_no i cells)
+AreCellsIn format torn file cells =
+    (i : ℕ) → i < length cells → cell_in format (skipping format torn file) i ≡ Some (cell_no i cells)
 
 -- the file is damaged at the place that the refusal names
 abbrev pub IsDamaged : ℕ → ℕ → Option ℕ → List ℕ → Refusal → Type 0
-IsDamaged file format torn bytes refusal = (place : ℕ) × ((refusal ≡ Damaged file place) × (sheet_in format (skipping format torn bytes) ≡ Err place))
+IsDamaged file format torn bytes refusal =
+    (place : ℕ) × ((refusal ≡ Damaged file place) × (sheet_in format (skipping format torn bytes) ≡ Err place))
 
 -- a refusal is that a file is damaged at some place
 abbrev pub IsDamage : Stop → Type 0
@@ -117,13 +121,15 @@ IsDamage (Refused refusal) = (file : ℕ) × ((place : ℕ) × (refusal ≡ Dama
 IsDamage (Halt halt) = Unit {0}
 
 -- One cell more was gathered, which is the next unit's where the file is told.
-pub record IsMore (format : ℕ) (torn : Option ℕ) (told : Type 0) (file : List ℕ) (u : Units) (count : ℕ) (princs : List Principal) (policies : List Rules) (cells : List Cell) : Type 0 where
+pub record IsMore (format : ℕ) (torn : Option ℕ) (told : Type 0) (file : List ℕ) (u : Units) (count : ℕ)
+    (princs : List Principal) (policies : List Rules) (cells : List Cell) : Type 0 where
   pub cell : Cell
   pub gathered : IsGathered format u count princs policies (set_cell (length cells) cell cells)
   pub read : told → AreCellsIn format torn file (set_cell (length cells) cell cells)
 
 -- So many units were gathered.
-pub record AreGathered (format : ℕ) (torn : Option ℕ) (told : Type 0) (file : List ℕ) (u : Units) (count : ℕ) (princs : List Principal) (policies : List Rules) (n : ℕ) : Type 0 where
+pub record AreGathered (format : ℕ) (torn : Option ℕ) (told : Type 0) (file : List ℕ) (u : Units) (count : ℕ)
+    (princs : List Principal) (policies : List Rules) (n : ℕ) : Type 0 where
   pub cells : List Cell
   pub long : length cells ≡ n
   pub gathered : IsGathered format u count princs policies cells
@@ -136,7 +142,8 @@ abbrev pub end_of : Option ℕ → ℕ → ℕ
 end_of torn count = if is_torn torn count then count + 1 else count
 
 -- What was read of a file: the realm and the cells, to which the index leads, and their rows in the order of the units.
-pub record IsScanned (c : CellFile) (realm : List ℕ) (princs : List Principal) (policies : List Rules) (torn : Option ℕ) (file : List ℕ) : Type 0 where
+pub record IsScanned (c : CellFile) (realm : List ℕ) (princs : List Principal) (policies : List Rules) (torn : Option ℕ)
+    (file : List ℕ) : Type 0 where
   pub sheet : Sheet
   pub tie : IsFileOf c sheet (skipping c.format torn file)
   pub realm_is : realm ≡ sheet.realm
@@ -144,9 +151,10 @@ pub record IsScanned (c : CellFile) (realm : List ℕ) (princs : List Principal)
   pub policies_are : policies ≡ policies_of sheet.cells
   pub placed : c.index.placed ≡ torn
 
--- What was gathered of a file: the index leads to cells that have these rows, and where the disk tells, they are those of the
--- file, and the unit that was passed over is given.
-pub record AreScanned (told : Type 0) (c : CellFile) (realm : List ℕ) (princs : List Principal) (policies : List Rules) (torn : Option ℕ) (file : List ℕ) : Type 0 where
+-- What was gathered of a file: the index leads to cells that have these rows, and where the disk tells, they are those
+-- of the file, and the unit that was passed over is given.
+pub record AreScanned (told : Type 0) (c : CellFile) (realm : List ℕ) (princs : List Principal) (policies : List Rules)
+    (torn : Option ℕ) (file : List ℕ) : Type 0 where
   pub cells : List Cell
   pub gathered : IsGathered c.format (units c) (count c) princs policies cells
   pub read : told → sheet_in c.format (skipping c.format torn file) ≡ Ok (record { realm = realm; cells = cells })

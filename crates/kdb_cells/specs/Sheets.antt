@@ -1,5 +1,6 @@
 -- What a file of cells holds: the realm in its first unit, and the cells in the others.
-use Rattle.std.specs.Prelude.{◌≡◌, ℕ, zero, suc, ◌+◌, ◌*◌, ◌/◌, Bool, true, false, ◌||◌, nat_eq, nat_lt, if◌then◌else◌, List, [], ◌∷◌, ◌++◌, length, take, drop, Option, Some, None, Result, Ok, Err}
+use Rattle.std.specs.Prelude.{◌≡◌, ℕ, zero, suc, ◌+◌, ◌*◌, ◌/◌, Bool, true, false, ◌||◌, nat_eq, nat_lt, if◌then◌else◌}
+use Rattle.std.specs.Prelude.{List, [], ◌∷◌, ◌++◌, length, take, drop, Option, Some, None, Result, Ok, Err}
 use Rattle.std.specs.List.{AllByRecursion}
 use Rattle.std.specs.Str.{bytes_eq}
 use Rattle.kdb_base.specs.Limits.{most_rows}
@@ -124,7 +125,8 @@ sheet_with format file None (Some realm) = Ok (record { realm = realm; cells = c
 
 -- what the bytes of a file hold, or the place of the first unit that is at fault
 unfoldable pub sheet_in : ℕ → List ℕ → Result Sheet ℕ
-sheet_in format file = sheet_with format file (fault_from format file 0 (count_of format file) []) (realm_in format file)
+sheet_in format file =
+    sheet_with format file (fault_from format file 0 (count_of format file) []) (realm_in format file)
 
 -- ---- one unit changes
 

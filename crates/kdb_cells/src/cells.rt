@@ -1,6 +1,7 @@
 //! A file of cells on a disk: a row is put into a unit or taken out of it by one write, so that a
 //! crash leaves one unit torn and no other.
-ghost use Rattle.std.specs.Prelude.{◌≡◌, ◌≢◌, ◌≤◌, ◌<◌, ◌+◌, ◌*◌, ◌^◌, ℕ, true, false, List, Some, None, length, IfOk, OnOk, OnErr, IsErr};
+ghost use Rattle.std.specs.Prelude.{◌≡◌, ◌≢◌, ◌≤◌, ◌<◌, ◌+◌, ◌*◌, ◌^◌, ℕ, true, false};
+ghost use Rattle.std.specs.Prelude.{List, Some, None, length, IfOk, OnOk, OnErr, IsErr};
 ghost use Rattle.kdb_base.specs.Limits.{most_rows};
 ghost use Rattle.kdb_disk.specs.View.{View};
 ghost use Rattle.kdb_disk.specs.Frames.{IsCall};
@@ -197,13 +198,19 @@ impl Cells {
         requires alone { (i : ℕ) → (units self.old).of key ≡ Some i → i ≡ cell }
         requires few { IsFree cell (units self.old) → count self.old < most_rows }
         requires within { D.tells → place_of cell self.old ≤ length ((D.view disk.old).seen self.old.file) }
-        ensures moments { D.tells → LeavesTorn self.old.file (place_of cell self.old) (unit_len self.old) (D.view disk.old) (D.view disk.new) }
-        ensures ok { (r : Stored) → IsRowText self.old.format kind key row.now r → D.tells → OnOk result (Stands self.old.file (place_of cell self.old) (unit_text self.old.format (Some r)) (D.view disk.old) (D.view disk.new)) }
+        ensures moments { D.tells → LeavesTorn self.old.file (place_of cell self.old) (unit_len self.old)
+            (D.view disk.old) (D.view disk.new) }
+        ensures ok { (r : Stored) → IsRowText self.old.format kind key row.now r → D.tells
+            → OnOk result (Stands self.old.file (place_of cell self.old) (unit_text self.old.format (Some r))
+            (D.view disk.old) (D.view disk.new)) }
         ensures units { OnOk result (units self.new ≡ leading key cell (units self.old)) }
         ensures more { IsFree cell (units self.old) → OnOk result (count self.new ≡ count self.old + 1) }
-        ensures as_many { (k : List ℕ) → (units self.old).of k ≡ Some cell → OnOk result (count self.new ≡ count self.old) }
+        ensures as_many { (k : List ℕ) → (units self.old).of k ≡ Some cell
+            → OnOk result (count self.new ≡ count self.old) }
         // What the index says stays so of the file, which holds the row in place of what the unit held.
-        ensures keeps { (r : Stored) (sheet : Sheet) → IsRowText self.old.format kind key row.now r → 1 ≤ cell → D.tells → IsFileOf self.old sheet ((D.view disk.old).seen self.old.file) → OnOk result (IsFileOf self.new (with_cell cell (Some r) sheet) ((D.view disk.new).seen self.old.file)) }
+        ensures keeps { (r : Stored) (sheet : Sheet) → IsRowText self.old.format kind key row.now r → 1 ≤ cell
+            → D.tells → IsFileOf self.old sheet ((D.view disk.old).seen self.old.file)
+            → OnOk result (IsFileOf self.new (with_cell cell (Some r) sheet) ((D.view disk.new).seen self.old.file)) }
         ensures err { OnErr result (self.new ≡ self.old) }
         ensures file { self.new.file ≡ self.old.file }
         ensures format { self.new.format ≡ self.old.format }
@@ -227,13 +234,18 @@ impl Cells {
     pub fn take_out<D: Disk>(&mut self, disk: &mut D, cell: u32) -> Result<(), DiskFailed>
         requires ready { (units self.old).placed ≡ Some cell }
         requires within { D.tells → place_of cell self.old ≤ length ((D.view disk.old).seen self.old.file) }
-        ensures moments { D.tells → LeavesTorn self.old.file (place_of cell self.old) (unit_len self.old) (D.view disk.old) (D.view disk.new) }
-        ensures ok { D.tells → OnOk result (Stands self.old.file (place_of cell self.old) (unit_text self.old.format None) (D.view disk.old) (D.view disk.new)) }
+        ensures moments { D.tells → LeavesTorn self.old.file (place_of cell self.old) (unit_len self.old)
+            (D.view disk.old) (D.view disk.new) }
+        ensures ok { D.tells → OnOk result (Stands self.old.file (place_of cell self.old)
+            (unit_text self.old.format None) (D.view disk.old) (D.view disk.new)) }
         ensures units { OnOk result (units self.new ≡ freed cell (units self.old)) }
         ensures as_many { IsFree cell (units self.old) → OnOk result (count self.new ≡ count self.old) }
-        ensures fewer { (k : List ℕ) → (units self.old).of k ≡ Some cell → OnOk result (count self.new + 1 ≡ count self.old) }
+        ensures fewer { (k : List ℕ) → (units self.old).of k ≡ Some cell
+            → OnOk result (count self.new + 1 ≡ count self.old) }
         // What the index says stays so of the file, in which the unit is free.
-        ensures keeps { (sheet : Sheet) → 1 ≤ cell → D.tells → IsFileOf self.old sheet ((D.view disk.old).seen self.old.file) → OnOk result (IsFileOf self.new (with_cell cell None sheet) ((D.view disk.new).seen self.old.file)) }
+        ensures keeps { (sheet : Sheet)
+            → 1 ≤ cell → D.tells → IsFileOf self.old sheet ((D.view disk.old).seen self.old.file)
+            → OnOk result (IsFileOf self.new (with_cell cell None sheet) ((D.view disk.new).seen self.old.file)) }
         ensures err { OnErr result (self.new ≡ self.old) }
         ensures file { self.new.file ≡ self.old.file }
         ensures format { self.new.format ≡ self.old.format }

@@ -1,5 +1,6 @@
 //! Whole files of cells, read from a disk.
-ghost use Rattle.std.specs.Prelude.{◌≡◌, ◌≤◌, ◌<◌, ◌+◌, ◌*◌, ◌/◌, ◌^◌, ℕ, List, true, Some, None, Err, length, take, drop, max, IfOk, IfErr, OnOk};
+ghost use Rattle.std.specs.Prelude.{◌≡◌, ◌≤◌, ◌<◌, ◌+◌, ◌*◌, ◌/◌, ◌^◌, ℕ, List, true, Some};
+ghost use Rattle.std.specs.Prelude.{None, Err, length, take, drop, max, IfOk, IfErr, OnOk};
 ghost use Rattle.kdb_base.specs.declared.outcomes.Refusal.{Refusal as Refuses};
 ghost use Rattle.kdb_base.specs.declared.outcomes.Refusal.TheVariants.{Damaged};
 ghost use Rattle.kdb_base.specs.declared.outcomes.Stop.TheVariants.{Refused, Halt as Halts};
@@ -10,7 +11,8 @@ ghost use Rattle.kdb_disk.specs.Reader.{left_of, IsOver};
 ghost use Rattle.kdb_disk.specs.View.{View};
 ghost use Rattle.kdb_cells.specs.Cells.{unit_size as size_of_unit};
 ghost use Rattle.kdb_cells.specs.CellFiles.{is_image, is_format};
-ghost use Rattle.kdb_cells.specs.Scanning.{heading_of, end_of, MaySkip, IsDamage, IsDamaged, AreApart, AreScanned, IsScanned};
+ghost use Rattle.kdb_cells.specs.Scanning.{heading_of, end_of, MaySkip, IsDamage};
+ghost use Rattle.kdb_cells.specs.Scanning.{IsDamaged, AreApart, AreScanned, IsScanned};
 
 use crate::cells::{Cells, unit_size};
 use crate::headings::read_first;
@@ -44,10 +46,13 @@ fn read_realm<D: Disk>(
 ) -> Result<Realm, Stop>
     requires format { is_format format ≡ true }
     requires over { D.tells → IsOver reader.old (D.view disk.old).seen }
-    ensures found { D.tells → IfOk result (λ realm. heading_of format (take (size_of_unit format) (left_of reader.old (D.view disk.old).seen)) ≡ Some realm) }
-    ensures refused { D.tells → (r : Refuses) → result ≡ Err (Refused r) → (r ≡ Damaged file 0) × (heading_of format (take (size_of_unit format) (left_of reader.old (D.view disk.old).seen)) ≡ None) }
+    ensures found { D.tells → IfOk result (λ realm.
+        heading_of format (take (size_of_unit format) (left_of reader.old (D.view disk.old).seen)) ≡ Some realm) }
+    ensures refused { D.tells → (r : Refuses) → result ≡ Err (Refused r) → (r ≡ Damaged file 0)
+        × (heading_of format (take (size_of_unit format) (left_of reader.old (D.view disk.old).seen)) ≡ None) }
     ensures damage { IfErr result IsDamage }
-    ensures left { D.tells → OnOk result (left_of reader.new (D.view disk.new).seen ≡ drop (size_of_unit format) (left_of reader.old (D.view disk.old).seen)) }
+    ensures left { D.tells → OnOk result (left_of reader.new (D.view disk.new).seen
+        ≡ drop (size_of_unit format) (left_of reader.old (D.view disk.old).seen)) }
     ensures over { D.tells → IsOver reader.new (D.view disk.new).seen }
     ensures keeps { D.tells → Keeps (D.view disk.old) (D.view disk.new) }
     ensures call { IsCall D.Disk disk.old disk.new (result ≡ Err (Halts IsDiskFault)) }
@@ -101,12 +106,15 @@ pub fn scan<D: Disk>(
     requires format { is_format format ≡ true }
     requires low { (i : ℕ) → torn ≡ Some i → 1 ≤ i }
     requires torn { D.tells → MaySkip format torn ((D.view disk.old).seen file) }
-    ensures scanned { D.tells → IfOk result (λ s. IsScanned s.cells s.realm s.princs.items s.policies.items torn ((D.view disk.old).seen file)) }
-    ensures gathered { IfOk result (λ s. AreScanned D.tells s.cells s.realm s.princs.items s.policies.items torn ((D.view disk.old).seen file)) }
+    ensures scanned { D.tells → IfOk result
+        (λ s. IsScanned s.cells s.realm s.princs.items s.policies.items torn ((D.view disk.old).seen file)) }
+    ensures gathered { IfOk result
+        (λ s. AreScanned D.tells s.cells s.realm s.princs.items s.policies.items torn ((D.view disk.old).seen file)) }
     ensures apart { IfOk result (λ s. AreApart s.princs.items s.policies.items) }
     ensures file { IfOk result (λ s. s.cells.file ≡ file) }
     ensures format { IfOk result (λ s. s.cells.format ≡ format) }
-    ensures refused { D.tells → (r : Refuses) → result ≡ Err (Refused r) → IsDamaged file format torn ((D.view disk.old).seen file) r }
+    ensures refused { D.tells → (r : Refuses) → result ≡ Err (Refused r)
+        → IsDamaged file format torn ((D.view disk.old).seen file) r }
     // whatever the disk tells
     ensures damage { IfErr result IsDamage }
     ensures keeps { D.tells → Keeps (D.view disk.old) (D.view disk.new) }

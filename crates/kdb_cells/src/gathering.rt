@@ -52,7 +52,8 @@ pub(crate) fn gather_first(alloc: Global) -> Gathered
 
 // Whether the row may stand in the next unit, beside those that were read.
 fn may_stand(index: &UnitIndex, key: &[u8]) -> bool
-    ensures may { result ≡ true → (index.now.next ≤ last_unit) × ((count index.now < most_rows) × ((units index.now).of key.now ≡ None)) }
+    ensures may { result ≡ true
+        → (index.now.next ≤ last_unit) × ((count index.now < most_rows) × ((units index.now).of key.now ≡ None)) }
     ensures refused { result ≡ false → IsRefused (units index.now) (count index.now) key.now }
 {
     if index.next() > u64::from(u32::MAX) {
@@ -93,7 +94,8 @@ pub(crate) fn gather_row(
     ensures new { OnOk result ((units gathered.old.index).of (name_of row) ≡ None) }
     ensures princs { OnOk result (gathered.new.princs.items ≡ gathered.old.princs.items ++ princ_in (Some row)) }
     ensures policies { OnOk result (gathered.new.policies.items ≡ gathered.old.policies.items ++ policy_in (Some row)) }
-    ensures refused { result ≡ Err IsMalformed → IsRefused (units gathered.old.index) (count gathered.old.index) (name_of row) }
+    ensures refused { result ≡ Err IsMalformed
+        → IsRefused (units gathered.old.index) (count gathered.old.index) (name_of row) }
 {
     let key = Blob::from_bytes(alloc, key_of(&row))?;
     if !may_stand(&gathered.index, key.as_slice()) {

@@ -1,10 +1,12 @@
 //! The units of a file of cells in memory: to which unit each key leads, and which units are free.
-ghost use Rattle.std.specs.Prelude.{◌≡◌, ◌≢◌, ◌≤◌, ◌<◌, ◌+◌, ◌^◌, ℕ, true, false, List, Some, None, length, max, if◌then◌else◌, IfOk, OnOk, OnErr};
+ghost use Rattle.std.specs.Prelude.{◌≡◌, ◌≢◌, ◌≤◌, ◌<◌, ◌+◌, ◌^◌, ℕ, true, false, List, Some};
+ghost use Rattle.std.specs.Prelude.{None, length, max, if◌then◌else◌, IfOk, OnOk, OnErr};
 ghost use Rattle.std.specs.Str.{bytes_eq};
 ghost use Rattle.std.specs.BinaryHeap.{heap_items, heap_len, heap_capacity};
 ghost use Rattle.indexmap.specs.IndexMap.{spare};
 ghost use Rattle.kdb_base.specs.Limits.{most_rows};
-ghost use Rattle.kdb_cells.specs.Leads.{IsFree, IsLeastFree, no_units, giving, unless, freed, leading, more_led, more_free, more_given};
+ghost use Rattle.kdb_cells.specs.Leads.{IsFree, IsLeastFree, no_units, giving, unless};
+ghost use Rattle.kdb_cells.specs.Leads.{freed, leading, more_led, more_free, more_given};
 ghost use Rattle.kdb_cells.specs.Sheets.{last_unit};
 ghost use Rattle.kdb_cells.specs.Indexes.{Entries, unit_of, unit_given, units, count, taken, IsIndex};
 ghost use Rattle.kdb_cells.specs.declared.index.Spot.TheVariants as spot;
@@ -54,7 +56,8 @@ impl Model for UnitIndex {
 
     ghost view = { λ x. record { entries = x.entries.entries; next = x.next; placed = unit_given x.placed } };
 
-    ghost invariant = { λ x. IsIndex x.entries.entries (heap_items x.free) x.next x.placed × HasRoom (spare x.entries) (heap_len x.free) (heap_capacity x.free) x.placed };
+    ghost invariant = { λ x. IsIndex x.entries.entries (heap_items x.free) x.next x.placed
+        × HasRoom (spare x.entries) (heap_len x.free) (heap_capacity x.free) x.placed };
 }
 
 // Whether the key leads to a unit.
@@ -71,7 +74,9 @@ fn leads(entries: &IndexMap<Vec<u8>, u32>, key: &[u8]) -> bool
 // The unit that was taken, and to which no key leads, is free.
 fn set_free(free: &mut BinaryHeap<Reverse<u32>>, unit: u32)
     requires room { heap_len free.old < heap_capacity free.old }
-    ensures { (entries : Entries) (next : ℕ) → IsIndex entries (heap_items free.old) next (Some (record { unit = unit; spot = spot.Taken })) → IsIndex entries (heap_items free.new) next None }
+    ensures { (entries : Entries) (next : ℕ)
+        → IsIndex entries (heap_items free.old) next (Some (record { unit = unit; spot = spot.Taken }))
+        → IsIndex entries (heap_items free.new) next None }
 {
     free.push(Reverse(unit)).unwrap();
 }
@@ -79,7 +84,8 @@ fn set_free(free: &mut BinaryHeap<Reverse<u32>>, unit: u32)
 // Gives back the unit that was taken from the free ones, where one was.
 fn give_back(free: &mut BinaryHeap<Reverse<u32>>, placed: Option<Placed>)
     requires room { 0 < taken placed → heap_len free.old < heap_capacity free.old }
-    ensures { (entries : Entries) (next : ℕ) → IsIndex entries (heap_items free.old) next placed → IsIndex entries (heap_items free.new) next None }
+    ensures { (entries : Entries) (next : ℕ) → IsIndex entries (heap_items free.old) next placed
+        → IsIndex entries (heap_items free.new) next None }
 {
     match placed {
         Some(
@@ -115,7 +121,8 @@ fn take_free(
 ) -> Placed
     requires index { IsIndex entries.now.entries (heap_items free.old) next None }
     ensures index { IsIndex entries.now.entries (heap_items free.new) next (Some result) }
-    ensures least { IsLeastFree result.unit (units (record { entries = entries.now.entries; next = next; placed = None })) }
+    ensures least { IsLeastFree result.unit
+        (units (record { entries = entries.now.entries; next = next; placed = None })) }
     ensures high { result.unit ≤ next }
     ensures room { heap_len free.old < heap_capacity free.old → heap_len free.new < heap_capacity free.new }
 {
@@ -142,7 +149,8 @@ fn pick(
     requires index { IsIndex entries.now.entries (heap_items free.old) next None }
     ensures index { IsIndex entries.now.entries (heap_items free.new) next (Some result) }
     ensures own { (i : ℕ) → unit_of entries.now.entries key.now ≡ Some i → result.unit ≡ i }
-    ensures new { unit_of entries.now.entries key.now ≡ None → IsLeastFree result.unit (units (record { entries = entries.now.entries; next = next; placed = None })) }
+    ensures new { unit_of entries.now.entries key.now ≡ None
+        → IsLeastFree result.unit (units (record { entries = entries.now.entries; next = next; placed = None })) }
     ensures low { 1 ≤ result.unit }
     ensures high { result.unit ≤ next }
     ensures room { heap_len free.old < heap_capacity free.old → heap_len free.new < heap_capacity free.new }
@@ -164,13 +172,19 @@ fn detach(
     placed: &Placed,
 ) -> u64
     requires index { IsIndex entries.old.entries (heap_items free.now) next (Some placed.now) }
-    ensures index { IsIndex entries.new.entries (heap_items free.now) result (Some (record { unit = placed.now.unit; spot = spot.Taken })) }
-    ensures of { (key : List ℕ) → unit_of entries.new.entries key ≡ unless placed.now.unit (unit_of entries.old.entries key) }
+    ensures index { IsIndex entries.new.entries (heap_items free.now) result
+        (Some (record { unit = placed.now.unit; spot = spot.Taken })) }
+    ensures of { (key : List ℕ)
+        → unit_of entries.new.entries key ≡ unless placed.now.unit (unit_of entries.old.entries key) }
     ensures next { result ≡ max next (placed.now.unit + 1) }
     ensures spare { spare entries.old ≤ spare entries.new }
-    ensures as_many { IsFree placed.now.unit (units (record { entries = entries.old.entries; next = next; placed = None })) → length entries.new.entries ≡ length entries.old.entries }
-    ensures few { (IsFree placed.now.unit (units (record { entries = entries.old.entries; next = next; placed = None })) → length entries.old.entries < most_rows) → length entries.new.entries < most_rows }
-    ensures fewer { (key : List ℕ) → unit_of entries.old.entries key ≡ Some placed.now.unit → length entries.new.entries + 1 ≡ length entries.old.entries }
+    ensures as_many { IsFree placed.now.unit
+        (units (record { entries = entries.old.entries; next = next; placed = None }))
+        → length entries.new.entries ≡ length entries.old.entries }
+    ensures few { (IsFree placed.now.unit (units (record { entries = entries.old.entries; next = next; placed = None }))
+        → length entries.old.entries < most_rows) → length entries.new.entries < most_rows }
+    ensures fewer { (key : List ℕ) → unit_of entries.old.entries key ≡ Some placed.now.unit
+        → length entries.new.entries + 1 ≡ length entries.old.entries }
 {
     let _count = entries.len();
     match placed.spot {
@@ -192,11 +206,13 @@ fn attach(
     key: Vec<u8>,
 )
     requires spare { 0 < spare entries.old }
-    requires index { IsIndex entries.old.entries (heap_items free.now) next (Some (record { unit = unit; spot = spot.Taken })) }
+    requires index { IsIndex entries.old.entries (heap_items free.now) next
+        (Some (record { unit = unit; spot = spot.Taken })) }
     requires new { unit_of entries.old.entries key.items ≡ None }
     requires few { length entries.old.entries < most_rows }
     ensures index { IsIndex entries.new.entries (heap_items free.now) next None }
-    ensures of { (k : List ℕ) → unit_of entries.new.entries k ≡ (if bytes_eq key.items k then Some unit else unit_of entries.old.entries k) }
+    ensures of { (k : List ℕ)
+        → unit_of entries.new.entries k ≡ (if bytes_eq key.items k then Some unit else unit_of entries.old.entries k) }
     ensures more { length entries.new.entries ≡ length entries.old.entries + 1 }
 {
     let _old = entries.insert(key, unit).unwrap();
@@ -218,7 +234,8 @@ fn extend(
     requires new { unit_of entries.old.entries key.items ≡ None }
     requires few { length entries.old.entries < most_rows }
     ensures index { IsIndex entries.new.entries (heap_items free.now) result placed.now }
-    ensures of { (k : List ℕ) → unit_of entries.new.entries k ≡ (if bytes_eq key.items k then Some next else unit_of entries.old.entries k) }
+    ensures of { (k : List ℕ)
+        → unit_of entries.new.entries k ≡ (if bytes_eq key.items k then Some next else unit_of entries.old.entries k) }
     ensures next { result ≡ next + 1 }
     ensures more { length entries.new.entries ≡ length entries.old.entries + 1 }
     ensures spare { 1 ≤ spare entries.new }

@@ -12,10 +12,13 @@ ghost use Rattle.kdb_cells.specs.declared.units.StoredRow.{StoredRow};
 /// No policy has a principal's printed name, so that one index of keys serves both kinds of rows.
 pub fn kinds_share_no_key()
     ensures names { (name : List ℕ) → IsPrinted name → is_policy_name name ≡ true → ⊥ }
-    ensures rows { (format : ℕ) (r s : StoredRow) → IsStored format r → IsStored format s → name_of r ≡ name_of s → same_key r s ≡ true }
+    ensures rows { (format : ℕ) (r s : StoredRow) → IsStored format r → IsStored format s → name_of r ≡ name_of s
+        → same_key r s ≡ true }
 {}
 
 /// Where one unit is written, the file holds the other cells as before.
 pub fn one_cell_is_put()
-    ensures { (format unit : ℕ) (c : Cell) (file : List ℕ) (sheet : Sheet) → sheet_in format file ≡ Ok sheet → MayStand format unit c sheet.cells → sheet_in format (put_cell format unit c file) ≡ Ok (with_cell unit c sheet) }
+    ensures { (format unit : ℕ) (c : Cell) (file : List ℕ) (sheet : Sheet)
+        → sheet_in format file ≡ Ok sheet → MayStand format unit c sheet.cells
+        → sheet_in format (put_cell format unit c file) ≡ Ok (with_cell unit c sheet) }
 {}

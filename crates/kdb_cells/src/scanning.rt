@@ -1,5 +1,6 @@
 //! The units of a file of cells, read one after the other.
-ghost use Rattle.std.specs.Prelude.{◌≡◌, ◌≤◌, ◌<◌, ◌+◌, ◌*◌, ◌^◌, ℕ, List, true, false, Some, None, Err, length, take, drop, IfOk, IfErr, OnOk};
+ghost use Rattle.std.specs.Prelude.{◌≡◌, ◌≤◌, ◌<◌, ◌+◌, ◌*◌, ◌^◌, ℕ, List, true, false};
+ghost use Rattle.std.specs.Prelude.{Some, None, Err, length, take, drop, IfOk, IfErr, OnOk};
 ghost use Rattle.kdb_base.specs.declared.outcomes.Refusal.{Refusal as Refuses};
 ghost use Rattle.kdb_base.specs.declared.outcomes.Refusal.TheVariants.{Damaged};
 ghost use Rattle.kdb_base.specs.declared.outcomes.Stop.TheVariants.{Refused, Halt as Halts};
@@ -12,7 +13,9 @@ ghost use Rattle.kdb_format.specs.Answers.{Finds};
 ghost use Rattle.kdb_format.specs.declared.faults.FormatFault.TheVariants.{Malformed as IsMalformed};
 ghost use Rattle.kdb_cells.specs.Cells.{Cell, IsCell, name_of, cell_of, unit_size as size_of_unit};
 ghost use Rattle.kdb_cells.specs.Indexes.{units, count};
-ghost use Rattle.kdb_cells.specs.Scanning.{skipping, is_torn as is_torn_unit, placed_at, cell_next, MaySkip, AreCellsIn, IsDamage, IsDamaged, IsGathered, IsMore, AreGathered, IsRefused, UnitAnswers};
+ghost use Rattle.kdb_cells.specs.Scanning.{skipping, is_torn as is_torn_unit, placed_at, cell_next};
+ghost use Rattle.kdb_cells.specs.Scanning.{MaySkip, AreCellsIn, IsDamage, IsDamaged, IsGathered};
+ghost use Rattle.kdb_cells.specs.Scanning.{IsMore, AreGathered, IsRefused, UnitAnswers};
 ghost use Rattle.kdb_cells.specs.Sheets.{set_cell, count_of, realm_in};
 ghost use Rattle.kdb_cells.specs.declared.units.StoredRow.{StoredRow as Stored};
 
@@ -81,11 +84,13 @@ fn read_next<D: Disk>(
 ) -> Result<Option<StoredRow>, Stop>
     requires fits { unit * size_of_unit format < 2 ^ 64 }
     requires over { D.tells → IsOver reader.old (D.view disk.old).seen }
-    ensures found { D.tells → UnitAnswers result file (unit * size_of_unit format) (cell_next format skips (take (size_of_unit format) (left_of reader.old (D.view disk.old).seen))) }
+    ensures found { D.tells → UnitAnswers result file (unit * size_of_unit format)
+        (cell_next format skips (take (size_of_unit format) (left_of reader.old (D.view disk.old).seen))) }
     ensures damage { IfErr result IsDamage }
     ensures stored { IfOk result (λ c. IsCell format c) }
     ensures none { skips ≡ true → IfOk result (λ c. c ≡ None) }
-    ensures left { D.tells → OnOk result (left_of reader.new (D.view disk.new).seen ≡ drop (size_of_unit format) (left_of reader.old (D.view disk.old).seen)) }
+    ensures left { D.tells → OnOk result (left_of reader.new (D.view disk.new).seen
+        ≡ drop (size_of_unit format) (left_of reader.old (D.view disk.old).seen)) }
     ensures over { D.tells → IsOver reader.new (D.view disk.new).seen }
     ensures keeps { D.tells → Keeps (D.view disk.old) (D.view disk.new) }
     ensures call { IsCall D.Disk disk.old disk.new (result ≡ Err (Halts IsDiskFault)) }
@@ -119,11 +124,14 @@ fn gather_cell(
     requires placed { gathered.old.index.placed ≡ placed_at torn unit }
     requires none { is_torn_unit torn unit ≡ true → cell ≡ None }
     requires stored { IsCell format cell }
-    ensures gathered { (cells : List Cell) → IsGathered format (units gathered.old.index) (count gathered.old.index) gathered.old.princs.items gathered.old.policies.items cells
-        → OnOk result (IsGathered format (units gathered.new.index) (count gathered.new.index) gathered.new.princs.items gathered.new.policies.items (set_cell (length cells) cell cells)) }
+    ensures gathered { (cells : List Cell) → IsGathered format (units gathered.old.index)
+        (count gathered.old.index) gathered.old.princs.items gathered.old.policies.items cells
+        → OnOk result (IsGathered format (units gathered.new.index) (count gathered.new.index) gathered.new.princs.items
+        gathered.new.policies.items (set_cell (length cells) cell cells)) }
     ensures next { OnOk result (gathered.new.index.next ≡ unit + 1) }
     ensures placed { OnOk result (gathered.new.index.placed ≡ placed_at torn (unit + 1)) }
-    ensures refused { result ≡ Err IsMalformed → (r : Stored) × ((cell ≡ Some r) × IsRefused (units gathered.old.index) (count gathered.old.index) (name_of r)) }
+    ensures refused { result ≡ Err IsMalformed → (r : Stored)
+        × ((cell ≡ Some r) × IsRefused (units gathered.old.index) (count gathered.old.index) (name_of r)) }
 {
     match cell {
         Some(row) => gather_row(alloc, gathered, row),
@@ -167,21 +175,27 @@ fn gather_unit<D: Disk>(
     requires end { unit + 1 < 2 ^ 64 }
     requires fits { unit * size_of_unit format < 2 ^ 64 }
     requires over { D.tells → IsOver reader.old (D.view disk.old).seen }
-    requires left { D.tells → left_of reader.old (D.view disk.old).seen ≡ drop (unit * size_of_unit format) ((D.view disk.old).seen file) }
+    requires left { D.tells
+        → left_of reader.old (D.view disk.old).seen ≡ drop (unit * size_of_unit format) ((D.view disk.old).seen file) }
     requires torn { D.tells → MaySkip format torn ((D.view disk.old).seen file) }
     requires next { gathered.old.index.next ≡ unit }
     requires placed { gathered.old.index.placed ≡ placed_at torn unit }
-    ensures gathered { (cells : List Cell) → length cells ≡ unit → IsGathered format (units gathered.old.index) (count gathered.old.index) gathered.old.princs.items gathered.old.policies.items cells
+    ensures gathered { (cells : List Cell) → length cells ≡ unit → IsGathered format (units gathered.old.index)
+        (count gathered.old.index) gathered.old.princs.items gathered.old.policies.items cells
         → (D.tells → AreCellsIn format torn ((D.view disk.old).seen file) cells)
-        → OnOk result (IsMore format torn D.tells ((D.view disk.old).seen file) (units gathered.new.index) (count gathered.new.index) gathered.new.princs.items gathered.new.policies.items cells) }
-    ensures refused { D.tells → (cells : List Cell) → length cells ≡ unit → IsGathered format (units gathered.old.index) (count gathered.old.index) gathered.old.princs.items gathered.old.policies.items cells
+        → OnOk result (IsMore format torn D.tells ((D.view disk.old).seen file) (units gathered.new.index)
+        (count gathered.new.index) gathered.new.princs.items gathered.new.policies.items cells) }
+    ensures refused { D.tells → (cells : List Cell) → length cells ≡ unit → IsGathered format (units gathered.old.index)
+        (count gathered.old.index) gathered.old.princs.items gathered.old.policies.items cells
         → AreCellsIn format torn ((D.view disk.old).seen file) cells
-        → (realm : List ℕ) → realm_in format (skipping format torn ((D.view disk.old).seen file)) ≡ Some realm → unit < count_of format (skipping format torn ((D.view disk.old).seen file))
+        → (realm : List ℕ) → realm_in format (skipping format torn ((D.view disk.old).seen file)) ≡ Some realm
+        → unit < count_of format (skipping format torn ((D.view disk.old).seen file))
         → (r : Refuses) → result ≡ Err (Refused r) → IsDamaged file format torn ((D.view disk.old).seen file) r }
     ensures damage { IfErr result IsDamage }
     ensures next { OnOk result (gathered.new.index.next ≡ unit + 1) }
     ensures placed { OnOk result (gathered.new.index.placed ≡ placed_at torn (unit + 1)) }
-    ensures left { D.tells → OnOk result (left_of reader.new (D.view disk.new).seen ≡ drop ((unit + 1) * size_of_unit format) ((D.view disk.old).seen file)) }
+    ensures left { D.tells → OnOk result (left_of reader.new (D.view disk.new).seen
+        ≡ drop ((unit + 1) * size_of_unit format) ((D.view disk.old).seen file)) }
     ensures over { D.tells → IsOver reader.new (D.view disk.new).seen }
     ensures keeps { D.tells → Keeps (D.view disk.old) (D.view disk.new) }
     ensures call { IsCall D.Disk disk.old disk.new (result ≡ Err (Halts IsDiskFault)) }
@@ -212,11 +226,14 @@ pub(crate) fn gather<D: Disk>(
     requires first { 1 ≤ end }
     requires fits { end * size_of_unit format < 2 ^ 64 }
     requires over { D.tells → IsOver reader.old (D.view disk.old).seen }
-    requires left { D.tells → left_of reader.old (D.view disk.old).seen ≡ drop (size_of_unit format) ((D.view disk.old).seen file) }
+    requires left { D.tells
+        → left_of reader.old (D.view disk.old).seen ≡ drop (size_of_unit format) ((D.view disk.old).seen file) }
     requires torn { D.tells → MaySkip format torn ((D.view disk.old).seen file) }
-    ensures gathered { IfOk result (λ g. AreGathered format torn D.tells ((D.view disk.old).seen file) (units g.index) (count g.index) g.princs.items g.policies.items end) }
+    ensures gathered { IfOk result (λ g. AreGathered format torn D.tells ((D.view disk.old).seen file) (units g.index)
+        (count g.index) g.princs.items g.policies.items end) }
     ensures placed { IfOk result (λ g. g.index.placed ≡ placed_at torn end) }
-    ensures refused { D.tells → (realm : List ℕ) → realm_in format (skipping format torn ((D.view disk.old).seen file)) ≡ Some realm → end ≤ count_of format (skipping format torn ((D.view disk.old).seen file))
+    ensures refused { D.tells → (realm : List ℕ) → realm_in format (skipping format torn ((D.view disk.old).seen file))
+        ≡ Some realm → end ≤ count_of format (skipping format torn ((D.view disk.old).seen file))
         → (r : Refuses) → result ≡ Err (Refused r) → IsDamaged file format torn ((D.view disk.old).seen file) r }
     ensures damage { IfErr result IsDamage }
     ensures keeps { D.tells → Keeps (D.view disk.old) (D.view disk.new) }

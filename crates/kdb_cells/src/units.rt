@@ -7,7 +7,8 @@ ghost use Rattle.princ_record.specs.Policies.{policy, IsPolicy};
 ghost use Rattle.princ_record.specs.Princs.{princ};
 ghost use Rattle.princ_record.specs.RowLimits.{IsRow, row_at, policy_row_at};
 ghost use Rattle.princ_record.specs.RowLaws.{row_field, policy_row_field};
-ghost use Rattle.kdb_cells.specs.Cells.{Cell, unit_size, is_row_of, IsCell, in_state, cell_at, cell_of, unit_text, unit_with};
+ghost use Rattle.kdb_cells.specs.Cells.{Cell, unit_size, is_row_of, IsCell, in_state};
+ghost use Rattle.kdb_cells.specs.Cells.{cell_at, cell_of, unit_text, unit_with};
 
 use kdb_base::MemoryOut;
 use kdb_base::limits::MAX_ROW_LEN;

@@ -6,7 +6,8 @@ use Rattle.kdb_format.specs.Readings.{Reading, ◌>>=◌, ◌>>◌, done, checke
 use Rattle.kdb_format.specs.Spellings.{big, zeros}
 use Rattle.kdb_format.specs.Moments.{point_at, point, IsPoint, point_field}
 use Rattle.kdb_format.specs.Fields.{IsField}
-use Rattle.kdb_format.specs.Laws.{same_field, first_field, then_field, after_field, done_field, big_field, literal_field, zeros_field, checked_field}
+use Rattle.kdb_format.specs.Laws.{same_field, first_field, then_field, after_field, done_field}
+use Rattle.kdb_format.specs.Laws.{big_field, literal_field, zeros_field, checked_field}
 use Rattle.kdb_control.specs.Choice.{Choice, is_choice}
 
 -- KDBP
@@ -26,7 +27,16 @@ numbers_at = do
   block ← big_at 4
   base ← point_at
   zeros_at 33
-  done (record { format = format; turn = turn; image = image; log = log; stash = stash; size = size; block = block; base = base })
+  done (record {
+    format = format;
+    turn = turn;
+    image = image;
+    log = log;
+    stash = stash;
+    size = size;
+    block = block;
+    base = base;
+  })
 
 -- and each within its range
 unfoldable pub body_at : Reading Choice
@@ -52,9 +62,19 @@ pub record IsBody (c : Choice) : Type 0 where
 
 -- a choice by its numbers
 same_choice : (c : Choice) (format turn image log stash size block : ℕ) (base : Point)
-    → c.format ≡ format → c.turn ≡ turn → c.image ≡ image → c.log ≡ log → c.stash ≡ stash → c.size ≡ size → c.block ≡ block
+    → c.format ≡ format → c.turn ≡ turn → c.image ≡ image → c.log ≡ log → c.stash ≡ stash → c.size ≡ size
+    → c.block ≡ block
     → c.base ≡ base
-    → c ≡ record { format = format; turn = turn; image = image; log = log; stash = stash; size = size; block = block; base = base }
+    → c ≡ record {
+      format = format;
+      turn = turn;
+      image = image;
+      log = log;
+      stash = stash;
+      size = size;
+      block = block;
+      base = base;
+    }
 same_choice c format turn image log stash size block base k a b d e f g h =
     let made : ℕ → ℕ → ℕ → ℕ → ℕ → ℕ → ℕ → Point → Choice =
     λ (x0 : ℕ) (x1 : ℕ) (x2 : ℕ) (x3 : ℕ) (x4 : ℕ) (x5 : ℕ) (x6 : ℕ) (x7 : Point).
@@ -91,11 +111,29 @@ abbrev Blocks : ℕ → ℕ → ℕ → ℕ → ℕ → ℕ → ℕ → Choice �
 Blocks format turn image log stash size block c = (c.block ≡ block) × Sizes format turn image log stash size c
 
 last_part : (format turn image log stash size block : ℕ) (base : Point)
-    → IsField {A = Choice} (zeros_at 33 >> done (record { format = format; turn = turn; image = image; log = log; stash = stash; size = size; block = block; base = base }))
+    → IsField {A = Choice} (zeros_at 33 >> done (record {
+      format = format;
+      turn = turn;
+      image = image;
+      log = log;
+      stash = stash;
+      size = size;
+      block = block;
+      base = base;
+    }))
     (λ _. zeros 33)
     (λ c. ((c.base ≡ base) × Blocks format turn image log stash size block c) × Unit {0})
 last_part format turn image log stash size block base =
-    let made : Choice = record { format = format; turn = turn; image = image; log = log; stash = stash; size = size; block = block; base = base } in
+    let made : Choice = record {
+      format = format;
+      turn = turn;
+      image = image;
+      log = log;
+      stash = stash;
+      size = size;
+      block = block;
+      base = base;
+    } in
     same_field
     (after_field (zeros_field 33) tt (done_field made))
     (λ c e. (
@@ -109,7 +147,10 @@ last_part format turn image log stash size block base =
               ap (λ (x : Choice). x.size) e,
               (
                 ap (λ (x : Choice). x.stash) e,
-                (ap (λ (x : Choice). x.log) e, (ap (λ (x : Choice). x.image) e, (ap (λ (x : Choice). x.turn) e, ap (λ (x : Choice). x.format) e))),
+                (
+                  ap (λ (x : Choice). x.log) e,
+                  (ap (λ (x : Choice). x.image) e, (ap (λ (x : Choice). x.turn) e, ap (λ (x : Choice). x.format) e)),
+                ),
               ),
             ),
           ),

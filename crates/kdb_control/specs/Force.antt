@@ -1,5 +1,6 @@
 -- What the bytes of the control file have in force.
-use Rattle.std.specs.Prelude.{ℕ, ◌+◌, ◌%◌, List, take, drop, length, nat_lt, nat_eq, slice_index, Option, Some, None, if◌then◌else◌}
+use Rattle.std.specs.Prelude.{ℕ, ◌+◌, ◌%◌, List, take, drop, length, nat_lt, nat_eq}
+use Rattle.std.specs.Prelude.{slice_index, Option, Some, None, if◌then◌else◌}
 use Rattle.kdb_control.specs.declared.force.Slot.{Slot}
 use Rattle.kdb_control.specs.declared.force.Slot.TheVariants.{Closed, Holds, Torn}
 use Rattle.kdb_control.specs.declared.force.Force.{Force}

@@ -1,5 +1,6 @@
 -- A disk in memory keeps its files as its record of calls makes them.
-use Rattle.std.proofs.Common.{◌≡◌, ◌≢◌, ℕ, ◌+◌, ◌<◌, ◌≤◌, ⊎_elim, List, [], ◌∷◌, ◌++◌, Vec, length, get_or, set, take, refl, sym, ◌∙◌, ap, subst, arith, suc, zero, Result, Ok, Err, OnOk, OnErr}
+use Rattle.std.proofs.Common.{◌≡◌, ◌≢◌, ℕ, ◌+◌, ◌<◌, ◌≤◌, ⊎_elim, List, [], ◌∷◌, ◌++◌, Vec, length, get_or, set}
+use Rattle.std.proofs.Common.{take, refl, sym, ◌∙◌, ap, subst, arith, suc, zero, Result, Ok, Err, OnOk, OnErr}
 use Rattle.std.proofs.lemmas.Bool.{cases_eq, cases_lt}
 use Rattle.std.specs.declared.alloc.Global.{Global}
 use Rattle.kdb_disk.specs.declared.record.Call.{Call}
@@ -8,22 +9,26 @@ use Rattle.kdb_disk.specs.Files.{Files, put, with_file, written}
 use Rattle.kdb_disk.specs.Memory.{Pending, file_after, IsImage, Fits, contents, IsKept}
 use Rattle.kdb_disk.proofs.Puts.{same_files, with_file-same, with_file-other}
 use Rattle.kdb_disk.proofs.Pendings.{image_settled, image_write, image_cut}
-use Rattle.kdb_disk.proofs.Records.{wrote_here, wrote_other, cut_here, cut_other, synced_here, synced_other, synced_reads, looked_same}
+use Rattle.kdb_disk.proofs.Records.{wrote_here, wrote_other, cut_here, cut_other}
+use Rattle.kdb_disk.proofs.Records.{synced_here, synced_other, synced_reads, looked_same}
 
 -- one of the vectors
-pub contents_at : (vs : List (Vec ℕ Global)) (i : ℕ) (v : Vec ℕ Global) → i < length vs → v ≡ get_or vs i v → v.items ≡ contents vs i
+pub contents_at : (vs : List (Vec ℕ Global)) (i : ℕ) (v : Vec ℕ Global) → i < length vs → v ≡ get_or vs i v
+    → v.items ≡ contents vs i
 unfolding contents
 contents_at [] i v lt is = absurd (omega arith)
 contents_at (w ∷ vs) zero v lt is = ap (λ (x : Vec ℕ Global). x.items) is
 contents_at (w ∷ vs) (suc i) v lt is = contents_at vs i v (omega arith) is
 
-contents-set_here : (vs : List (Vec ℕ Global)) (g : ℕ) (v : Vec ℕ Global) → g < length vs → contents (set vs g v) g ≡ v.items
+contents-set_here : (vs : List (Vec ℕ Global)) (g : ℕ) (v : Vec ℕ Global) → g < length vs
+    → contents (set vs g v) g ≡ v.items
 unfolding contents
 contents-set_here [] g v lt = absurd (omega arith)
 contents-set_here (w ∷ vs) zero v lt = refl
 contents-set_here (w ∷ vs) (suc g) v lt = contents-set_here vs g v (omega arith)
 
-contents-set_other : (vs : List (Vec ℕ Global)) (g f : ℕ) (v : Vec ℕ Global) → f ≢ g → contents (set vs g v) f ≡ contents vs f
+contents-set_other : (vs : List (Vec ℕ Global)) (g f : ℕ) (v : Vec ℕ Global) → f ≢ g
+    → contents (set vs g v) f ≡ contents vs f
 unfolding contents
 contents-set_other [] g f v other = refl
 contents-set_other (w ∷ vs) zero zero v other = absurd (other (λ i. zero))
@@ -32,38 +37,48 @@ contents-set_other (w ∷ vs) (suc g) zero v other = refl
 contents-set_other (w ∷ vs) (suc g) (suc f) v other = contents-set_other vs g f v (λ is. other (ap suc is))
 
 -- one of them changed
-pub contents-set : (vs : List (Vec ℕ Global)) (g : ℕ) (v : Vec ℕ Global) → g < length vs → contents (set vs g v) ≡ with_file g v.items (contents vs)
+pub contents-set : (vs : List (Vec ℕ Global)) (g : ℕ) (v : Vec ℕ Global) → g < length vs
+    → contents (set vs g v) ≡ with_file g v.items (contents vs)
 contents-set vs g v lt = same_files _ _ (λ f. ⊎_elim
-    (λ is. subst (λ (h : ℕ). contents (set vs g v) h ≡ with_file g v.items (contents vs) h) (sym is) (contents-set_here vs g v lt ∙ sym (with_file-same g v.items (contents vs))))
+    (λ is. subst (λ (h : ℕ). contents (set vs g v) h ≡ with_file g v.items (contents vs) h) (sym is)
+    (contents-set_here vs g v lt ∙ sym (with_file-same g v.items (contents vs))))
     (λ other. contents-set_other vs g f v other ∙ sym (with_file-other g f v.items (contents vs) other))
     (cases_eq f g))
 
 -- a file that one call changes
-module _ (start files after : List (Vec ℕ Global)) (calls : List Call) (call : Call) (g : ℕ) (content : List ℕ) (kept : IsKept start files calls)
+module _ (start files after : List (Vec ℕ Global)) (calls : List Call) (call : Call) (g : ℕ) (content : List ℕ)
+    (kept : IsKept start files calls)
     (long : length after ≡ length files) (is : contents after ≡ with_file g content (contents files))
     (here : content ≡ (file_after (contents start) (call ∷ calls) g).now)
     (others : (f : ℕ) → f ≢ g → file_after (contents start) (call ∷ calls) f ≡ file_after (contents start) calls f)
     (fits : Fits (contents start) (call ∷ calls))
-    (image : IsImage (file_after (contents start) (call ∷ calls) g) (file_after (contents start) (call ∷ calls) g).now) where
+    (image : IsImage (file_after (contents start) (call ∷ calls) g)
+    (file_after (contents start) (call ∷ calls) g).now) where
   pub kept_changed : IsKept start after (call ∷ calls)
   kept_changed = record {
     first = kept.first;
     seven = long ∙ kept.seven;
     reads = λ f. ap (λ (files : Files). files f) is ∙ ⊎_elim
-        (λ same. subst (λ (h : ℕ). with_file g content (contents files) h ≡ (file_after (contents start) (call ∷ calls) h).now) (sym same) (with_file-same g content (contents files) ∙ here))
-        (λ other. with_file-other g f content (contents files) other ∙ kept.reads f ∙ ap (λ (p : Pending). p.now) (sym (others f other)))
+        (λ same.
+        subst (λ (h : ℕ). with_file g content (contents files) h ≡ (file_after (contents start) (call ∷ calls) h).now)
+        (sym same) (with_file-same g content (contents files) ∙ here))
+        (λ other. with_file-other g f content (contents files) other ∙ kept.reads f
+        ∙ ap (λ (p : Pending). p.now) (sym (others f other)))
         (cases_eq f g);
     fits = fits;
     image = record {
       each = λ f. ⊎_elim
-          (λ same. subst (λ (h : ℕ). IsImage (file_after (contents start) (call ∷ calls) h) (file_after (contents start) (call ∷ calls) h).now) (sym same) image)
+          (λ same. subst (λ (h : ℕ). IsImage (file_after (contents start) (call ∷ calls) h)
+          (file_after (contents start) (call ∷ calls) h).now) (sym same) image)
           (λ other. subst (λ (p : Pending). IsImage p p.now) (sym (others f other)) (kept.image.each f))
           (cases_eq f g);
       no_more = λ f ge. refl;
     };
   }
 
-pub kept_wrote : (start files after : List (Vec ℕ Global)) (calls : List Call) (g at : ℕ) (bytes : Vec ℕ Global) → IsKept start files calls → g < 7 → at ≤ length (contents files g) → length after ≡ length files → contents after ≡ written g at bytes.items (contents files) → IsKept start after (Wrote g at bytes ∷ calls)
+pub kept_wrote : (start files after : List (Vec ℕ Global)) (calls : List Call) (g at : ℕ) (bytes : Vec ℕ Global)
+    → IsKept start files calls → g < 7 → at ≤ length (contents files g) → length after ≡ length files
+    → contents after ≡ written g at bytes.items (contents files) → IsKept start after (Wrote g at bytes ∷ calls)
 unfolding Fits written
 kept_wrote start files after calls g at bytes kept seven within long is =
     let s = contents start in
@@ -74,9 +89,12 @@ kept_wrote start files after calls g at bytes kept seven within long is =
     (ap (put at bytes.items) now ∙ ap (λ (p : Pending). p.now) (sym then))
     (wrote_other s calls g at bytes)
     (seven, (inside, kept.fits))
-    (subst (λ (p : Pending). IsImage p p.now) (sym then) (image_write at bytes.items (file_after s calls g) inside (kept.image.each g)))
+    (subst (λ (p : Pending). IsImage p p.now) (sym then)
+    (image_write at bytes.items (file_after s calls g) inside (kept.image.each g)))
 
-pub kept_cut : (start files after : List (Vec ℕ Global)) (calls : List Call) (g len : ℕ) → IsKept start files calls → g < 7 → length after ≡ length files → contents after ≡ with_file g (take len (contents files g)) (contents files) → IsKept start after (Cut g len ∷ calls)
+pub kept_cut : (start files after : List (Vec ℕ Global)) (calls : List Call) (g len : ℕ) → IsKept start files calls
+    → g < 7 → length after ≡ length files → contents after ≡ with_file g (take len (contents files g)) (contents files)
+    → IsKept start after (Cut g len ∷ calls)
 unfolding Fits
 kept_cut start files after calls g len kept seven long is =
     let s = contents start in
@@ -87,7 +105,8 @@ kept_cut start files after calls g len kept seven long is =
     (seven, kept.fits)
     (subst (λ (p : Pending). IsImage p p.now) (sym then) (image_cut len (file_after s calls g) (kept.image.each g)))
 
-pub kept_synced : (start files : List (Vec ℕ Global)) (calls : List Call) (g : ℕ) → IsKept start files calls → g < 7 → IsKept start files (Synced g ∷ calls)
+pub kept_synced : (start files : List (Vec ℕ Global)) (calls : List Call) (g : ℕ) → IsKept start files calls → g < 7
+    → IsKept start files (Synced g ∷ calls)
 unfolding Fits
 kept_synced start files calls g kept seven =
     let s = contents start in
@@ -98,15 +117,19 @@ kept_synced start files calls g kept seven =
       fits = (seven, kept.fits);
       image = record {
         each = λ f. ⊎_elim
-            (λ is. subst (λ (h : ℕ). IsImage (file_after s (Synced g ∷ calls) h) (file_after s (Synced g ∷ calls) h).now) (sym is)
-            (subst (λ (p : Pending). IsImage p p.now) (sym (synced_here s calls g)) (image_settled (file_after s calls g).now)))
-            (λ other. subst (λ (p : Pending). IsImage p p.now) (sym (synced_other s calls g f other)) (kept.image.each f))
+            (λ is. subst (λ (h : ℕ).
+            IsImage (file_after s (Synced g ∷ calls) h) (file_after s (Synced g ∷ calls) h).now) (sym is)
+            (subst (λ (p : Pending). IsImage p p.now) (sym (synced_here s calls g))
+            (image_settled (file_after s calls g).now)))
+            (λ other. subst (λ (p : Pending). IsImage p p.now) (sym (synced_other s calls g f other))
+            (kept.image.each f))
             (cases_eq f g);
         no_more = λ f ge. refl;
       };
     }
 
-pub kept_looked : (start files : List (Vec ℕ Global)) (calls : List Call) → IsKept start files calls → IsKept start files (Looked ∷ calls)
+pub kept_looked : (start files : List (Vec ℕ Global)) (calls : List Call) → IsKept start files calls
+    → IsKept start files (Looked ∷ calls)
 unfolding Fits
 kept_looked start files calls kept =
     let s = contents start in
@@ -122,7 +145,8 @@ kept_looked start files calls kept =
     }
 
 -- files of which nothing is pending
-pub kept_first : (files start : List (Vec ℕ Global)) → length start ≡ 7 → length files ≡ 7 → ((f : ℕ) → contents files f ≡ contents start f) → IsKept start files []
+pub kept_first : (files start : List (Vec ℕ Global)) → length start ≡ 7 → length files ≡ 7
+    → ((f : ℕ) → contents files f ≡ contents start f) → IsKept start files []
 unfolding Fits file_after
 kept_first files start long seven same = record {
   first = long;
@@ -138,7 +162,8 @@ either (Ok x) a b f g = f a
 either (Err e) a b f g = g b
 
 -- the same contents
-pub kept_same : (start files after : List (Vec ℕ Global)) (calls : List Call) → IsKept start files calls → length after ≡ length files → contents after ≡ contents files → IsKept start after calls
+pub kept_same : (start files after : List (Vec ℕ Global)) (calls : List Call) → IsKept start files calls
+    → length after ≡ length files → contents after ≡ contents files → IsKept start after calls
 kept_same start files after calls kept long is = record {
   first = kept.first;
   seven = long ∙ kept.seven;
@@ -147,7 +172,8 @@ kept_same start files after calls kept long is = record {
   image = kept.image;
 }
 
-contents-push_below : (vs : List (Vec ℕ Global)) (v : Vec ℕ Global) (f : ℕ) → f < length vs → contents (vs ++ v ∷ []) f ≡ contents vs f
+contents-push_below : (vs : List (Vec ℕ Global)) (v : Vec ℕ Global) (f : ℕ) → f < length vs
+    → contents (vs ++ v ∷ []) f ≡ contents vs f
 unfolding contents
 contents-push_below [] v f lt = absurd (omega arith)
 contents-push_below (w ∷ vs) v zero lt = refl
@@ -165,12 +191,16 @@ contents_past (w ∷ vs) zero le = absurd (omega arith)
 contents_past (w ∷ vs) (suc f) le = contents_past vs f (omega arith)
 
 -- what holds of each file holds of each of one more
-pub each_file_more : (P : ℕ → List ℕ → Type 0) (vs after : List (Vec ℕ Global)) (v : Vec ℕ Global) (n : ℕ) → after ≡ vs ++ v ∷ [] → length vs ≡ n → ((f : ℕ) → f < n → P f (contents vs f)) → P n v.items → (f : ℕ) → f < n + 1 → P f (contents after f)
+pub each_file_more : (P : ℕ → List ℕ → Type 0) (vs after : List (Vec ℕ Global)) (v : Vec ℕ Global) (n : ℕ)
+    → after ≡ vs ++ v ∷ [] → length vs ≡ n → ((f : ℕ) → f < n → P f (contents vs f)) → P n v.items → (f : ℕ) → f < n + 1
+    → P f (contents after f)
 each_file_more P vs after v n is long each here f lt =
-    let same : (g : ℕ) → contents after g ≡ contents (vs ++ v ∷ []) g = λ g. ap (λ (l : List (Vec ℕ Global)). contents l g) is in
+    let same : (g : ℕ) → contents after g ≡ contents (vs ++ v ∷ []) g =
+    λ g. ap (λ (l : List (Vec ℕ Global)). contents l g) is in
     ⊎_elim
     (λ below. subst (P f) (sym (same f ∙ contents-push_below vs v f (omega (arith, long)))) (each f below))
     (λ from.
     let last : n ≡ f = omega arith in
-    subst (λ (g : ℕ). P g (contents after g)) last (subst (P n) (sym (same n ∙ ap (contents (vs ++ v ∷ [])) (sym long) ∙ contents-push_here vs v)) here))
+    subst (λ (g : ℕ). P g (contents after g)) last
+    (subst (P n) (sym (same n ∙ ap (contents (vs ++ v ∷ [])) (sym long) ∙ contents-push_here vs v)) here))
     (cases_lt f n)

@@ -1,10 +1,13 @@
 -- One file of a disk in memory: how its images follow one another.
-use Rattle.std.proofs.Common.{◌≡◌, ℕ, ◌+◌, ◌-◌, ◌<◌, ◌≤◌, inl, inr, ⊎_elim, min, List, [], ◌++◌, length, get_or, take, drop, refl, sym, ◌∙◌, ap, arith, length-take, length-drop, take-append-drop}
+use Rattle.std.proofs.Common.{◌≡◌, ℕ, ◌+◌, ◌-◌, ◌<◌, ◌≤◌, inl, inr, ⊎_elim, min, List, [], ◌++◌, length, get_or}
+use Rattle.std.proofs.Common.{take, drop, refl, sym, ◌∙◌, ap, arith, length-take, length-drop, take-append-drop}
 use Rattle.std.proofs.lemmas.Bool.{cases_lt}
-use Rattle.std.proofs.lemmas.List.{append-nil, take_all, drop_all, take-take, drop-drop, get_or-take, get_or-drop, ext_get_or}
+use Rattle.std.proofs.lemmas.List.{append-nil, take_all, drop_all, take-take}
+use Rattle.std.proofs.lemmas.List.{drop-drop, get_or-take, get_or-drop, ext_get_or}
 use Rattle.kdb_disk.specs.Files.{put}
 use Rattle.kdb_disk.specs.Memory.{Pending, settled_at, after_write, after_cut, IsImage}
-use Rattle.kdb_disk.proofs.Puts.{put_split, put_nothing, length-put, take-put, drop-put_behind, get_or-put_before, get_or-put_in, get_or-put_behind}
+use Rattle.kdb_disk.proofs.Puts.{put_split, put_nothing, length-put, take-put, drop-put_behind}
+use Rattle.kdb_disk.proofs.Puts.{get_or-put_before, get_or-put_in, get_or-put_behind}
 
 -- what the last sync left is as long as an image
 pub record IsShaped (p : Pending) : Type 0 where
@@ -25,14 +28,16 @@ pub image_settled : (s : List ℕ) → IsImage (settled_at s) s
 image_settled s = record { no_shorter = omega arith; no_longer = omega arith; stays = λ i lt apart. refl }
 
 pub settled_alone : (s c : List ℕ) → IsImage (settled_at s) c → c ≡ s
-settled_alone s c image = ext_get_or 0 c s (omega (arith, image.no_shorter, image.no_longer)) (λ i lt. image.stays i (omega (arith, image.no_longer)) tt)
+settled_alone s c image = ext_get_or 0 c s (omega (arith, image.no_shorter, image.no_longer))
+    (λ i lt. image.stays i (omega (arith, image.no_longer)) tt)
 
 -- what the last sync left is an image
 pub image_base : (p : Pending) → IsShaped p → IsImage p p.base
 image_base p shaped = record { no_shorter = shaped.low; no_longer = shaped.high; stays = λ i lt apart. refl }
 
 -- what is read stays an image
-pub image_write : (at : ℕ) (bytes : List ℕ) (p : Pending) → at ≤ length p.now → IsImage p p.now → IsImage (after_write at bytes p) (put at bytes p.now)
+pub image_write : (at : ℕ) (bytes : List ℕ) (p : Pending) → at ≤ length p.now → IsImage p p.now
+    → IsImage (after_write at bytes p) (put at bytes p.now)
 image_write at bytes p within image = record {
   no_shorter = omega (arith, image.no_shorter, length-put at bytes p.now within);
   no_longer = omega arith;
@@ -57,7 +62,8 @@ pub record TornFrom (at n : ℕ) (p : Pending) (c : List ℕ) : Type 0 where
   pub few : length part ≤ n
   pub is : c ≡ put at part old
 
-module _ (at : ℕ) (bytes : List ℕ) (p : Pending) (c : List ℕ) (within : at ≤ length p.now) (now : IsImage p p.now) (shaped : IsShaped p) (image : IsImage (after_write at bytes p) c) where
+module _ (at : ℕ) (bytes : List ℕ) (p : Pending) (c : List ℕ) (within : at ≤ length p.now) (now : IsImage p p.now)
+    (shaped : IsShaped p) (image : IsImage (after_write at bytes p) c) where
   -- it ends before the place
   torn_short : length c ≤ at → TornFrom at (length bytes) p c
   torn_short short = record {
@@ -110,7 +116,8 @@ module _ (at : ℕ) (bytes : List ℕ) (p : Pending) (c : List ℕ) (within : at
   unfolding older
   long_older reaches = length-take p.greatest (put at kept c) ∙ ap (min p.greatest) (long_put reaches)
 
-  between : (i : ℕ) → at < length c → i < p.least → at ≤ i → i < at + length bytes → get_or (put at kept c) i 0 ≡ get_or p.base i 0
+  between : (i : ℕ) → at < length c → i < p.least → at ≤ i → i < at + length bytes
+      → get_or (put at kept c) i 0 ≡ get_or p.base i 0
   unfolding kept count
   between i reaches lt from to =
       let j = i - at in
@@ -134,7 +141,8 @@ module _ (at : ℕ) (bytes : List ℕ) (p : Pending) (c : List ℕ) (within : at
         (λ before. get_or-put_before i at kept c 0 before (omega arith) ∙ image.stays i lt (inl before, apart))
         (λ from. ⊎_elim
         (λ inside. between i reaches lt from inside)
-        (λ behind. get_or-put_behind i at kept c 0 (omega (arith, behind, few_kept, count_few)) (omega arith) ∙ image.stays i lt (inr behind, apart))
+        (λ behind. get_or-put_behind i at kept c 0 (omega (arith, behind, few_kept, count_few)) (omega arith)
+        ∙ image.stays i lt (inr behind, apart))
         (cases_lt i (at + length bytes)))
         (cases_lt i at);
   }
@@ -143,8 +151,10 @@ module _ (at : ℕ) (bytes : List ℕ) (p : Pending) (c : List ℕ) (within : at
   behind_older : at < length c → drop (at + count) older ≡ drop (at + count) c
   unfolding older
   behind_older reaches = ⊎_elim
-      (λ over. drop_all (at + count) older (omega (arith, long_older reaches, over, reaches_end over)) ∙ sym (drop_all (at + count) c (omega (arith, reaches_end over))))
-      (λ fits. ap (drop (at + count)) (take_all p.greatest (put at kept c) (omega (arith, long_put reaches, fits))) ∙ drop-put_behind (at + count) at kept c (omega (arith, few_kept)) (omega arith))
+      (λ over. drop_all (at + count) older (omega (arith, long_older reaches, over, reaches_end over))
+      ∙ sym (drop_all (at + count) c (omega (arith, reaches_end over))))
+      (λ fits. ap (drop (at + count)) (take_all p.greatest (put at kept c) (omega (arith, long_put reaches, fits)))
+      ∙ drop-put_behind (at + count) at kept c (omega (arith, few_kept)) (omega arith))
       (cases_lt p.greatest (length c))
 
   older_is : at < length c → c ≡ put at (take count (drop at c)) older
@@ -152,7 +162,8 @@ module _ (at : ℕ) (bytes : List ℕ) (p : Pending) (c : List ℕ) (within : at
   older_is reaches =
       let part = take count (drop at c) in
       let long : length part ≡ count = omega (arith, length-take count (drop at c), length-drop at c, count_within) in
-      let front : take at older ≡ take at c = take-take at p.greatest (put at kept c) (omega (arith, now.no_longer)) ∙ take-put at at kept c (omega arith) (omega arith) in
+      let front : take at older ≡ take at c = take-take at p.greatest (put at kept c) (omega (arith, now.no_longer))
+      ∙ take-put at at kept c (omega arith) (omega arith) in
       sym (put_split at part older
       ∙ ap (λ (l : List ℕ). l ++ (part ++ drop (at + length part) older)) front
       ∙ ap (λ (k : ℕ). take at c ++ (part ++ drop (at + k) older)) long
@@ -163,7 +174,13 @@ module _ (at : ℕ) (bytes : List ℕ) (p : Pending) (c : List ℕ) (within : at
 
   pub torn_from : TornFrom at (length bytes) p c
   torn_from = ⊎_elim
-      (λ reaches. record { old = older; was = older_was reaches; part = take count (drop at c); few = omega (arith, length-take count (drop at c), count_few); is = older_is reaches })
+      (λ reaches. record {
+        old = older;
+        was = older_was reaches;
+        part = take count (drop at c);
+        few = omega (arith, length-take count (drop at c), count_few);
+        is = older_is reaches;
+      })
       torn_short
       (cases_lt at (length c))
 
@@ -175,11 +192,16 @@ pub record FrayedFrom (len : ℕ) (p : Pending) (c : List ℕ) : Type 0 where
   pub few : length (take len old) + length part ≤ length old
   pub is : c ≡ take len old ++ part
 
-module _ (len : ℕ) (p : Pending) (c : List ℕ) (now : IsImage p p.now) (shaped : IsShaped p) (image : IsImage (after_cut len p) c) where
+module _ (len : ℕ) (p : Pending) (c : List ℕ) (now : IsImage p p.now) (shaped : IsShaped p)
+    (image : IsImage (after_cut len p) c) where
   frayed_short : length c < len → FrayedFrom len p c
   frayed_short short = record {
     old = c;
-    was = record { no_shorter = omega (arith, image.no_shorter); no_longer = image.no_longer; stays = λ i lt apart. image.stays i (omega (arith, lt, image.no_shorter)) apart };
+    was = record {
+      no_shorter = omega (arith, image.no_shorter);
+      no_longer = image.no_longer;
+      stays = λ i lt apart. image.stays i (omega (arith, lt, image.no_shorter)) apart;
+    };
     part = [];
     few = omega (arith, length-take len c);
     is = sym (append-nil (take len c) ∙ take_all len c (omega arith));
@@ -210,7 +232,8 @@ module _ (len : ℕ) (p : Pending) (c : List ℕ) (now : IsImage p p.now) (shape
     old = put len rest c;
     was = record {
       no_shorter = omega (arith, length-put len rest c reaches, long_rest);
-      no_longer = omega (arith, length-put len rest c reaches, long_rest, image.no_longer, now.no_shorter, now.no_longer);
+      no_longer =
+          omega (arith, length-put len rest c reaches, long_rest, image.no_longer, now.no_shorter, now.no_longer);
       stays = λ i lt apart. ⊎_elim
           (λ before. get_or-put_before i len rest c 0 before reaches ∙ image.stays i (omega (arith, lt, before)) apart)
           (λ from. behind i reaches lt from)
@@ -218,7 +241,8 @@ module _ (len : ℕ) (p : Pending) (c : List ℕ) (now : IsImage p p.now) (shape
     };
     part = drop len c;
     few = omega (arith, length-take len (put len rest c), length-put len rest c reaches, length-drop len c);
-    is = sym (ap (λ (l : List ℕ). l ++ drop len c) (take-put len len rest c (omega arith) reaches) ∙ take-append-drop len c);
+    is = sym (ap (λ (l : List ℕ). l ++ drop len c) (take-put len len rest c (omega arith) reaches)
+        ∙ take-append-drop len c);
   }
 
   pub frayed_from : FrayedFrom len p c

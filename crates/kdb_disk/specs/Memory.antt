@@ -1,5 +1,6 @@
 -- A disk in memory by its record of calls: what its files read, and the images that a crash may leave.
-use Rattle.std.specs.Prelude.{ℕ, List, [], ◌∷◌, Vec, ◌≡◌, ◌≤◌, ◌<◌, ◌⊎◌, ◌+◌, ◌==◌, if◌then◌else◌, length, take, max, min, slice_index, suc, zero}
+use Rattle.std.specs.Prelude.{ℕ, List, [], ◌∷◌, Vec, ◌≡◌, ◌≤◌, ◌<◌, ◌⊎◌, ◌+◌, ◌==◌}
+use Rattle.std.specs.Prelude.{if◌then◌else◌, length, take, max, min, slice_index, suc, zero}
 use mathlib.Core.Logic.{inl, inr}
 use Rattle.std.proofs.Math.Nat.{not-suc-le_self}
 use Rattle.std.specs.Coded.{×_prop, Unit-prop, le_prop}
@@ -31,7 +32,8 @@ after_write at bytes p = record {
 }
 
 abbrev pub after_cut : ℕ → Pending → Pending
-after_cut len p = record { now = take len p.now; base = p.base; least = min len p.least; greatest = p.greatest; ranges = p.ranges }
+after_cut len p =
+    record { now = take len p.now; base = p.base; least = min len p.least; greatest = p.greatest; ranges = p.ranges }
 
 abbrev pub after_sync : Pending → Pending
 after_sync p = settled_at p.now
@@ -39,9 +41,12 @@ after_sync p = settled_at p.now
 -- a file after these calls, the newest of which stands first
 unfoldable pub file_after : Files → List Call → ℕ → Pending
 file_after start [] f = settled_at (start f)
-file_after start (Wrote g at bytes ∷ calls) f = if f == g then after_write at bytes.items (file_after start calls f) else file_after start calls f
-file_after start (Cut g len ∷ calls) f = if f == g then after_cut len (file_after start calls f) else file_after start calls f
-file_after start (Synced g ∷ calls) f = if f == g then after_sync (file_after start calls f) else file_after start calls f
+file_after start (Wrote g at bytes ∷ calls) f = if f == g then after_write at bytes.items (file_after start calls f)
+    else file_after start calls f
+file_after start (Cut g len ∷ calls) f =
+    if f == g then after_cut len (file_after start calls f) else file_after start calls f
+file_after start (Synced g ∷ calls) f =
+    if f == g then after_sync (file_after start calls f) else file_after start calls f
 file_after start (Looked ∷ calls) f = file_after start calls f
 
 -- what the files read after them
@@ -70,12 +75,14 @@ unfoldable pub LeftSince : Files → List Call → ℕ → Files → Type 0
 LeftSince start [] t c = AreImages start [] c
 LeftSince start (call ∷ calls) t c = AreImages start (call ∷ calls) c ⊎ ((t ≤ length calls) × LeftSince start calls t c)
 
-pub left_now : (start : Files) (calls : List Call) (t : ℕ) (c : Files) → t ≤ length calls → AreImages start calls c → LeftSince start calls t c
+pub left_now : (start : Files) (calls : List Call) (t : ℕ) (c : Files) → t ≤ length calls → AreImages start calls c
+    → LeftSince start calls t c
 unfolding LeftSince
 left_now start [] t c le are = are
 left_now start (call ∷ calls) t c le are = inl are
 
-pub now_alone : (start : Files) (calls : List Call) (c : Files) → LeftSince start calls (length calls) c → AreImages start calls c
+pub now_alone : (start : Files) (calls : List Call) (c : Files) → LeftSince start calls (length calls) c
+    → AreImages start calls c
 unfolding LeftSince
 now_alone start [] c left = left
 now_alone start (call ∷ calls) c (inl are) = are
@@ -124,6 +131,7 @@ pub record IsKept (start files : List (Vec ℕ Global)) (calls : List Call) : Ty
   pub image : AreImages (contents start) calls (reading (contents start) calls)
 
 -- what such a disk reads is one of its images
-pub image_of : (start files : List (Vec ℕ Global)) (calls : List Call) → IsKept start files calls → (view_of (contents start) calls).images (view_of (contents start) calls).seen
+pub image_of : (start files : List (Vec ℕ Global)) (calls : List Call) → IsKept start files calls
+    → (view_of (contents start) calls).images (view_of (contents start) calls).seen
 unfolding view_of
 image_of start files calls kept = kept.image

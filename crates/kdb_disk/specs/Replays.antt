@@ -3,4 +3,5 @@ use Rattle.kdb_disk.specs.declared.replay.Replay.{Replay}
 use Rattle.kdb_disk.specs.Memory.{Pending}
 
 abbrev pub pending_of : Replay → Pending
-pending_of r = record { now = r.bytes.items; base = r.base.items; least = r.least; greatest = r.greatest; ranges = r.ranges.items }
+pending_of r =
+    record { now = r.bytes.items; base = r.base.items; least = r.least; greatest = r.greatest; ranges = r.ranges.items }

@@ -19,13 +19,15 @@ pub record View : Type 1 where
   -- there are seven files
   pub no_more : (c : Files) (g : ℕ) → images c → 7 ≤ g → c g ≡ seen g
 
--- what a crash inside a write of n bytes makes of the files: at most so many bytes stand there, and all else is the same
+-- what a crash inside a write of n bytes makes of the files: at most so many bytes stand there, and all else is the
+-- same
 pub record Torn (file at n : ℕ) (old new : Files) : Type 0 where
   pub bytes : List ℕ
   pub few : length bytes ≤ n
   pub is : new ≡ written file at bytes old
 
--- what a crash inside a cut makes of them: the same up to the new length, and from there any bytes, to the old end at most
+-- what a crash inside a cut makes of them: the same up to the new length, and from there any bytes, to the old end at
+-- most
 pub record Frayed (file len : ℕ) (old new : Files) : Type 0 where
   pub bytes : List ℕ
   pub few : length (take len (old file)) + length bytes ≤ length (old file)

@@ -49,7 +49,8 @@ pub(crate) fn write_file(
 
 pub(crate) fn cut_file(files: &mut Vec<Vec<u8>>, file: u8, len: usize)
     requires { file < length files.old.items }
-    ensures cut { contents files.new.items ≡ with_file file (take len (contents files.old.items file)) (contents files.old.items) }
+    ensures cut { contents files.new.items
+        ≡ with_file file (take len (contents files.old.items file)) (contents files.old.items) }
     ensures length { length files.new.items ≡ length files.old.items }
 {
     files[file as usize].truncate(len);

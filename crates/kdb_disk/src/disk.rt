@@ -55,7 +55,8 @@ pub trait Disk {
         ensures count { IfOk result (λ n. n ≤ length into.old) }
         ensures bytes { tells → IfOk result (λ n. take n into.new ≡ take n (drop at ((view self.old).seen file))) }
         ensures within { tells → IfOk result (λ n. at + n ≤ length ((view self.old).seen file)) }
-        ensures some { tells → 0 < length into.old → at < length ((view self.old).seen file) → IfOk result (λ n. 0 < n) }
+        ensures some { tells → 0 < length into.old → at < length ((view self.old).seen file)
+            → IfOk result (λ n. 0 < n) }
         ensures looks { tells → Looks (view self.old) (view self.new) }
         ensures same { loans self.new ≡ loans self.old }
         ensures cause { HasCause (faults self.old) (faults self.new) result };
@@ -76,7 +77,8 @@ pub trait Disk {
     fn cut(&mut self, file: u8, len: u64) -> Result<(), DiskFailed>
         requires file { file < 7 }
         requires len { tells → len ≤ length ((view self.old).seen file) }
-        ensures seen { tells → OnOk result ((view self.new).seen ≡ with_file file (take len ((view self.old).seen file)) (view self.old).seen) }
+        ensures seen { tells → OnOk result
+            ((view self.new).seen ≡ with_file file (take len ((view self.old).seen file)) (view self.old).seen) }
         ensures crash { tells → Follows (Frayed file len) (view self.old) (view self.new) }
         ensures time { tells → Elapses (view self.old) (view self.new) }
         ensures same { loans self.new ≡ loans self.old }
@@ -85,7 +87,8 @@ pub trait Disk {
     /// After it, a crash leaves of this file what a read gives.
     fn sync(&mut self, file: u8) -> Result<(), DiskFailed>
         requires { file < 7 }
-        ensures durable { tells → OnOk result ((c : Files) → (view self.new).images c → c file ≡ (view self.old).seen file) }
+        ensures durable { tells
+            → OnOk result ((c : Files) → (view self.new).images c → c file ≡ (view self.old).seen file) }
         ensures looks { tells → Looks (view self.old) (view self.new) }
         ensures same { loans self.new ≡ loans self.old }
         ensures cause { HasCause (faults self.old) (faults self.new) result };

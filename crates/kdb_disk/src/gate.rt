@@ -7,7 +7,8 @@
 //!
 //! A gate that reads closed is not closed again: a crash inside that write might leave it open over
 //! a body that an earlier crash left torn. [`shut_gate`] looks first.
-ghost use Rattle.std.specs.Prelude.{◌≡◌, ◌≢◌, ◌≤◌, ◌<◌, ◌+◌, ◌^◌, ◌↔◌, [], ◌∷◌, length, max, slice_index, IfOk, OnOk, IsTrue};
+ghost use Rattle.std.specs.Prelude.{◌≡◌, ◌≢◌, ◌≤◌, ◌<◌, ◌+◌, ◌^◌, ◌↔◌, [], ◌∷◌};
+ghost use Rattle.std.specs.Prelude.{length, max, slice_index, IfOk, OnOk, IsTrue};
 ghost use Rattle.kdb_base.specs.Causes.{HasCause};
 ghost use Rattle.kdb_disk.specs.View.{View, Looks};
 ghost use Rattle.kdb_disk.specs.Moments.{LeavesTorn, Stands, Keeps};
@@ -32,7 +33,8 @@ pub fn write_synced<D: Disk>(
     requires fits { at + length bytes.now < 2 ^ 64 }
     ensures moments { D.tells → LeavesTorn file at (length bytes.now) (D.view disk.old) (D.view disk.new) }
     ensures ok { D.tells → OnOk result (Stands file at bytes.now (D.view disk.old) (D.view disk.new)) }
-    ensures length { D.tells → OnOk result (length ((D.view disk.new).seen file) ≡ max (length ((D.view disk.old).seen file)) (at + length bytes.now)) }
+    ensures length { D.tells → OnOk result
+        (length ((D.view disk.new).seen file) ≡ max (length ((D.view disk.old).seen file)) (at + length bytes.now)) }
     ensures same { D.loans disk.new ≡ D.loans disk.old }
     ensures cause { HasCause (D.faults disk.old) (D.faults disk.new) result }
 {
@@ -49,7 +51,8 @@ pub fn close_gate<D: Disk>(disk: &mut D, file: u8, at: u64) -> Result<(), DiskFa
     requires fits { at + 1 < 2 ^ 64 }
     ensures moments { D.tells → LeavesTorn file at 1 (D.view disk.old) (D.view disk.new) }
     ensures ok { D.tells → OnOk result (Stands file at (0 ∷ []) (D.view disk.old) (D.view disk.new)) }
-    ensures length { D.tells → OnOk result (length ((D.view disk.new).seen file) ≡ max (length ((D.view disk.old).seen file)) (at + 1)) }
+    ensures length { D.tells
+        → OnOk result (length ((D.view disk.new).seen file) ≡ max (length ((D.view disk.old).seen file)) (at + 1)) }
     ensures same { D.loans disk.new ≡ D.loans disk.old }
     ensures cause { HasCause (D.faults disk.old) (D.faults disk.new) result }
 {
@@ -64,7 +67,8 @@ pub fn fill_body<D: Disk>(disk: &mut D, file: u8, at: u64, body: &[u8]) -> Resul
     requires fits { at + length body.now + 1 < 2 ^ 64 }
     ensures moments { D.tells → LeavesTorn file (at + 1) (length body.now) (D.view disk.old) (D.view disk.new) }
     ensures ok { D.tells → OnOk result (Stands file (at + 1) body.now (D.view disk.old) (D.view disk.new)) }
-    ensures length { D.tells → OnOk result (length ((D.view disk.new).seen file) ≡ max (length ((D.view disk.old).seen file)) (at + 1 + length body.now)) }
+    ensures length { D.tells → OnOk result
+        (length ((D.view disk.new).seen file) ≡ max (length ((D.view disk.old).seen file)) (at + 1 + length body.now)) }
     ensures same { D.loans disk.new ≡ D.loans disk.old }
     ensures cause { HasCause (D.faults disk.old) (D.faults disk.new) result }
 {
@@ -78,7 +82,8 @@ pub fn open_gate<D: Disk>(disk: &mut D, file: u8, at: u64) -> Result<(), DiskFai
     requires fits { at + 1 < 2 ^ 64 }
     ensures moments { D.tells → LeavesTorn file at 1 (D.view disk.old) (D.view disk.new) }
     ensures ok { D.tells → OnOk result (Stands file at (165 ∷ []) (D.view disk.old) (D.view disk.new)) }
-    ensures length { D.tells → OnOk result (length ((D.view disk.new).seen file) ≡ length ((D.view disk.old).seen file)) }
+    ensures length { D.tells
+        → OnOk result (length ((D.view disk.new).seen file) ≡ length ((D.view disk.old).seen file)) }
     ensures same { D.loans disk.new ≡ D.loans disk.old }
     ensures cause { HasCause (D.faults disk.old) (D.faults disk.new) result }
 {
@@ -89,7 +94,8 @@ pub fn open_gate<D: Disk>(disk: &mut D, file: u8, at: u64) -> Result<(), DiskFai
 pub fn is_open<D: Disk>(disk: &mut D, file: u8, at: u64) -> Result<bool, DiskFailed>
     requires file { file < 7 }
     requires at { D.tells → at ≤ length ((D.view disk.old).seen file) }
-    ensures open { D.tells → IfOk result (λ reads. IsTrue reads ↔ (slice_index ((D.view disk.old).seen file) at ≡ 165)) }
+    ensures open { D.tells
+        → IfOk result (λ reads. IsTrue reads ↔ (slice_index ((D.view disk.old).seen file) at ≡ 165)) }
     ensures looks { D.tells → Looks (D.view disk.old) (D.view disk.new) }
     ensures same { D.loans disk.new ≡ D.loans disk.old }
     ensures cause { HasCause (D.faults disk.old) (D.faults disk.new) result }
@@ -110,10 +116,13 @@ pub fn shut_gate<D: Disk>(disk: &mut D, file: u8, at: u64) -> Result<(), DiskFai
     requires fits { at + 1 < 2 ^ 64 }
     ensures moments { D.tells → LeavesTorn file at 1 (D.view disk.old) (D.view disk.new) }
     // a closed gate is looked at alone
-    ensures closed { D.tells → slice_index ((D.view disk.old).seen file) at ≢ 165 → Keeps (D.view disk.old) (D.view disk.new) }
-    ensures open { D.tells → slice_index ((D.view disk.old).seen file) at ≡ 165 → OnOk result (Stands file at (0 ∷ []) (D.view disk.old) (D.view disk.new)) }
+    ensures closed { D.tells → slice_index ((D.view disk.old).seen file) at ≢ 165
+        → Keeps (D.view disk.old) (D.view disk.new) }
+    ensures open { D.tells → slice_index ((D.view disk.old).seen file) at ≡ 165
+        → OnOk result (Stands file at (0 ∷ []) (D.view disk.old) (D.view disk.new)) }
     ensures ok { D.tells → OnOk result (slice_index ((D.view disk.new).seen file) at ≢ 165) }
-    ensures length { D.tells → OnOk result (length ((D.view disk.new).seen file) ≡ length ((D.view disk.old).seen file)) }
+    ensures length { D.tells
+        → OnOk result (length ((D.view disk.new).seen file) ≡ length ((D.view disk.old).seen file)) }
     ensures same { D.loans disk.new ≡ D.loans disk.old }
     ensures cause { HasCause (D.faults disk.old) (D.faults disk.new) result }
 {

@@ -1,5 +1,6 @@
 //! A disk in memory, for tests of what stands above a disk.
-ghost use Rattle.std.specs.Prelude.{◌≡◌, ◌≤◌, ◌<◌, ◌+◌, ◌-◌, ◌∷◌, [], ℕ, List, Vec, ◌^◌, length, take, drop, Contains, IfOk, IsErr, IsTrue, OnOk, OnErr, ◌↔◌};
+ghost use Rattle.std.specs.Prelude.{◌≡◌, ◌≤◌, ◌<◌, ◌+◌, ◌-◌, ◌∷◌, [], ℕ, List, Vec, ◌^◌, length};
+ghost use Rattle.std.specs.Prelude.{take, drop, Contains, IfOk, IsErr, IsTrue, OnOk, OnErr, ◌↔◌};
 ghost use Rattle.std.specs.declared.alloc.Global.{Global};
 ghost use Rattle.std.proofs.Props.{props};
 ghost use Rattle.kdb_base.specs.Causes.{Rose, HasCause};
@@ -52,7 +53,8 @@ fn record_look(calls: &mut VecDeque<Call>) -> Result<(), DiskFailed>
     ensures same { OnErr result (calls.new.items ≡ calls.old.items) }
     ensures at_most { LooksAtMost calls.old.items calls.new.items }
     ensures looks { (start : Files) → Looks (view_of start calls.old.items) (view_of start calls.new.items) }
-    ensures kept { (start files : List (Vec ℕ Global)) → IsKept start files calls.old.items → IsKept start files calls.new.items }
+    ensures kept { (start files : List (Vec ℕ Global)) → IsKept start files calls.old.items
+        → IsKept start files calls.new.items }
 {
     record(calls, Call::Looked)
 }
@@ -72,7 +74,8 @@ fn record_write(
     requires copy { copy.items ≡ bytes.now }
     ensures call { OnOk result (calls.new.items ≡ Wrote file at copy ∷ calls.old.items) }
     ensures same { OnErr result (calls.new.items ≡ calls.old.items) }
-    ensures kept { (start : List (Vec ℕ Global)) → IsKept start files.old.items calls.old.items → IsKept start files.new.items calls.new.items }
+    ensures kept { (start : List (Vec ℕ Global)) → IsKept start files.old.items calls.old.items
+        → IsKept start files.new.items calls.new.items }
 {
     let call = Call::Wrote {
         file,
@@ -184,8 +187,10 @@ impl MemoryDisk {
         requires { call < (⟦<MemoryDisk as Disk>⟧.view self.now).moment }
         // a crash inside that call may leave it
         ensures inside { IfOk result (λ d. MayLeaveInside self.now call (⟦<MemoryDisk as Disk>⟧.view d).seen) }
-        ensures left { IfOk result (λ d. (⟦<MemoryDisk as Disk>⟧.view self.now).left_since call (⟦<MemoryDisk as Disk>⟧.view d).seen) }
-        ensures picked { IfOk result (λ d. (f : ℕ) → f < 7 → IsPicked pick (pending_inside self.now call f) ((⟦<MemoryDisk as Disk>⟧.view d).seen f)) }
+        ensures left { IfOk result
+            (λ d. (⟦<MemoryDisk as Disk>⟧.view self.now).left_since call (⟦<MemoryDisk as Disk>⟧.view d).seen) }
+        ensures picked { IfOk result (λ d. (f : ℕ) → f < 7
+            → IsPicked pick (pending_inside self.now call f) ((⟦<MemoryDisk as Disk>⟧.view d).seen f)) }
         ensures settled { IfOk result (λ d. IsSettled (⟦<MemoryDisk as Disk>⟧.view d)) }
         ensures calls { IfOk result (λ d. (⟦<MemoryDisk as Disk>⟧.view d).moment ≡ 0) }
         ensures faults { IfOk result (λ d. ⟦<MemoryDisk as Disk>⟧.faults d ≡ 0) }
@@ -342,7 +347,8 @@ impl Disk for MemoryDisk {
     fn cut(&mut self, file: u8, len: u64) -> Result<(), DiskFailed>
         requires file { file < 7 }
         requires len { len ≤ length ((known_of self.old).seen file) }
-        ensures seen { OnOk result ((known_of self.new).seen ≡ with_file file (take len ((known_of self.old).seen file)) (known_of self.old).seen) }
+        ensures seen { OnOk result ((known_of self.new).seen
+            ≡ with_file file (take len ((known_of self.old).seen file)) (known_of self.old).seen) }
         ensures crash { Follows (Frayed file len) (known_of self.old) (known_of self.new) }
         ensures time { Elapses (known_of self.old) (known_of self.new) }
         ensures cause { HasCause (faults_of self.old) (faults_of self.new) result }
@@ -368,7 +374,8 @@ impl Disk for MemoryDisk {
 
     fn sync(&mut self, file: u8) -> Result<(), DiskFailed>
         requires { file < 7 }
-        ensures durable { OnOk result ((c : Files) → (known_of self.new).images c → c file ≡ (known_of self.old).seen file) }
+        ensures durable { OnOk result
+            ((c : Files) → (known_of self.new).images c → c file ≡ (known_of self.old).seen file) }
         ensures looks { Looks (known_of self.old) (known_of self.new) }
         ensures cause { HasCause (faults_of self.old) (faults_of self.new) result }
 

@@ -1,4 +1,5 @@
-ghost use Rattle.std.specs.Prelude.{◌≡◌, ◌≤◌, ◌<◌, ◌+◌, ◌++◌, [], List, ℕ, length, take, drop, min, IfOk, OnOk, OnErr, IsErrOf};
+ghost use Rattle.std.specs.Prelude.{◌≡◌, ◌≤◌, ◌<◌, ◌+◌, ◌++◌, [], List, ℕ, length};
+ghost use Rattle.std.specs.Prelude.{take, drop, min, IfOk, OnOk, OnErr, IsErrOf};
 ghost use Rattle.kdb_base.specs.declared.outcomes.Halt.TheVariants.{DiskFault};
 ghost use Rattle.kdb_base.specs.Causes.{Rose, HasCause};
 ghost use Rattle.kdb_disk.specs.Files.{Files};
@@ -40,7 +41,8 @@ fn read_piece<D: Disk>(
     requires file { file < 7 }
     requires room { room ≤ 65536 }
     requires at { D.tells → at ≤ length ((D.view disk.old).seen file) }
-    ensures bytes { D.tells → IfOk result (λ n. buffer.new.items ≡ buffer.old.items ++ take n (drop at ((D.view disk.old).seen file))) }
+    ensures bytes { D.tells
+        → IfOk result (λ n. buffer.new.items ≡ buffer.old.items ++ take n (drop at ((D.view disk.old).seen file))) }
     ensures length { IfOk result (λ n. length buffer.new.items ≡ length buffer.old.items + n) }
     ensures count { IfOk result (λ n. n ≤ room) }
     ensures some { D.tells → 0 < room → at < length ((D.view disk.old).seen file) → IfOk result (λ n. 0 < n) }
@@ -79,7 +81,8 @@ impl FileReader {
     ) -> Result<FileReader, DiskFailed>
         requires file { file < 7 }
         requires at { D.tells → at ≤ length ((D.view disk.old).seen file) }
-        ensures left { D.tells → IfOk result (λ r. left_of r (D.view disk.new).seen ≡ drop at ((D.view disk.old).seen file)) }
+        ensures left { D.tells
+            → IfOk result (λ r. left_of r (D.view disk.new).seen ≡ drop at ((D.view disk.old).seen file)) }
         ensures over { D.tells → IfOk result (λ r. IsOver r (D.view disk.new).seen) }
         ensures looks { D.tells → Looks (D.view disk.old) (D.view disk.new) }
         ensures same { D.loans disk.new ≡ D.loans disk.old }
@@ -132,7 +135,8 @@ impl FileReader {
         ensures left { D.tells → left_of self.new (D.view disk.new).seen ≡ left_of self.old (D.view disk.old).seen }
         ensures over { D.tells → IsOver self.new (D.view disk.new).seen }
         ensures more { IfOk result (λ n. length (held_of self.new) ≡ length (held_of self.old) + n) }
-        ensures all { D.tells → IfOk result (λ n. n ≡ 0 → length (left_of self.old (D.view disk.old).seen) ≤ length (held_of self.new)) }
+        ensures all { D.tells
+            → IfOk result (λ n. n ≡ 0 → length (left_of self.old (D.view disk.old).seen) ≤ length (held_of self.new)) }
         ensures looks { D.tells → Looks (D.view disk.old) (D.view disk.new) }
         ensures same { D.loans disk.new ≡ D.loans disk.old }
         ensures later { D.faults disk.old ≤ D.faults disk.new }
@@ -152,7 +156,8 @@ impl FileReader {
     /// bytes are left.
     pub fn fill<D: Disk>(&mut self, disk: &mut D, count: usize) -> Result<(), Halt>
         requires over { D.tells → IsOver self.old (D.view disk.old).seen }
-        ensures enough { D.tells → OnOk result (min count (length (left_of self.old (D.view disk.old).seen)) ≤ length (held_of self.new)) }
+        ensures enough { D.tells
+            → OnOk result (min count (length (left_of self.old (D.view disk.old).seen)) ≤ length (held_of self.new)) }
         ensures left { D.tells → left_of self.new (D.view disk.new).seen ≡ left_of self.old (D.view disk.old).seen }
         ensures over { D.tells → IsOver self.new (D.view disk.new).seen }
         ensures keeps { D.tells → Keeps (D.view disk.old) (D.view disk.new) }

@@ -1,5 +1,6 @@
 //! The calls of a disk in memory done again, for an image of a moment inside one of them.
-ghost use Rattle.std.specs.Prelude.{◌≡◌, ◌≤◌, ◌<◌, ◌+◌, ◌-◌, ◌∷◌, ◌↔◌, ℕ, List, length, drop, slice_index, IfOk, OnOk, IsTrue};
+ghost use Rattle.std.specs.Prelude.{◌≡◌, ◌≤◌, ◌<◌, ◌+◌, ◌-◌, ◌∷◌, ◌↔◌, ℕ, List};
+ghost use Rattle.std.specs.Prelude.{length, drop, slice_index, IfOk, OnOk, IsTrue};
 ghost use Rattle.kdb_disk.specs.declared.record.Call.{Call};
 ghost use Rattle.kdb_disk.specs.Files.{Files};
 ghost use Rattle.kdb_disk.specs.Replays.{pending_of};
@@ -97,7 +98,8 @@ impl Replay {
 
     // Does a call again, where it is one of this file.
     fn step(&mut self, alloc: Global, call: &Call, file: u8) -> Result<(), MemoryOut>
-        ensures { (start : Files) (calls : List Call) → pending_of self.old ≡ file_after start calls file → OnOk result (pending_of self.new ≡ file_after start (call.now ∷ calls) file) }
+        ensures { (start : Files) (calls : List Call) → pending_of self.old ≡ file_after start calls file
+            → OnOk result (pending_of self.new ≡ file_after start (call.now ∷ calls) file) }
     {
         match call {
             Call::Wrote {
@@ -165,7 +167,8 @@ pub(crate) fn redo(
     file: u8,
 ) -> Result<Replay, MemoryOut>
     requires { count ≤ length calls.now.items }
-    ensures { (starts : Files) → starts file ≡ start.now → IfOk result (λ r. pending_of r ≡ file_after starts (drop (length calls.now.items - count) calls.now.items) file) }
+    ensures { (starts : Files) → starts file ≡ start.now → IfOk result
+        (λ r. pending_of r ≡ file_after starts (drop (length calls.now.items - count) calls.now.items) file) }
 {
     let mut replay = Replay::begin(alloc, start)?;
     for done in 0..count {

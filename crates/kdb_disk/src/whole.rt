@@ -30,7 +30,8 @@ pub fn settle_all<D: Disk>(disk: &mut D) -> Result<(), DiskFailed>
 /// Cuts a file to nothing, on the disk. Two device calls.
 pub fn empty_file<D: Disk>(disk: &mut D, file: u8) -> Result<(), DiskFailed>
     requires { file < 7 }
-    ensures moments { D.tells → LeavesOnly (D.view disk.old) (D.view disk.new) (IsAfter (Differs file) (D.view disk.old)) }
+    ensures moments { D.tells
+        → LeavesOnly (D.view disk.old) (D.view disk.new) (IsAfter (Differs file) (D.view disk.old)) }
     ensures ok { D.tells → OnOk result (Replaced file [] (D.view disk.old) (D.view disk.new)) }
     ensures same { D.loans disk.new ≡ D.loans disk.old }
     ensures cause { HasCause (D.faults disk.old) (D.faults disk.new) result }
@@ -43,7 +44,8 @@ pub fn empty_file<D: Disk>(disk: &mut D, file: u8) -> Result<(), DiskFailed>
 fn write_pieces<D: Disk>(disk: &mut D, file: u8, content: &[u8]) -> Result<(), DiskFailed>
     requires file { file < 7 }
     requires empty { D.tells → (D.view disk.old).seen file ≡ [] }
-    ensures moments { D.tells → LeavesOnly (D.view disk.old) (D.view disk.new) (IsAfter (Differs file) (D.view disk.old)) }
+    ensures moments { D.tells
+        → LeavesOnly (D.view disk.old) (D.view disk.new) (IsAfter (Differs file) (D.view disk.old)) }
     ensures seen { D.tells → OnOk result ((D.view disk.new).seen ≡ written file 0 content.now (D.view disk.old).seen) }
     ensures same { D.loans disk.new ≡ D.loans disk.old }
     ensures cause { HasCause (D.faults disk.old) (D.faults disk.new) result }
@@ -61,7 +63,8 @@ fn write_pieces<D: Disk>(disk: &mut D, file: u8, content: &[u8]) -> Result<(), D
 /// most 65536 bytes, and synced. Until then, a crash may leave any content of this file.
 pub fn replace_file<D: Disk>(disk: &mut D, file: u8, content: &[u8]) -> Result<(), DiskFailed>
     requires { file < 7 }
-    ensures moments { D.tells → LeavesOnly (D.view disk.old) (D.view disk.new) (IsAfter (Differs file) (D.view disk.old)) }
+    ensures moments { D.tells
+        → LeavesOnly (D.view disk.old) (D.view disk.new) (IsAfter (Differs file) (D.view disk.old)) }
     ensures ok { D.tells → OnOk result (Replaced file content.now (D.view disk.old) (D.view disk.new)) }
     ensures same { D.loans disk.new ≡ D.loans disk.old }
     ensures cause { HasCause (D.faults disk.old) (D.faults disk.new) result }

@@ -11,7 +11,8 @@ use Rattle.kdb_format.specs.Fields.{IsField}
 use Rattle.kdb_format.specs.Laws.{same_field, first_field, big_field, little_field}
 use Rattle.kdb_format.specs.Etypes.{etype_by, etype_at, etype_text, etype_le_at, etype_le_text}
 
-known_is : {A : Type 0} (o : Option A) (bytes : List ℕ) (x : A) (rest : List ℕ) → known o bytes ≡ Some (x, rest) → (o ≡ Some x) × (bytes ≡ rest)
+known_is : {A : Type 0} (o : Option A) (bytes : List ℕ) (x : A) (rest : List ℕ) → known o bytes ≡ Some (x, rest)
+    → (o ≡ Some x) × (bytes ≡ rest)
 known_is None bytes x rest e = absurd cc
 known_is {A = A} (Some y) bytes x rest e =
     let made : A × List ℕ = (y, bytes) in
@@ -28,7 +29,8 @@ type_field n = record {
 }
 
 -- every type, where two bytes spell its number
-pub etype_by_field : {number_at : Reading ℕ} {number_text : ℕ → List ℕ} → IsField number_at number_text (λ n. n < 2 ^ 16)
+pub etype_by_field : {number_at : Reading ℕ} {number_text : ℕ → List ℕ}
+    → IsField number_at number_text (λ n. n < 2 ^ 16)
     → IsField (etype_by number_at) (λ t. number_text (number_of t)) (λ _. Unit {0})
 etype_by_field {number_text = number_text} field = same_field (first_field field number_of (λ n _. type_field n))
     (λ t f. (append-nil (number_text (number_of t)), tt))

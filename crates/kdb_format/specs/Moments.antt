@@ -41,7 +41,10 @@ pub time_field : IsField time_at time IsTime
 unfolding time_at time
 time_field = same_field
     (first_field (big_field 4) (λ (m : Moment). m.secs) (λ secs _.
-    last_field (checked_field (λ n. nat_lt n 1000000) (big_field 4)) (λ (m : Moment). m.usecs) (λ usecs. record { secs = secs; usecs = usecs }) (λ _ _. (refl, refl)) (λ m k. ap (λ (n : ℕ). record { secs = n; usecs = m.usecs }) (sym k))))
+    last_field (checked_field (λ n. nat_lt n 1000000) (big_field 4)) (λ (m : Moment). m.usecs) (λ usecs. record {
+      secs = secs;
+      usecs = usecs;
+    }) (λ _ _. (refl, refl)) (λ m k. ap (λ (n : ℕ). record { secs = n; usecs = m.usecs }) (sym k))))
     (λ m f. (refl, record { secs = f.0; usecs = ltb-true _ _ f.1.1 }))
     (λ m f. (f.secs, (omega (arith, f.usecs), lt-ltb _ _ f.usecs)))
 
@@ -49,6 +52,7 @@ pub point_field : IsField point_at point IsPoint
 unfolding point_at point
 point_field = same_field
     (first_field (big_field 4) (λ (p : Point). p.sno) (λ sno _.
-    last_field time_field (λ (p : Point). p.time) (λ time. record { sno = sno; time = time }) (λ _ _. (refl, refl)) (λ p k. ap (λ (n : ℕ). record { sno = n; time = p.time }) (sym k))))
+    last_field time_field (λ (p : Point). p.time) (λ time. record { sno = sno; time = time }) (λ _ _. (refl, refl))
+    (λ p k. ap (λ (n : ℕ). record { sno = n; time = p.time }) (sym k))))
     (λ p f. (refl, record { sno = f.0; time = f.1 }))
     (λ p f. (f.sno, f.time))

@@ -1,5 +1,6 @@
 -- Readings of bytes: the words in which formats are defined.
-use Rattle.std.specs.Prelude.{ℕ, zero, suc, List, [], ◌∷◌, length, take, drop, Bool, Option, Some, None, option_map, option_and_then, nat_lt, nat_eq, if◌then◌else◌}
+use Rattle.std.specs.Prelude.{ℕ, zero, suc, List, [], ◌∷◌, length, take, drop, Bool, Option, Some}
+use Rattle.std.specs.Prelude.{None, option_map, option_and_then, nat_lt, nat_eq, if◌then◌else◌}
 use Rattle.std.specs.List.{list_all}
 use Rattle.std.specs.Str.{bytes_eq}
 use Rattle.byteorder.specs.Endian.{big_number, little_number}
@@ -58,7 +59,8 @@ counted_at = do
 
 -- these bytes and no others
 unfoldable pub literal_at : List ℕ → Reading (Unit {0})
-literal_at text = λ bytes. if bytes_eq (take (length text) bytes) text then Some (tt, drop (length text) bytes) else None
+literal_at text =
+    λ bytes. if bytes_eq (take (length text) bytes) text then Some (tt, drop (length text) bytes) else None
 
 -- n zero bytes
 unfoldable pub zeros_at : ℕ → Reading (Unit {0})

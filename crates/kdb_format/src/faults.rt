@@ -1,5 +1,6 @@
 ghost use Rattle.std.specs.Prelude.{◌≡◌};
-ghost use Rattle.kdb_format.specs.declared.faults.FormatFault.TheVariants.{Malformed as IsMalformed, MemoryOut as IsMemoryOut};
+ghost use Rattle.kdb_format.specs.declared.faults.FormatFault.TheVariants.{Malformed as IsMalformed};
+ghost use Rattle.kdb_format.specs.declared.faults.FormatFault.TheVariants.{MemoryOut as IsMemoryOut};
 
 use kdb_base::MemoryOut;
 use std::alloc::{AllocError, AllocFailed};

@@ -40,9 +40,11 @@ pub fn read_next<F: Format>(alloc: Global, reader: &mut Reader) -> Result<F::Val
     // What is read is spelled so.
     ensures found { IfOk result (λ x. (reader.old ≡ F.spelling x ++ reader.new) × F.fits x) }
     // What is spelled so is read, whatever follows, unless memory runs out.
-    ensures only { (x : F.Value) (rest : List ℕ) → F.fits x → reader.old ≡ F.spelling x ++ rest → Gives result reader.new (Some (x, rest)) }
+    ensures only { (x : F.Value) (rest : List ℕ) → F.fits x → reader.old ≡ F.spelling x ++ rest
+        → Gives result reader.new (Some (x, rest)) }
     // Where the longest value would be held, the answer is that of a reader of all the bytes.
-    ensures window { (longest : ℕ) (more : List ℕ) → IsAtMost longest F.spelling F.fits → IsBytes more → longest ≤ length reader.old → Gives result (reader.new ++ more) (F.reading (reader.old ++ more)) }
+    ensures window { (longest : ℕ) (more : List ℕ) → IsAtMost longest F.spelling F.fits → IsBytes more
+        → longest ≤ length reader.old → Gives result (reader.new ++ more) (F.reading (reader.old ++ more)) }
     ensures exact { Gives result reader.new (F.reading reader.old) }
 {
     reader.holds_bytes();

@@ -18,7 +18,8 @@ record Tip (stages : List Stage) (q : Place) : Type 0 where
   is : stages ≡ last ∷ others
   place : last.place ≡ q
 
-tip_of : (made : List Stage) (t : Stage) (older : List Stage) → Tip (onto made (t ∷ older)) (end_of t.place (places made))
+tip_of : (made : List Stage) (t : Stage) (older : List Stage)
+    → Tip (onto made (t ∷ older)) (end_of t.place (places made))
 tip_of [] t older = record { last = t; others = older; is = refl; place = refl }
 tip_of (u ∷ made) t older = tip_of made u (t ∷ older)
 
@@ -27,7 +28,8 @@ tip_at s at made =
     let tip = tip_of made at.last at.others in
     record { last = tip.last; others = tip.others; is = ap (onto made) at.is ∙ tip.is; place = tip.place }
 
-part_of : (p : Place) (made : List Stage) (q : Place) → IsPart p (places made) q → (part : ℕ) × (q ≡ end_of p (places (take part made)))
+part_of : (p : Place) (made : List Stage) (q : Place) → IsPart p (places made) q
+    → (part : ℕ) × (q ≡ end_of p (places (take part made)))
 part_of p [] q h = (zero, h)
 part_of p (t ∷ made) q (inl h) = (zero, h)
 part_of p (t ∷ made) q (inr h) = let part = part_of t.place made q h in (suc part.0, part.1)
@@ -58,7 +60,8 @@ stopped s at call q ready clock (inr h) =
     }
 
 -- a call that returned
-pub returned : (s : Site) (at : Stands s) (call : Call) (answer : Answer) (q : Place) → s.up ≡ wants_open call → IsMoment (clock_at call)
+pub returned : (s : Site) (at : Stands s) (call : Call) (answer : Answer) (q : Place) → s.up ≡ wants_open call
+    → IsMoment (clock_at call)
     → Does at.last.place (state_of s) call answer q → IsReturned s call answer q
 returned s at call answer q ready clock h =
     let tip = tip_at s at h.made in

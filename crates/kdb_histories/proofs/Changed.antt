@@ -1,5 +1,6 @@
 -- The two ways of a change: the log as it is, and one begun anew before it.
-use Rattle.std.proofs.Common.{◌≡◌, ◌≢◌, ℕ, ◌<◌, Bool, true, false, ◌||◌, List, [], ◌∷◌, Option, Some, None, refl, sym, ◌∙◌, ap, arith}
+use Rattle.std.proofs.Common.{◌≡◌, ◌≢◌, ℕ, ◌<◌, Bool, true, false, ◌||◌, List, []}
+use Rattle.std.proofs.Common.{◌∷◌, Option, Some, None, refl, sym, ◌∙◌, ap, arith}
 use Rattle.std.specs.Prelude.{nat_eq, nat_le}
 use Rattle.std.proofs.lemmas.Bool.{eq-eqb, leb-false, true≢false}
 use Rattle.kdb_histories.specs.Asks.{Ask, Enters, Keeps, Kind, Stashes, clock_of}
@@ -19,13 +20,15 @@ made_anew ask op p = stage (reset_for (clock_of ask) op p) Anew ∷ made_due ask
 
 -- ---- what is put was entered, and is the change that would be made
 
-pub put_kind : (kind : Kind) (kept : Option Op) (bytes : List ℕ) (op : Op) → Put op ≡ planned kind kept bytes → kind ≡ Enters
+pub put_kind : (kind : Kind) (kept : Option Op) (bytes : List ℕ) (op : Op) → Put op ≡ planned kind kept bytes
+    → kind ≡ Enters
 put_kind Keeps kept bytes op e = absurd cc
 put_kind Enters None bytes op e = refl
 put_kind Enters (Some made) bytes op e = refl
 put_kind Stashes kept bytes op e = absurd cc
 
-pub put_op : (kind : Kind) (kept : Option Op) (bytes : List ℕ) (op : Op) → Put op ≡ planned kind kept bytes → kept ≡ Some op
+pub put_op : (kind : Kind) (kept : Option Op) (bytes : List ℕ) (op : Op) → Put op ≡ planned kind kept bytes
+    → kept ≡ Some op
 put_op Keeps kept bytes op e = absurd cc
 put_op Enters None bytes op e = absurd cc
 put_op Enters (Some made) bytes op e = cc

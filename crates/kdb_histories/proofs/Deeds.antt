@@ -1,15 +1,18 @@
 -- What an accepted change leads to is what the history makes of it.
 use Rattle.std.proofs.Common.{◌≡◌, ℕ, Bool, true, false, Option, Some, None, refl}
 use Rattle.std.specs.Prelude.{if◌then◌else◌}
-use Rattle.kdb_histories.specs.Asks.{Ask, Commanded, RekeyedNow, Settles, Enters, at_clock, commanded, kept_rekeying, moved, moved_state, outcome, record_put, settled_as, state_by}
-use Rattle.kdb_model.specs.Rekeying.{At, Rekeyed, Updated, Already, Gone, Refused, Changed, Work, active_at, may_settle, other_record, other_version, rekey, settle, settled_by}
+use Rattle.kdb_histories.specs.Asks.{Ask, Commanded, RekeyedNow, Settles, Enters, at_clock, commanded}
+use Rattle.kdb_histories.specs.Asks.{kept_rekeying, moved, moved_state, outcome, record_put, settled_as, state_by}
+use Rattle.kdb_model.specs.Rekeying.{At, Rekeyed, Updated, Already, Gone, Refused, Changed, Work, active_at}
+use Rattle.kdb_model.specs.Rekeying.{may_settle, other_record, other_version, rekey, settle, settled_by}
 use Rattle.kdb_plain.specs.declared.states.State.{State}
 use Rattle.princ_name.specs.Names.{NameParts, printed}
 use Rattle.princ_record.specs.declared.princs.Princ.{Princ}
 use Rattle.princ_rows.specs.Rows.{RowLists}
 use Rattle.row_keys.specs.Lookups.{record_named}
 
-moved_leads : (s : State) (made : Option Princ) (r : Rekeyed) → (moved s made r).kind ≡ Enters → (moved s made r).state ≡ moved_state s r
+moved_leads : (s : State) (made : Option Princ) (r : Rekeyed) → (moved s made r).kind ≡ Enters
+    → (moved s made r).state ≡ moved_state s r
 unfolding moved
 moved_leads s (Some p) (Updated after) e = refl
 moved_leads s None (Updated after) e = absurd cc
@@ -41,7 +44,8 @@ settled_leads : (s : State) (name : NameParts) (at : At) (found : Option Princ) 
 unfolding settle settled_as
 settled_leads s name at None work e = absurd cc
 settled_leads s name at (Some stored) work e =
-    judged_leads s (other_record stored work.taken) (other_version (active_at s at) work.taken) work.made (rekey s name at)
+    judged_leads s (other_record stored work.taken) (other_version (active_at s at) work.taken) work.made
+    (rekey s name at)
     (may_settle s.masters (active_at s at) stored work.taken) e
 
 pub deed_leads : (rows : RowLists) (ask : Ask) (due : Bool) (s : State) → (outcome rows ask due s).kind ≡ Enters
@@ -50,4 +54,5 @@ unfolding outcome state_by commanded
 deed_leads rows (Commanded call) due s e = refl
 deed_leads rows (RekeyedNow name clock random) due s e =
     moved_leads s (record_put (kept_rekeying rows s name clock random)) (rekey s name (at_clock clock due)) e
-deed_leads rows (Settles name clock work) due s e = settled_leads s name (at_clock clock due) (record_named (printed name) rows.princs) work e
+deed_leads rows (Settles name clock work) due s e =
+    settled_leads s name (at_clock clock due) (record_named (printed name) rows.princs) work e

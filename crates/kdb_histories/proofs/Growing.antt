@@ -14,10 +14,12 @@ use Rattle.kdb_histories.specs.Asks.{Ask, state_by}
 use Rattle.kdb_histories.specs.Histories.{HasRoom, HoldsUpTo, IsLater, IsStory, all_seen}
 use Rattle.kdb_histories.specs.Moves.{IsChange, IsLoad, IsReset, IsRestash, Moves}
 use Rattle.kdb_histories.specs.Seen.{Seen, seen}
-use Rattle.kdb_histories.specs.Stages.{Deed, Filled, Did, Anew, Stashed, ShowsAt, Stage, entries_after, epoch, fold, places, state_after}
+use Rattle.kdb_histories.specs.Stages.{Deed, Filled, Did, Anew, Stashed, ShowsAt, Stage}
+use Rattle.kdb_histories.specs.Stages.{entries_after, epoch, fold, places, state_after}
 use Rattle.kdb_model.specs.Laws.{at_point}
 use Rattle.kdb_places.proofs.Points.{committed_point, first_point}
-use Rattle.kdb_places.specs.Places.{Place, base_marker, change, committed, contents_of, last_entries, last_point, log_anew, next_point, no_point, point_of, replaced, restashed}
+use Rattle.kdb_places.specs.Places.{Place, base_marker, change, committed, contents_of, last_entries}
+use Rattle.kdb_places.specs.Places.{last_point, log_anew, next_point, no_point, point_of, replaced, restashed}
 use Rattle.kdb_plain.specs.States.{IsValid}
 use Rattle.kdb_plain.specs.declared.states.State.{State}
 use Rattle.princ_rows.specs.declared.entries.Entry.{Entry}
@@ -38,7 +40,8 @@ later_all a b c (inr x) (inl y) = inl (subst (λ p. ComesBefore p (point_of c.pl
 later_all a b c (inr x) (inr y) = inr (y.0 ∙ x.0, y.1 ∙ x.1)
 
 -- the next place, where these entries came since the last base marker
-record Grows (p : Place) (older : List Place) (before : State) (entries : List Entry) (deed : Deed) (q : Place) : Type 0 where
+record Grows (p : Place) (older : List Place) (before : State) (entries : List Entry) (deed : Deed)
+    (q : Place) : Type 0 where
   later : IsLater (seen p before) (seen q (state_after deed (point_of q) before))
   sized : 0 < q.size
   held : HoldsFrom (q ∷ p ∷ older) q.held (contents_of q)
@@ -71,7 +74,8 @@ module _ (valid : StaysValid) (p : Place) (older : List Place) (before : State) 
       let then_valid : IsValid (point_of q1).time (state_by ask due (at_point point before)) =
       subst (λ (x : Point). IsValid x.time (state_by ask due (at_point point before))) (sym at) h.leaves.valid in
       subst (Grows p older before entries (Did ask due point op)) (sym h.is) (record {
-        later = inl (subst (λ (x : Point). ComesBefore (point_of p) x) (sym at) (next_behind (point_of p) h.time h.not_before));
+        later = inl (subst (λ (x : Point). ComesBefore (point_of p) x) (sym at)
+            (next_behind (point_of p) h.time h.not_before));
         sized = sized;
         held =
             holds_change (q1 ∷ p ∷ older) p.size p.held (contents_of p) u (contents_of q1) sized
@@ -83,8 +87,10 @@ module _ (valid : StaysValid) (p : Place) (older : List Place) (before : State) 
       })
 
   -- a place whose log is begun anew holds its base marker
-  fresh : (deed : Deed) (base : Point) (q : Place) → micros (point_of p).time < micros base.time → q.held ≡ base_marker base ∷ [] → 0 < q.size
-      → ShowsAt q (state_after deed (point_of q) before) → ((at : Point) → entries_after deed at entries ≡ base_marker at ∷ [])
+  fresh : (deed : Deed) (base : Point) (q : Place) → micros (point_of p).time < micros base.time
+      → q.held ≡ base_marker base ∷ [] → 0 < q.size
+      → ShowsAt q (state_after deed (point_of q) before)
+      → ((at : Point) → entries_after deed at entries ≡ base_marker at ∷ [])
       → Grows p older before entries deed q
   fresh deed base q later is some shown marked =
       let at : point_of q ≡ base = ap (last_point no_point) is ∙ first_point no_point (base_marker base) in
@@ -110,7 +116,8 @@ module _ (valid : StaysValid) (p : Place) (older : List Place) (before : State) 
         realm = shows.realm;
         at = refl;
         shows = shows_at p.rows (point_of q1) before shows.shows;
-        valid = valid.point before (point_of q1).time (point_of q1) (subst (λ (x : Point). IsValid x.time before) (sym at) valid_then);
+        valid = valid.point before (point_of q1).time (point_of q1)
+            (subst (λ (x : Point). IsValid x.time before) (sym at) valid_then);
       }) (λ x. refl))
 
   loaded : (state : State) (q : Place) → IsLoad p state q → Grows p older before entries (Filled state) q
@@ -118,7 +125,8 @@ module _ (valid : StaysValid) (p : Place) (older : List Place) (before : State) 
       let base : Point = record { sno = 1; time = h.time } in
       let q1 = replaced p.realm h.rows base p in
       let at : point_of q1 ≡ base = first_point no_point (base_marker base) in
-      subst (Grows p older before entries (Filled state)) (sym h.is) (fresh (Filled state) base q1 h.later refl sized (record {
+      subst (Grows p older before entries (Filled state)) (sym h.is)
+      (fresh (Filled state) base q1 h.later refl sized (record {
         realm = h.realm;
         at = h.at ∙ sym at;
         shows = h.shows;
@@ -145,17 +153,22 @@ module _ (valid : StaysValid) (p : Place) (older : List Place) (before : State) 
 -- ---- stories
 
 -- what places hold leads up to them where there are more of them too
-pub all_hold_more : (q : Place) (places some : List Place) → All (HoldsUpTo places) some → All (HoldsUpTo (q ∷ places)) some
+pub all_hold_more : (q : Place) (places some : List Place) → All (HoldsUpTo places) some
+    → All (HoldsUpTo (q ∷ places)) some
 all_hold_more q places some h =
-    All-weaker (HoldsUpTo places) (HoldsUpTo (q ∷ places)) (λ p leads. holds_more q places p.held (contents_of p) leads) some h
+    All-weaker (HoldsUpTo places) (HoldsUpTo (q ∷ places))
+    (λ p leads. holds_more q places p.held (contents_of p) leads) some h
 
 -- a place that is later than the last one is later than all
-later_than_all : (c b : Seen) (older : List Seen) → IsLater b c → All (λ a. IsLater a b) older → All (λ a. IsLater a c) (b ∷ older)
+later_than_all : (c b : Seen) (older : List Seen) → IsLater b c → All (λ a. IsLater a b) older
+    → All (λ a. IsLater a c) (b ∷ older)
 later_than_all c b older later h =
-    All-cons (λ a. IsLater a c) b older later (All-weaker (λ a. IsLater a b) (λ a. IsLater a c) (λ a earlier. later_all a b c earlier later) older h)
+    All-cons (λ a. IsLater a c) b older later
+    (All-weaker (λ a. IsLater a b) (λ a. IsLater a c) (λ a earlier. later_all a b c earlier later) older h)
 
 -- a move from the last place of a story makes another
-pub story_grows : (valid : StaysValid) (t u : Stage) (older : List Stage) → IsStory (t ∷ older) → Moves t.place (fold (t ∷ older)) u.deed u.place
+pub story_grows : (valid : StaysValid) (t u : Stage) (older : List Stage) → IsStory (t ∷ older)
+    → Moves t.place (fold (t ∷ older)) u.deed u.place
     → IsStory (u ∷ t ∷ older)
 story_grows valid t u older h moves =
     let good = h.good in
@@ -164,14 +177,16 @@ story_grows valid t u older h moves =
     let full = h.full in
     let sized = All-head HasRoom t.place (places older) good.sized in
     let held = All-head (HoldsUpTo (t.place ∷ places older)) t.place (places older) good.held in
-    let g = grows valid t.place (places older) (fold (t ∷ older)) (epoch (t ∷ older)) sized held then_.0 full.0 u.deed u.place moves in
+    let g = grows valid t.place (places older) (fold (t ∷ older)) (epoch (t ∷ older)) sized held then_.0 full.0 u.deed
+    u.place moves in
     let before = t.place ∷ places older in
     let now = seen u.place (fold (u ∷ t ∷ older)) in
     let last = seen t.place (fold (t ∷ older)) in
     record {
       rising = (later_than_all now last (all_seen older) g.later here.0, here);
       good = record {
-        held = All-cons (HoldsUpTo (u.place ∷ before)) u.place before g.held (all_hold_more u.place before before good.held);
+        held = All-cons (HoldsUpTo (u.place ∷ before)) u.place before g.held
+            (all_hold_more u.place before before good.held);
         sized = All-cons HasRoom u.place before g.sized good.sized;
       };
       folded = (g.shows, then_);

@@ -13,7 +13,8 @@ use Rattle.kdb_model.specs.Laws.{IsMoment}
 use Rattle.kdb_places.specs.Places.{Place, point_of}
 
 -- the later of two is one of them
-later_cases : (P : Moment → Type 0) (a b : Moment) → (micros a < micros b → P b) → (micros b ≤ micros a → P a) → P (later_moment a b)
+later_cases : (P : Moment → Type 0) (a b : Moment) → (micros a < micros b → P b) → (micros b ≤ micros a → P a)
+    → P (later_moment a b)
 later_cases P a b second first = elim (truth (nat_lt (micros a) (micros b))) [
   | inl e ↦ rw e (second (ltb-true (micros a) (micros b) e))
   | inr e ↦ rw e (first (ltb-false (micros a) (micros b) e))
@@ -35,15 +36,18 @@ next_secs m = elim (truth (nat_eq m.usecs 999999)) [
 
 pub change_not_before : (clock : Moment) (p : Place) → micros (point_of p).time ≤ micros (moment_at clock p)
 change_not_before clock p =
-    later_cases (λ m. micros (point_of p).time ≤ micros m) (point_of p).time clock (λ lt. omega (arith, lt)) (λ le. omega arith)
+    later_cases (λ m. micros (point_of p).time ≤ micros m) (point_of p).time clock (λ lt. omega (arith, lt))
+    (λ le. omega arith)
 
 pub reset_later : (clock : Moment) (p : Place) → micros (point_of p).time < micros (reset_point clock p).time
 reset_later clock p =
     let next = next_moment (point_of p).time in
     let one = next_micros (point_of p).time in
-    later_cases (λ m. micros (point_of p).time < micros m) clock next (λ lt. omega (arith, one)) (λ le. omega (arith, one, le))
+    later_cases (λ m. micros (point_of p).time < micros m) clock next (λ lt. omega (arith, one))
+    (λ le. omega (arith, one, le))
 
-pub reset_since : (clock : Moment) (p : Place) → IsMoment clock → (point_of p).time.secs ≤ (reset_point clock p).time.secs
+pub reset_since : (clock : Moment) (p : Place) → IsMoment clock
+    → (point_of p).time.secs ≤ (reset_point clock p).time.secs
 reset_since clock p is =
     let next = next_moment (point_of p).time in
     let one = next_micros (point_of p).time in
@@ -51,7 +55,8 @@ reset_since clock p is =
     (λ le. by_secs (point_of p).time clock is.usecs (omega (arith, one, le)))
 
 -- the next serial, at a time that is not before
-pub next_behind : (a : Point) (time : Moment) → micros a.time ≤ micros time → ComesBefore a (record { sno = a.sno + 1; time = time })
+pub next_behind : (a : Point) (time : Moment) → micros a.time ≤ micros time
+    → ComesBefore a (record { sno = a.sno + 1; time = time })
 next_behind a time le = elim (truth (nat_lt (micros a.time) (micros time))) [
   | inl e ↦ inl (ltb-true (micros a.time) (micros time) e)
   | inr e ↦ let ge = ltb-false (micros a.time) (micros time) e in inr (omega (arith, le, ge), omega arith)

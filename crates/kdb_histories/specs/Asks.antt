@@ -1,5 +1,6 @@
 -- What a primary is asked, and what that comes to in a state of which its rows are told too.
-use Rattle.std.specs.Prelude.{ℕ, Bool, false, List, Option, Some, None, is_some, if◌then◌else◌, option_map, option_and_then}
+use Rattle.std.specs.Prelude.{ℕ, Bool, false, List, Option, Some, None, is_some}
+use Rattle.std.specs.Prelude.{if◌then◌else◌, option_map, option_and_then}
 use Rattle.std.specs.Option.{option_or}
 use Rattle.command_plans.specs.KeptEntries.{kept_entry}
 use Rattle.kadm_commands.specs.declared.commands.Command.{Command}
@@ -13,7 +14,8 @@ use Rattle.kdb_model.specs.Entries.{entry}
 use Rattle.kdb_model.specs.Laws.{told}
 use Rattle.kdb_model.specs.Refusals.{refusal}
 use Rattle.kdb_model.specs.Rekeying as model
-use Rattle.kdb_model.specs.Rekeying.{At, Rekeyed, Updated, Already, Gone, Refused, Stored, SettledGone, Changed, NotStored, Work, active_at, rekey, settle}
+use Rattle.kdb_model.specs.Rekeying.{At, Rekeyed, Updated, Already, Gone, Refused, Stored}
+use Rattle.kdb_model.specs.Rekeying.{SettledGone, Changed, NotStored, Work, active_at, rekey, settle}
 use Rattle.kdb_model.specs.Steps.{step}
 use Rattle.kdb_plain.specs.States.{master_of, princ_named}
 use Rattle.kdb_plain.specs.declared.princs.PlainPrinc.{PlainPrinc}
@@ -29,8 +31,8 @@ use Rattle.rekey_work.specs.declared.works.Settled.TheVariants as settled
 use Rattle.row_keys.specs.Lookups.{record_named}
 use Rattle.row_keys.specs.Wraps.{wrapped_items}
 
--- A command, one principal rekeyed wholly under the lock, or the work that comes back of one that was taken. Each has what the clock says.
--- Whether a change is to start the log anew is told apart, as a fact of the place.
+-- A command, one principal rekeyed wholly under the lock, or the work that comes back of one that was taken. Each has
+-- what the clock says. Whether a change is to start the log anew is told apart, as a fact of the place.
 pub data Ask : Type 0 where
   Commanded : (call : Call) → Ask
   RekeyedNow : (name : NameParts) (clock : Moment) (random : List ℕ) → Ask
@@ -150,5 +152,7 @@ settled_as s (NotStored why) = kept s (NotMoved why)
 -- What the ask comes to in a state that these rows show, told whether its entry is to start the log anew.
 unfoldable pub outcome : RowLists → Ask → Bool → State → Outcome
 outcome rows (Commanded call) due s = commanded call due s
-outcome rows (RekeyedNow name clock random) due s = moved s (record_put (kept_rekeying rows s name clock random)) (rekey s name (at_clock clock due))
-outcome rows (Settles name clock work) due s = settled_as s (settle s name (at_clock clock due) (record_named (printed name) rows.princs) work)
+outcome rows (RekeyedNow name clock random) due s =
+    moved s (record_put (kept_rekeying rows s name clock random)) (rekey s name (at_clock clock due))
+outcome rows (Settles name clock work) due s =
+    settled_as s (settle s name (at_clock clock due) (record_named (printed name) rows.princs) work)

@@ -2,7 +2,8 @@
 use Rattle.std.specs.Prelude.{◌≡◌, true, false, List, None}
 use Rattle.kdb_histories.specs.Asks.{Answer}
 use Rattle.kdb_histories.specs.Calls.{Call}
-use Rattle.kdb_histories.specs.Sites.{Site, SiteEvent, Creates, Calls, Stops, Crashes, Ends, Looks, Polls, Dumps, EndsDump, HappensAt, Stands}
+use Rattle.kdb_histories.specs.Sites.{Site, SiteEvent, Creates, Calls, Stops, Crashes, Ends}
+use Rattle.kdb_histories.specs.Sites.{Looks, Polls, Dumps, EndsDump, HappensAt, Stands}
 use Rattle.kdb_histories.specs.Stages.{Stage}
 use Rattle.kdb_places.specs.Places.{Place}
 

@@ -1,10 +1,12 @@
 -- Which places a call of the primary makes of a place and the state that it stands for, in their order.
-use Rattle.std.specs.Prelude.{ℕ, ◌≡◌, ◌≢◌, ◌<◌, ◌≤◌, ◌⊎◌, true, ◌&&◌, nat_eq, List, [], ◌∷◌, Option, Some, None, if◌then◌else◌}
+use Rattle.std.specs.Prelude.{ℕ, ◌≡◌, ◌≢◌, ◌<◌, ◌≤◌, ◌⊎◌, true, ◌&&◌, nat_eq}
+use Rattle.std.specs.Prelude.{List, [], ◌∷◌, Option, Some, None, if◌then◌else◌}
 use Rattle.kdb_base.specs.Moment.{Moment}
 use Rattle.kdb_base.specs.Moments.{micros}
 use Rattle.kdb_histories.specs.Asks.{Ask, Answer, clock_of}
 use Rattle.kdb_histories.specs.Moves.{IsLeft}
-use Rattle.kdb_histories.specs.Seen.{Plan, Keep, Put, Write, answer_at, changed, entry_point, is_due, made_at, moment_at, outcome_at, plan_at, reset_point, seen, stash_of}
+use Rattle.kdb_histories.specs.Seen.{Plan, Keep, Put, Write, answer_at, changed, entry_point, is_due}
+use Rattle.kdb_histories.specs.Seen.{made_at, moment_at, outcome_at, plan_at, reset_point, seen, stash_of}
 use Rattle.kdb_histories.specs.Stages.{Filled, Anew, Stashed, Stage, stage}
 use Rattle.kdb_places.specs.Applying.{may_apply}
 use Rattle.kdb_places.specs.Places.{Place, log_anew, point_of, replaced, restashed}
@@ -109,8 +111,8 @@ CallMakes p s (Open size room clock) answer made = Opens p size room clock made
 
 -- ---- why a log begins anew
 
--- The call begins the log anew for one of its causes: an entry behind the last serial or as long as a block, a request, or an opening of
--- format 1 or with another size.
+-- The call begins the log anew for one of its causes: an entry behind the last serial or as long as a block, a request,
+-- or an opening of format 1 or with another size.
 abbrev pub ResetCause : Place → Call → List Stage → Type 0
 ResetCause p (Perform ask) made = (op : Op) × (made ≡ changed ask op p) × (is_due op p ≡ true)
 ResetCause p (Stash clock) made = ⊥

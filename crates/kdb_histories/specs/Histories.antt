@@ -19,7 +19,8 @@ all_seen (t ∷ older) = seen t.place (fold (t ∷ older)) ∷ all_seen older
 
 -- at a later point, or with the same contents and the same state
 abbrev pub IsLater : Seen → Seen → Type 0
-IsLater a b = ComesBefore (point_of a.place) (point_of b.place) ⊎ ((contents_of b.place ≡ contents_of a.place) × (b.state ≡ a.state))
+IsLater a b = ComesBefore (point_of a.place) (point_of b.place)
+    ⊎ ((contents_of b.place ≡ contents_of a.place) × (b.state ≡ a.state))
 
 -- each is later than all before it
 abbrev pub IsRising : List Seen → Type 0

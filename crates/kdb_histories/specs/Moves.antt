@@ -24,7 +24,8 @@ pub record IsLeft (realm : List ℕ) (point : Point) (op : Op) (rows : RowLists)
   pub valid : IsValid point.time after
 
 -- A change, at a time that is not before the last one.
-pub record IsChange (p : Place) (before : State) (ask : Ask) (due : Bool) (point : Point) (op : Op) (q : Place) : Type 0 where
+pub record IsChange (p : Place) (before : State) (ask : Ask) (due : Bool) (point : Point) (op : Op)
+    (q : Place) : Type 0 where
   pub time : Moment
   pub not_before : micros (point_of p).time ≤ micros time
   pub fits : may_apply op p.rows ≡ true
@@ -69,4 +70,5 @@ Moves p before Stashed q = IsRestash p q
 -- each is made of the one before
 abbrev pub IsPath : Place → State → List Stage → Type 0
 IsPath p before [] = Unit {0}
-IsPath p before (t ∷ ts) = Moves p before t.deed t.place × IsPath t.place (state_after t.deed (point_of t.place) before) ts
+IsPath p before (t ∷ ts) =
+    Moves p before t.deed t.place × IsPath t.place (state_after t.deed (point_of t.place) before) ts

@@ -50,7 +50,8 @@ reset_for clock op p = log_anew (reset_point clock p) p.size (block_for op p) p
 
 -- the point that the entry gets
 abbrev pub entry_point : Moment → Op → Place → Point
-entry_point clock op p = if is_due op p then record { sno = 2; time = (reset_point clock p).time } else next_point (moment_at clock p) p
+entry_point clock op p = if is_due op p then record { sno = 2; time = (reset_point clock p).time }
+    else next_point (moment_at clock p) p
 
 abbrev pub did : Ask → Bool → Op → Place → Place → Stage
 did ask due op p q = stage q (Did ask due (point_of p) op)
@@ -88,7 +89,8 @@ planned Stashes kept bytes = Write bytes
 -- the change is the step's own to the byte, and the stash has the state's master keys
 abbrev pub plan_at : Ask → Seen → Plan
 plan_at ask at =
-    planned (outcome_at ask at).kind (kept_op at.place.rows at.state ask) (stash_of at.state (moment_at (clock_of ask) at.place))
+    planned (outcome_at ask at).kind (kept_op at.place.rows at.state ask)
+    (stash_of at.state (moment_at (clock_of ask) at.place))
 
 abbrev pub made_by : Ask → Plan → Place → List Stage
 made_by ask Keep p = []

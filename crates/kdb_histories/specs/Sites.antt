@@ -1,5 +1,6 @@
 -- What happens at a primary: what each call makes of its history, and what it sends.
-use Rattle.std.specs.Prelude.{ℕ, ◌≡◌, ◌+◌, ◌-◌, Bool, true, false, nat_eq, List, [], ◌∷◌, ◌++◌, take, Option, Some, None}
+use Rattle.std.specs.Prelude.{ℕ, ◌≡◌, ◌+◌, ◌-◌, Bool, true, false, nat_eq}
+use Rattle.std.specs.Prelude.{List, [], ◌∷◌, ◌++◌, take, Option, Some, None}
 use Rattle.acl_text.specs.declared.rules.AclLine.{AclLine}
 use Rattle.iprop_truths.specs.Polls.{poll_reply}
 use Rattle.iprop_truths.specs.Pulling.{denies_pull}
@@ -133,8 +134,10 @@ pub record Created (old new : Site) (t : Stage) (up : Bool) (said : Option Messa
   pub is : new ≡ begun t up old
   pub silent : said ≡ None
 
--- The call makes these places of the one that stands and of the state that all places come to, and so many of them are there.
-pub record Called (old new : Site) (call : Call) (answer : Answer) (made done : List Stage) (up : Bool) (said : Option Message) : Type 0 where
+-- The call makes these places of the one that stands and of the state that all places come to, and so many of them are
+-- there.
+pub record Called (old new : Site) (call : Call) (answer : Answer) (made done : List Stage) (up : Bool)
+    (said : Option Message) : Type 0 where
   pub at : Stands old
   pub ready : old.up ≡ wants_open call
   pub clock : IsMoment (clock_at call)
@@ -159,7 +162,8 @@ pub record Sends (old new : Site) (message : Place → Message) (said : Option M
   pub says : said ≡ Some (message at.last.place)
 
 -- An open primary with a free dump place begins a dump for a client that is not denied.
-pub record Begins (old new : Site) (client : NameParts) (access : Option (List AclLine)) (said : Option Message) : Type 0 where
+pub record Begins (old new : Site) (client : NameParts) (access : Option (List AclLine))
+    (said : Option Message) : Type 0 where
   pub at : Stands old
   pub ready : old.up ≡ true
   pub allowed : denies_pull access client ≡ false
@@ -195,7 +199,8 @@ also (Some m) sent = m ∷ sent
 abbrev pub SiteRun : Site → List Message → List SiteEvent → Site → List Message → Type 0
 SiteRun old sent [] new all = (new ≡ old) × (all ≡ sent)
 SiteRun old sent (event ∷ events) new all =
-    (next : Site) × (said : Option Message) × HappensAt event old next said × SiteRun next (also said sent) events new all
+    (next : Site) × (said : Option Message) × HappensAt event old next said
+    × SiteRun next (also said sent) events new all
 
 -- an open primary's files are of format 2
 abbrev pub IsFresh : Bool → List Stage → Type 0

@@ -1,5 +1,6 @@
 -- The refusal of a command, by whatever is taken for its change.
-use Rattle.std.proofs.Common.{◌≡◌, ℕ, ◌+◌, ◌<◌, ◌≤◌, Bool, true, false, ◌&&◌, ◌||◌, List, [], ◌∷◌, Option, Some, None, refl, sym, ap, subst, ◌∙◌, ◌⊎◌, inl, inr, arith}
+use Rattle.std.proofs.Common.{◌≡◌, ℕ, ◌+◌, ◌<◌, ◌≤◌, Bool, true, false, ◌&&◌, ◌||◌, List, [], ◌∷◌}
+use Rattle.std.proofs.Common.{Option, Some, None, refl, sym, ap, subst, ◌∙◌, ◌⊎◌, inl, inr, arith}
 use Rattle.std.specs.Prelude.{is_some, nat_lt, option_and_then, option_map, IfOk, Result, Ok, Err, if◌then◌else◌}
 use Rattle.std.specs.Option.{option_or}
 use Rattle.kadm_commands.specs.Commands.{IsCommand}
@@ -14,7 +15,11 @@ use Rattle.kdb_base.specs.declared.outcomes.Refusal.TheVariants.{KeysFull, TimeE
 use Rattle.kdb_model.specs.Asking.{HasVersions, IsDecided}
 use Rattle.kdb_model.specs.Calls.{Call, moment_of}
 use Rattle.kdb_model.specs.Entries.{entry}
-use Rattle.kdb_model.specs.Refusals.{causes_with, denied, duplicate, few_classes, first, has_last_kvno, keys_full, locked_down, named_in, needed_name, new_keys, no_active_master, pass_reused, policy_in_use, protected, puts_many_keys, refusal, rows_full, strings_full, target, too_large, too_many_masters, too_short, too_soon, unknown_master, unknown_policy, unknown_principal, unknown_string, when}
+use Rattle.kdb_model.specs.Refusals.{causes_with, denied, duplicate, few_classes, first, has_last_kvno}
+use Rattle.kdb_model.specs.Refusals.{keys_full, locked_down, named_in, needed_name, new_keys, no_active_master}
+use Rattle.kdb_model.specs.Refusals.{pass_reused, policy_in_use, protected, puts_many_keys, refusal, rows_full}
+use Rattle.kdb_model.specs.Refusals.{strings_full, target, too_large, too_many_masters, too_short, too_soon}
+use Rattle.kdb_model.specs.Refusals.{unknown_master, unknown_policy, unknown_principal, unknown_string, when}
 use Rattle.kdb_plain.specs.Changes.{HasRoom, effect_on}
 use Rattle.kdb_plain.specs.States.{IsValid, princ_named}
 use Rattle.kdb_plain.specs.declared.changes.PlainOp.{PlainOp}
@@ -28,12 +33,14 @@ use Rattle.kdb_model.proofs.Stepping.{either_way, refusal_split, step_refused, t
 use Rattle.kdb_model.proofs.ValidChanges.{change_valid}
 
 -- a list of causes by its front
-skip : (a b : Option Refusal) (xs ys : List (Option Refusal)) → a ≡ b → first xs ≡ first ys → first (a ∷ xs) ≡ first (b ∷ ys)
+skip : (a b : Option Refusal) (xs ys : List (Option Refusal)) → a ≡ b → first xs ≡ first ys
+    → first (a ∷ xs) ≡ first (b ∷ ys)
 unfolding first
 skip None b xs ys e h = rw (← e) h
 skip (Some r) b xs ys e h = rw (← e) refl
 
-stop : (a b : Option Refusal) (r : Refusal) (xs ys : List (Option Refusal)) → a ≡ Some r → b ≡ Some r → first (a ∷ xs) ≡ first (b ∷ ys)
+stop : (a b : Option Refusal) (r : Refusal) (xs ys : List (Option Refusal)) → a ≡ Some r → b ≡ Some r
+    → first (a ∷ xs) ≡ first (b ∷ ys)
 unfolding first
 stop a b r xs ys e f = rw (e, f) refl
 
@@ -42,12 +49,17 @@ full_then true rest r e = refl
 full_then false rest r e = absurd cc
 
 -- no version of keys is left: what stands behind that cause counts for nothing
-last_stops : (s : State) (call : Call) (cmd : Command) (change other : Option PlainOp) → has_last_kvno cmd (target s cmd) ≡ true
-    → first (causes_with s (record call { command = cmd }) change) ≡ first (causes_with s (record call { command = cmd }) other)
+last_stops : (s : State) (call : Call) (cmd : Command) (change other : Option PlainOp)
+    → has_last_kvno cmd (target s cmd) ≡ true
+    → first (causes_with s (record call { command = cmd }) change)
+    ≡ first (causes_with s (record call { command = cmd }) other)
 unfolding causes_with
 last_stops s call (command.ChangeKeys c) change other e =
-    skip _ _ _ _ refl (skip _ _ _ _ refl (skip _ _ _ _ refl (skip _ _ _ _ refl (skip _ _ _ _ refl (skip _ _ _ _ refl (skip _ _ _ _ refl (skip _ _ _ _ refl (skip _ _ _ _ refl (skip _ _ _ _ refl (skip _ _ _ _ refl (skip _ _ _ _ refl
-    (stop _ _ KeysFull _ _ (full_then (has_last_kvno (command.ChangeKeys c) (target s (command.ChangeKeys c))) _ KeysFull e) (full_then (has_last_kvno (command.ChangeKeys c) (target s (command.ChangeKeys c))) _ KeysFull e)))))))))))))
+    skip _ _ _ _ refl (skip _ _ _ _ refl (skip _ _ _ _ refl (skip _ _ _ _ refl (skip _ _ _ _ refl (skip _ _ _ _ refl
+    (skip _ _ _ _ refl (skip _ _ _ _ refl (skip _ _ _ _ refl (skip _ _ _ _ refl (skip _ _ _ _ refl (skip _ _ _ _ refl
+    (stop _ _ KeysFull _ _
+    (full_then (has_last_kvno (command.ChangeKeys c) (target s (command.ChangeKeys c))) _ KeysFull e)
+    (full_then (has_last_kvno (command.ChangeKeys c) (target s (command.ChangeKeys c))) _ KeysFull e)))))))))))))
 last_stops s call (command.AddPrinc c) change other e = absurd cc
 last_stops s call (command.ModPrinc c) change other e = absurd cc
 last_stops s call (command.RenPrinc c) change other e = absurd cc
@@ -74,11 +86,15 @@ last_stops s call command.Stash change other e = absurd cc
 last_stops s call command.Dump change other e = absurd cc
 
 -- no version of master keys is left
-many_stop : (s : State) (call : Call) (cmd : Command) (change other : Option PlainOp) (r : Refusal) → too_many_masters s cmd ≡ Some r
-    → first (causes_with s (record call { command = cmd }) change) ≡ first (causes_with s (record call { command = cmd }) other)
+many_stop : (s : State) (call : Call) (cmd : Command) (change other : Option PlainOp) (r : Refusal)
+    → too_many_masters s cmd ≡ Some r
+    → first (causes_with s (record call { command = cmd }) change)
+    ≡ first (causes_with s (record call { command = cmd }) other)
 unfolding causes_with
 many_stop s call (command.AddMaster etype) change other r e =
-    skip _ _ _ _ refl (skip _ _ _ _ refl (skip _ _ _ _ refl (skip _ _ _ _ refl (skip _ _ _ _ refl (skip _ _ _ _ refl (skip _ _ _ _ refl (skip _ _ _ _ refl (skip _ _ _ _ refl (skip _ _ _ _ refl (skip _ _ _ _ refl (skip _ _ _ _ refl (skip _ _ _ _ refl (skip _ _ _ _ refl (skip _ _ _ _ refl
+    skip _ _ _ _ refl (skip _ _ _ _ refl (skip _ _ _ _ refl
+    (skip _ _ _ _ refl (skip _ _ _ _ refl (skip _ _ _ _ refl (skip _ _ _ _ refl (skip _ _ _ _ refl (skip _ _ _ _ refl
+    (skip _ _ _ _ refl (skip _ _ _ _ refl (skip _ _ _ _ refl (skip _ _ _ _ refl (skip _ _ _ _ refl (skip _ _ _ _ refl
     (stop _ _ r _ _ e e)))))))))))))))
 many_stop s call (command.AddPrinc c) change other r e = absurd cc
 many_stop s call (command.ModPrinc c) change other r e = absurd cc
@@ -113,7 +129,8 @@ or_nothing : (a : Option Refusal) → option_or a None ≡ a
 or_nothing None = refl
 or_nothing (Some r) = refl
 
-module _ (s : State) (call : Call) (change : Option PlainOp) (next : call.due ≡ false) (made : HasVersions s call.command → change ≡ entry s call) where
+module _ (s : State) (call : Call) (change : Option PlainOp) (next : call.due ≡ false)
+    (made : HasVersions s call.command → change ≡ entry s call) where
   same_first : first (causes_with s call (entry s call)) ≡ first (causes_with s call change)
   same_first =
       elim (truth (has_last_kvno call.command (target s call.command))) [
@@ -121,7 +138,8 @@ module _ (s : State) (call : Call) (change : Option PlainOp) (next : call.due �
         | inr more ↦
             elim (either_way (too_many_masters s call.command)) [
               | inl many ↦ many_stop s call call.command (entry s call) change many.0 many.1
-              | inr few ↦ ap (λ (o : Option PlainOp). first (causes_with s call o)) (sym (made (record { keys = more; masters = few })))
+              | inr few ↦ ap (λ (o : Option PlainOp). first (causes_with s call o))
+                  (sym (made (record { keys = more; masters = few })))
             ]
       ]
 
@@ -131,7 +149,8 @@ module _ (s : State) (call : Call) (change : Option PlainOp) (next : call.due �
   refusal_is : refusal s call ≡ first (causes_with s call change)
   refusal_is =
       refusal_split s call
-      ∙ ap (option_or (first (causes_with s call (entry s call)))) (no_end (is_some (entry s call)) _ TimeEnd call.due next)
+      ∙ ap (option_or (first (causes_with s call (entry s call))))
+      (no_end (is_some (entry s call)) _ TimeEnd call.due next)
       ∙ or_nothing (first (causes_with s call (entry s call)))
       ∙ same_first
 
@@ -142,9 +161,15 @@ module _ (s : State) (call : Call) (change : Option PlainOp) (next : call.due �
     change_so : why ≡ None → change ≡ entry s call
     change_so none =
         let a = accepted_so none in
-        made (record { keys = (or_false (has_last_kvno call.command (target s call.command)) (is_some (new_keys call.command) && puts_many_keys change) a.kvnos).0; masters = a.masters })
+        made (record {
+          keys =
+              (or_false (has_last_kvno call.command (target s call.command))
+              (is_some (new_keys call.command) && puts_many_keys change) a.kvnos).0;
+          masters = a.masters;
+        })
 
-    room_so : IsValid (moment_of s call) s → IsCommand s.realm call.command → why ≡ None → (op : PlainOp) → change ≡ Some op → HasRoom (effect_on op s)
+    room_so : IsValid (moment_of s call) s → IsCommand s.realm call.command → why ≡ None → (op : PlainOp)
+        → change ≡ Some op → HasRoom (effect_on op s)
     room_so f is none op at =
         let a = subst (λ (o : Option PlainOp). IsAccepted s call call.command o) at (accepted_so none) in
         (change_valid s call f call.command op is a (sym (change_so none) ∙ at)).few
@@ -159,10 +184,12 @@ module _ (s : State) (call : Call) (change : Option PlainOp) (next : call.due �
 
 -- ---- what is done then
 
-pub does_refused : (s : State) (call : Call) (change : Option PlainOp) (why : Option Refusal) (r : Refusal) → IsDecided s call change why → why ≡ Some r → step s call ≡ answered s (reply.Refused r)
+pub does_refused : (s : State) (call : Call) (change : Option PlainOp) (why : Option Refusal) (r : Refusal)
+    → IsDecided s call change why → why ≡ Some r → step s call ≡ answered s (reply.Refused r)
 does_refused s call change why r d is = step_refused s call r (d.why_is ∙ is)
 
-pub does_performed : (s : State) (call : Call) (change : Option PlainOp) (why : Option Refusal) → IsDecided s call change why → why ≡ None → step s call ≡ performed s call change
+pub does_performed : (s : State) (call : Call) (change : Option PlainOp) (why : Option Refusal)
+    → IsDecided s call change why → why ≡ None → step s call ≡ performed s call change
 unfolding step unless_refused
 does_performed s call change why d is =
     let accepted_now : refusal s call ≡ None = d.why_is ∙ is in
@@ -170,21 +197,30 @@ does_performed s call change why d is =
 
 -- ---- the list of causes
 
-one_more : (a b : Option Refusal) (xs ys : List (Option Refusal)) → a ≡ b → xs ≡ ys → ◌≡◌ {A = List (Option Refusal)} (a ∷ xs) (b ∷ ys)
+one_more : (a b : Option Refusal) (xs ys : List (Option Refusal)) → a ≡ b → xs ≡ ys
+    → ◌≡◌ {A = List (Option Refusal)} (a ∷ xs) (b ∷ ys)
 one_more a b xs ys e h = ap (λ (o : Option Refusal). o ∷ xs) e ∙ ap (λ (os : List (Option Refusal)). b ∷ os) h
 
 module _ (s : State) (call : Call) (change : Option PlainOp) where
   pub causes_are : (a1 a2 a3 a4 a5 a6 a7 a8 a9 a10 a11 a12 a13 a14 a15 a16 a17 a18 a19 : Option Refusal)
-      → a1 ≡ unknown_master s call.command → a2 ≡ denied s call → a3 ≡ protected s call.command → a4 ≡ duplicate s call.command → a5 ≡ unknown_principal s call.command
-      → a6 ≡ locked_down s call change → a7 ≡ unknown_policy s change call.command → a8 ≡ policy_in_use s call.command → a9 ≡ too_short s call → a10 ≡ few_classes s call
-      → a11 ≡ pass_reused s call → a12 ≡ too_soon s call → a13 ≡ keys_full s change call.command → a14 ≡ unknown_string s call.command → a15 ≡ strings_full s call.command
-      → a16 ≡ too_many_masters s call.command → a17 ≡ no_active_master s call call.command → a18 ≡ rows_full s call.command → a19 ≡ too_large s change
-      → first (a1 ∷ a2 ∷ a3 ∷ a4 ∷ a5 ∷ a6 ∷ a7 ∷ a8 ∷ a9 ∷ a10 ∷ a11 ∷ a12 ∷ a13 ∷ a14 ∷ a15 ∷ a16 ∷ a17 ∷ a18 ∷ a19 ∷ []) ≡ first (causes_with s call change)
+      → a1 ≡ unknown_master s call.command → a2 ≡ denied s call → a3 ≡ protected s call.command
+      → a4 ≡ duplicate s call.command → a5 ≡ unknown_principal s call.command
+      → a6 ≡ locked_down s call change → a7 ≡ unknown_policy s change call.command → a8 ≡ policy_in_use s call.command
+      → a9 ≡ too_short s call → a10 ≡ few_classes s call
+      → a11 ≡ pass_reused s call → a12 ≡ too_soon s call → a13 ≡ keys_full s change call.command
+      → a14 ≡ unknown_string s call.command → a15 ≡ strings_full s call.command
+      → a16 ≡ too_many_masters s call.command → a17 ≡ no_active_master s call call.command
+      → a18 ≡ rows_full s call.command → a19 ≡ too_large s change
+      → first (a1 ∷ a2 ∷ a3 ∷ a4 ∷ a5 ∷ a6 ∷ a7 ∷ a8 ∷ a9 ∷ a10 ∷ a11 ∷ a12 ∷ a13 ∷ a14 ∷ a15 ∷ a16 ∷ a17 ∷ a18 ∷ a19
+      ∷ []) ≡ first (causes_with s call change)
   unfolding causes_with
-  causes_are a1 a2 a3 a4 a5 a6 a7 a8 a9 a10 a11 a12 a13 a14 a15 a16 a17 a18 a19 e1 e2 e3 e4 e5 e6 e7 e8 e9 e10 e11 e12 e13 e14 e15 e16 e17 e18 e19 =
+  causes_are a1 a2 a3 a4 a5 a6 a7 a8 a9 a10 a11 a12 a13 a14 a15 a16 a17 a18 a19 e1 e2 e3 e4 e5 e6 e7 e8 e9 e10 e11 e12
+      e13 e14 e15 e16 e17 e18 e19 =
       ap first
-      (one_more _ _ _ _ e1 (one_more _ _ _ _ e2 (one_more _ _ _ _ e3 (one_more _ _ _ _ e4 (one_more _ _ _ _ e5 (one_more _ _ _ _ e6 (one_more _ _ _ _ e7 (one_more _ _ _ _ e8 (one_more _ _ _ _ e9 (one_more _ _ _ _ e10
-      (one_more _ _ _ _ e11 (one_more _ _ _ _ e12 (one_more _ _ _ _ e13 (one_more _ _ _ _ e14 (one_more _ _ _ _ e15 (one_more _ _ _ _ e16 (one_more _ _ _ _ e17 (one_more _ _ _ _ e18 (one_more _ _ _ _ e19 refl)))))))))))))))))))
+      (one_more _ _ _ _ e1 (one_more _ _ _ _ e2 (one_more _ _ _ _ e3 (one_more _ _ _ _ e4 (one_more _ _ _ _ e5
+      (one_more _ _ _ _ e6 (one_more _ _ _ _ e7 (one_more _ _ _ _ e8 (one_more _ _ _ _ e9 (one_more _ _ _ _ e10
+      (one_more _ _ _ _ e11 (one_more _ _ _ _ e12 (one_more _ _ _ _ e13 (one_more _ _ _ _ e14 (one_more _ _ _ _ e15
+      (one_more _ _ _ _ e16 (one_more _ _ _ _ e17 (one_more _ _ _ _ e18 (one_more _ _ _ _ e19 refl)))))))))))))))))))
 
 -- ---- answers and moments
 
@@ -199,10 +235,14 @@ later_secs a b lt = elim (truth (nat_lt (micros a) (micros b))) [
 ]
 
 -- what is found by the printed form of the name that is needed
-by_printed : (princs : List PlainPrinc) (name : Option NameParts) → option_and_then (λ n. princ_named n princs) (option_map printed name) ≡ option_and_then (named_in princs) name
+by_printed : (princs : List PlainPrinc) (name : Option NameParts)
+    → option_and_then (λ n. princ_named n princs) (option_map printed name) ≡ option_and_then (named_in princs) name
 by_printed princs None = refl
 by_printed princs (Some name) = refl
 
-pub target_is : (s : State) (cmd : Command) (needed : Option (List ℕ)) (found : Option PlainPrinc) → needed ≡ option_map printed (needed_name cmd) → found ≡ option_and_then (λ n. princ_named n s.princs) needed → found ≡ target s cmd
+pub target_is : (s : State) (cmd : Command) (needed : Option (List ℕ)) (found : Option PlainPrinc)
+    → needed ≡ option_map printed (needed_name cmd) → found ≡ option_and_then (λ n. princ_named n s.princs) needed
+    → found ≡ target s cmd
 unfolding target
-target_is s cmd needed found texts is = is ∙ ap (option_and_then (λ n. princ_named n s.princs)) texts ∙ by_printed s.princs (needed_name cmd)
+target_is s cmd needed found texts is =
+    is ∙ ap (option_and_then (λ n. princ_named n s.princs)) texts ∙ by_printed s.princs (needed_name cmd)

@@ -1,5 +1,6 @@
 -- The point of a change.
-use Rattle.std.proofs.Common.{◌≡◌, ℕ, ◌+◌, ◌*◌, ◌<◌, ◌≤◌, ◌^◌, Bool, true, false, ◌&&◌, refl, sym, ap, subst, ◌∙◌, ◌⊎◌, inl, inr, arith, eqb-true}
+use Rattle.std.proofs.Common.{◌≡◌, ℕ, ◌+◌, ◌*◌, ◌<◌, ◌≤◌, ◌^◌, Bool, true, false, ◌&&◌}
+use Rattle.std.proofs.Common.{refl, sym, ap, subst, ◌∙◌, ◌⊎◌, inl, inr, arith, eqb-true}
 use Rattle.std.specs.Prelude.{if◌then◌else◌, nat_eq, nat_lt}
 use Rattle.std.proofs.lemmas.Bool.{ltb-true, ltb-false}
 use Rattle.kdb_base.specs.Moment.{Moment}
@@ -49,7 +50,10 @@ not_whole n lt e = grind arith
 next_is : (m : Moment) → IsMoment m → is_last m ≡ false → IsMoment (next_moment m)
 unfolding next_moment
 next_is m f more = elim (truth (nat_eq m.usecs 999999)) [
-  | inl e ↦ rw e (record { secs = not_greatest m.secs f.secs (last_parts (nat_eq m.secs 4294967295) (nat_eq m.usecs 999999) more e); usecs = omega arith })
+  | inl e ↦ rw e (record {
+    secs = not_greatest m.secs f.secs (last_parts (nat_eq m.secs 4294967295) (nat_eq m.usecs 999999) more e);
+    usecs = omega arith;
+  })
   | inr e ↦ rw e (record { secs = f.secs; usecs = not_whole m.usecs f.usecs e })
 ]
 
@@ -77,7 +81,11 @@ module _ (s : State) (call : Call) (p : IsPoint s.point) (c : IsMoment call.mome
   state_before = first_later s.point.time call.moment
 
   -- the time of a change, where it is not behind the greatest
-  pub point_is : (due : Bool) → call.due ≡ due → (due ≡ false → s.point.sno < 4294967295) → (due ≡ true → is_last s.point.time ≡ false) → IsPoint (change_point s call)
+  pub point_is : (due : Bool) → call.due ≡ due → (due ≡ false → s.point.sno < 4294967295)
+      → (due ≡ true → is_last s.point.time ≡ false) → IsPoint (change_point s call)
   unfolding point_after
   point_is false e serial more = let lt = serial refl in rw e (record { sno = omega arith; time = moment_is })
-  point_is true e serial more = rw e (record { sno = omega arith; time = later_is call.moment (next_moment s.point.time) c (next_is s.point.time p.time (more refl)) })
+  point_is true e serial more = rw e (record {
+    sno = omega arith;
+    time = later_is call.moment (next_moment s.point.time) c (next_is s.point.time p.time (more refl));
+  })

@@ -1,5 +1,6 @@
 -- What a step is told of the log decides on nothing but the point of its change.
-use Rattle.std.proofs.Common.{◌≡◌, ℕ, Bool, true, false, ◌&&◌, List, [], ◌∷◌, Option, Some, None, refl, sym, ap, subst, ◌∙◌, ◌⊎◌, inl, inr}
+use Rattle.std.proofs.Common.{◌≡◌, ℕ, Bool, true, false, ◌&&◌, List, [], ◌∷◌, Option}
+use Rattle.std.proofs.Common.{Some, None, refl, sym, ap, subst, ◌∙◌, ◌⊎◌, inl, inr}
 use Rattle.std.specs.Prelude.{is_some, if◌then◌else◌}
 use Rattle.std.specs.Option.{option_or}
 use Rattle.acl_text.specs.declared.rules.AclLine.{AclLine}
@@ -25,9 +26,11 @@ use Rattle.princ_name.specs.Names.{NameParts}
 use Rattle.kdb_model.proofs.Stepping.{either_way, refusal_split, step_commits, step_reads, step_refused}
 
 abbrev with_due : Bool → NameParts → Option (List AclLine) → Command → Moment → List ℕ → Call
-with_due due client access command moment random = record { client = client; access = access; command = command; moment = moment; random = random; due = due }
+with_due due client access command moment random =
+    record { client = client; access = access; command = command; moment = moment; random = random; due = due }
 
-module _ (s : State) (client : NameParts) (access : Option (List AclLine)) (given : Command) (moment : Moment) (random : List ℕ) where
+module _ (s : State) (client : NameParts) (access : Option (List AclLine)) (given : Command) (moment : Moment)
+    (random : List ℕ) where
   abbrev Anew : Call
   Anew = with_due true client access given moment random
 
@@ -122,9 +125,11 @@ module _ (s : State) (client : NameParts) (access : Option (List AclLine)) (give
   same_reply command.Dump a b = refl
 
 abbrev Same : State → NameParts → Option (List AclLine) → Moment → List ℕ → Option PlainOp → Command → Type 0
-Same s client access moment random change cmd = causes_with s (with_due true client access cmd moment random) change ≡ causes_with s (with_due false client access cmd moment random) change
+Same s client access moment random change cmd = causes_with s (with_due true client access cmd moment random) change
+    ≡ causes_with s (with_due false client access cmd moment random) change
 
-same_causes : (s : State) (client : NameParts) (access : Option (List AclLine)) (moment : Moment) (random : List ℕ) (change : Option PlainOp) (cmd : Command) → Same s client access moment random change cmd
+same_causes : (s : State) (client : NameParts) (access : Option (List AclLine)) (moment : Moment) (random : List ℕ)
+    (change : Option PlainOp) (cmd : Command) → Same s client access moment random change cmd
 unfolding causes_with limits_for
 same_causes s client access moment random change (command.AddPrinc c) = refl
 same_causes s client access moment random change (command.ModPrinc c) = refl
@@ -161,7 +166,8 @@ module _ (s : State) (call : Call) where
   entry_own false e = ap (λ (d : Bool). entry s (told d call)) (sym e)
   entry_own true e = sym entry_same ∙ ap (λ (d : Bool). entry s (told d call)) (sym e)
 
-  causes_same : (change : Option PlainOp) → causes_with s (told true call) change ≡ causes_with s (told false call) change
+  causes_same : (change : Option PlainOp)
+      → causes_with s (told true call) change ≡ causes_with s (told false call) change
   causes_same change = same_causes s call.client call.access call.moment call.random change call.command
 
   or_nothing : (a : Option Refusal) → option_or a None ≡ a
@@ -176,23 +182,32 @@ module _ (s : State) (call : Call) where
   split_next : refusal s (told false call) ≡ first (causes_with s (told false call) (entry s (told false call)))
   split_next =
       refusal_split s (told false call)
-      ∙ ap (option_or (first (causes_with s (told false call) (entry s (told false call))))) (not_due (is_some (entry s (told false call))) TimeEnd)
+      ∙ ap (option_or (first (causes_with s (told false call) (entry s (told false call)))))
+      (not_due (is_some (entry s (told false call))) TimeEnd)
       ∙ or_nothing (first (causes_with s (told false call) (entry s (told false call))))
 
-  split_anew : refusal s (told true call) ≡ option_or (refusal s (told false call)) (when (is_some (entry s (told false call)) && true && is_last s.point.time) TimeEnd)
+  split_anew : refusal s (told true call) ≡ option_or (refusal s (told false call))
+      (when (is_some (entry s (told false call)) && true && is_last s.point.time) TimeEnd)
   split_anew =
       refusal_split s (told true call)
-      ∙ ap (λ (o : Option PlainOp). option_or (first (causes_with s (told true call) o)) (when (is_some o && true && is_last s.point.time) TimeEnd)) entry_same
-      ∙ ap (λ (causes : List (Option Refusal)). option_or (first causes) (when (is_some (entry s (told false call)) && true && is_last s.point.time) TimeEnd)) (causes_same (entry s (told false call)))
-      ∙ ap (λ (o : Option Refusal). option_or o (when (is_some (entry s (told false call)) && true && is_last s.point.time) TimeEnd)) (sym split_next)
+      ∙ ap (λ (o : Option PlainOp). option_or (first (causes_with s (told true call) o))
+      (when (is_some o && true && is_last s.point.time) TimeEnd)) entry_same
+      ∙ ap (λ (causes : List (Option Refusal)).
+      option_or (first causes) (when (is_some (entry s (told false call)) && true && is_last s.point.time) TimeEnd))
+      (causes_same (entry s (told false call)))
+      ∙ ap (λ (o : Option Refusal).
+      option_or o (when (is_some (entry s (told false call)) && true && is_last s.point.time) TimeEnd)) (sym split_next)
 
   pub refused_both : (why : Refusal) → refusal s (told false call) ≡ Some why → refusal s (told true call) ≡ Some why
-  refused_both why e = split_anew ∙ ap (λ (o : Option Refusal). option_or o (when (is_some (entry s (told false call)) && true && is_last s.point.time) TimeEnd)) e
+  refused_both why e = split_anew ∙ ap (λ (o : Option Refusal).
+      option_or o (when (is_some (entry s (told false call)) && true && is_last s.point.time) TimeEnd)) e
 
-  accepted_anew : refusal s (told false call) ≡ None → (o : Option PlainOp) → entry s (told false call) ≡ o → refusal s (told true call) ≡ when (is_some o && true && is_last s.point.time) TimeEnd
+  accepted_anew : refusal s (told false call) ≡ None → (o : Option PlainOp) → entry s (told false call) ≡ o
+      → refusal s (told true call) ≡ when (is_some o && true && is_last s.point.time) TimeEnd
   accepted_anew e o is =
       split_anew
-      ∙ ap (λ (r : Option Refusal). option_or r (when (is_some (entry s (told false call)) && true && is_last s.point.time) TimeEnd)) e
+      ∙ ap (λ (r : Option Refusal).
+      option_or r (when (is_some (entry s (told false call)) && true && is_last s.point.time) TimeEnd)) e
       ∙ ap (λ (change : Option PlainOp). when (is_some change && true && is_last s.point.time) TimeEnd) is
 
   next_entry : (o : Option PlainOp) → entry s call ≡ o → entry s (told false call) ≡ o
@@ -205,30 +220,44 @@ module _ (s : State) (call : Call) where
   entry_told false = next_entry (entry s call) refl
   entry_told true = anew_entry (entry s call) refl
 
-  pub reads_both : refusal s (told false call) ≡ None → entry s call ≡ None → step s (told true call) ≡ step s (told false call)
+  pub reads_both : refusal s (told false call) ≡ None → entry s call ≡ None
+      → step s (told true call) ≡ step s (told false call)
   reads_both accepted is =
       step_reads s (told true call) (accepted_anew accepted None (next_entry None is)) (anew_entry None is)
-      ∙ ap (answered s) (same_reading s call.client call.access call.command call.moment call.random call.command (target s call.command))
+      ∙ ap (answered s)
+      (same_reading s call.client call.access call.command call.moment call.random call.command (target s call.command))
       ∙ sym (step_reads s (told false call) accepted (next_entry None is))
 
-  pub ended_anew : (op : PlainOp) → refusal s (told false call) ≡ None → entry s call ≡ Some op → is_last s.point.time ≡ true → refusal s (told true call) ≡ Some TimeEnd
-  ended_anew op accepted is last = accepted_anew accepted (Some op) (next_entry (Some op) is) ∙ ap (λ (b : Bool). when b TimeEnd) last
+  pub ended_anew : (op : PlainOp) → refusal s (told false call) ≡ None → entry s call ≡ Some op
+      → is_last s.point.time ≡ true → refusal s (told true call) ≡ Some TimeEnd
+  ended_anew op accepted is last =
+      accepted_anew accepted (Some op) (next_entry (Some op) is) ∙ ap (λ (b : Bool). when b TimeEnd) last
 
-  pub not_ended : (op : PlainOp) → refusal s (told false call) ≡ None → entry s call ≡ Some op → is_last s.point.time ≡ false → refusal s (told true call) ≡ None
-  not_ended op accepted is more = accepted_anew accepted (Some op) (next_entry (Some op) is) ∙ ap (λ (b : Bool). when b TimeEnd) more
+  pub not_ended : (op : PlainOp) → refusal s (told false call) ≡ None → entry s call ≡ Some op
+      → is_last s.point.time ≡ false → refusal s (told true call) ≡ None
+  not_ended op accepted is more =
+      accepted_anew accepted (Some op) (next_entry (Some op) is) ∙ ap (λ (b : Bool). when b TimeEnd) more
 
-  anew_is : (op : PlainOp) → refusal s (told false call) ≡ None → entry s call ≡ Some op → is_last s.point.time ≡ false → step s (told true call) ≡ committed s (told true call) op
-  anew_is op accepted is more = step_commits s (told true call) op (not_ended op accepted is more) (anew_entry (Some op) is)
+  anew_is : (op : PlainOp) → refusal s (told false call) ≡ None → entry s call ≡ Some op → is_last s.point.time ≡ false
+      → step s (told true call) ≡ committed s (told true call) op
+  anew_is op accepted is more =
+      step_commits s (told true call) op (not_ended op accepted is more) (anew_entry (Some op) is)
 
-  next_is : (op : PlainOp) → refusal s (told false call) ≡ None → entry s call ≡ Some op → step s (told false call) ≡ committed s (told false call) op
+  next_is : (op : PlainOp) → refusal s (told false call) ≡ None → entry s call ≡ Some op
+      → step s (told false call) ≡ committed s (told false call) op
   next_is op accepted is = step_commits s (told false call) op accepted (next_entry (Some op) is)
 
-  pub state_anew : (op : PlainOp) → refusal s (told false call) ≡ None → entry s call ≡ Some op → is_last s.point.time ≡ false
-      → (step s (told true call)).state ≡ at_point (step s (told true call)).state.point (step s (told false call)).state
+  pub state_anew : (op : PlainOp) → refusal s (told false call) ≡ None → entry s call ≡ Some op
+      → is_last s.point.time ≡ false
+      → (step s (told true call)).state
+      ≡ at_point (step s (told true call)).state.point (step s (told false call)).state
   state_anew op accepted is more = rw (anew_is op accepted is more, next_is op accepted is) refl
 
-  pub reply_anew : (op : PlainOp) → refusal s (told false call) ≡ None → entry s call ≡ Some op → is_last s.point.time ≡ false
-      → (step s (told true call)).reply ≡ reply_at (step s (told true call)).state.point (step s (told false call)).reply
+  pub reply_anew : (op : PlainOp) → refusal s (told false call) ≡ None → entry s call ≡ Some op
+      → is_last s.point.time ≡ false
+      → (step s (told true call)).reply
+      ≡ reply_at (step s (told true call)).state.point (step s (told false call)).reply
   reply_anew op accepted is more =
       rw (anew_is op accepted is more, next_is op accepted is)
-      (same_reply s call.client call.access call.command call.moment call.random call.command (change_point s (told true call)) (change_point s (told false call)))
+      (same_reply s call.client call.access call.command call.moment call.random call.command
+      (change_point s (told true call)) (change_point s (told false call)))

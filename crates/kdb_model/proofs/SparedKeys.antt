@@ -1,4 +1,5 @@
--- A change that is not refused, and is none of the master keys, is of another principal than those with the database's own keys.
+-- A change that is not refused, and is none of the master keys, is of another principal than those with the database's
+-- own keys.
 use Rattle.std.proofs.Common.{◌≡◌, ℕ, Bool, true, false, List, [], ◌∷◌, Option, Some, None, refl, sym, ap, subst, ◌∙◌}
 use Rattle.std.specs.List.{list_any}
 use Rattle.kadm_commands.specs.declared.commands.ChangeKeys.{ChangeKeys}
@@ -15,7 +16,8 @@ use Rattle.kdb_plain.specs.Changes.{IsOrdinary, Spares, name_of}
 use Rattle.kdb_plain.specs.States.{policy_named, princ_named}
 use Rattle.kdb_plain.specs.Strings.{with_string, without_string}
 use Rattle.kdb_plain.specs.declared.changes.PlainOp.{PlainOp}
-use Rattle.kdb_plain.specs.declared.changes.PlainOp.TheVariants.{PutPrinc, DropPrinc, Rename, PutPolicy, DropPolicy, PutMasters}
+use Rattle.kdb_plain.specs.declared.changes.PlainOp.TheVariants.{PutPrinc, DropPrinc, Rename}
+use Rattle.kdb_plain.specs.declared.changes.PlainOp.TheVariants.{PutPolicy, DropPolicy, PutMasters}
 use Rattle.kdb_plain.specs.declared.princs.PlainPrinc.{PlainPrinc}
 use Rattle.kdb_plain.specs.declared.states.State.{State}
 use Rattle.serving_versions.proofs.MasterSets.{is_there}
@@ -30,10 +32,12 @@ module _ (s : State) (call : Call) where
   of_some : (x y : PlainOp) → ◌≡◌ {A = Option PlainOp} (Some x) (Some y) → x ≡ y
   of_some x y e = cc
 
-  spares_put : (name : NameParts) (r : PlainPrinc) → r.name ≡ printed name → is_protected s.realm name ≡ false → Spares s.realm (PutPrinc r)
+  spares_put : (name : NameParts) (r : PlainPrinc) → r.name ≡ printed name → is_protected s.realm name ≡ false
+      → Spares s.realm (PutPrinc r)
   spares_put name r named other = subst (IsOrdinary s.realm) (sym named) (not_own s.realm name other)
 
-  found_name : (name : NameParts) (q : PlainPrinc) → princ_named (printed name) s.princs ≡ Some q → q.name ≡ printed name
+  found_name : (name : NameParts) (q : PlainPrinc) → princ_named (printed name) s.princs ≡ Some q
+      → q.name ≡ printed name
   found_name name q there = named_so name_of (printed name) s.princs q (is_there (printed name) s.princs q there)
 
   rekeyed_name : (c : ChangeKeys) (q : PlainPrinc) → (rekeyed s call c q).name ≡ q.name
@@ -44,16 +48,20 @@ module _ (s : State) (call : Call) where
   unfolding purged
   purged_name c q = refl
 
-  spares : (cmd : Command) (op : PlainOp) → list_any (is_protected s.realm) (touched cmd) ≡ false → is_master_line cmd ≡ false → entry_of s call cmd ≡ Some op → Spares s.realm op
+  spares : (cmd : Command) (op : PlainOp) → list_any (is_protected s.realm) (touched cmd) ≡ false
+      → is_master_line cmd ≡ false → entry_of s call cmd ≡ Some op → Spares s.realm op
   unfolding entry_of restrung renamed
   spares (command.AddPrinc c) op others line e =
-      subst (Spares s.realm) (of_some (PutPrinc (added s call c)) op e) (spares_put c.name (added s call c) (added_name s call c) (one_name s.realm c.name others))
+      subst (Spares s.realm) (of_some (PutPrinc (added s call c)) op e)
+      (spares_put c.name (added s call c) (added_name s call c) (one_name s.realm c.name others))
   spares (command.ModPrinc c) op others line e =
       let m = mapped (λ q. PutPrinc (modified s call c q)) (princ_named (printed c.name) s.princs) op e in
-      subst (Spares s.realm) m.1.1 (spares_put c.name (modified s call c m.0) (modified_name s call c m.0 ∙ found_name c.name m.0 m.1.0) (one_name s.realm c.name others))
+      subst (Spares s.realm) m.1.1 (spares_put c.name (modified s call c m.0)
+      (modified_name s call c m.0 ∙ found_name c.name m.0 m.1.0) (one_name s.realm c.name others))
   spares (command.ChangeKeys c) op others line e =
       let m = mapped (λ q. PutPrinc (rekeyed s call c q)) (princ_named (printed c.name) s.princs) op e in
-      subst (Spares s.realm) m.1.1 (spares_put c.name (rekeyed s call c m.0) (rekeyed_name c m.0 ∙ found_name c.name m.0 m.1.0) (one_name s.realm c.name others))
+      subst (Spares s.realm) m.1.1 (spares_put c.name (rekeyed s call c m.0)
+      (rekeyed_name c m.0 ∙ found_name c.name m.0 m.1.0) (one_name s.realm c.name others))
   spares (command.RenPrinc c) op others line e =
       let m = mapped (λ q. Rename (printed c.name) (renamed s call c q)) (princ_named (printed c.name) s.princs) op e in
       let both = two_names s.realm c.name c.new_name others in
@@ -63,13 +71,18 @@ module _ (s : State) (call : Call) where
       subst (Spares s.realm) m.1.1 (not_own s.realm name (one_name s.realm name others))
   spares (command.PurgeKeys c) op others line e =
       let m = mapped (λ q. PutPrinc (purged s call c q)) (princ_named (printed c.name) s.princs) op e in
-      subst (Spares s.realm) m.1.1 (spares_put c.name (purged s call c m.0) (purged_name c m.0 ∙ found_name c.name m.0 m.1.0) (one_name s.realm c.name others))
+      subst (Spares s.realm) m.1.1 (spares_put c.name (purged s call c m.0)
+      (purged_name c m.0 ∙ found_name c.name m.0 m.1.0) (one_name s.realm c.name others))
   spares (command.SetString c) op others line e =
-      let m = mapped (λ q. PutPrinc (restrung s call (with_string c.key c.value q.strings) q)) (princ_named (printed c.name) s.princs) op e in
-      subst (Spares s.realm) m.1.1 (spares_put c.name (restrung s call (with_string c.key c.value m.0.strings) m.0) (found_name c.name m.0 m.1.0) (one_name s.realm c.name others))
+      let m = mapped (λ q. PutPrinc (restrung s call (with_string c.key c.value q.strings) q))
+      (princ_named (printed c.name) s.princs) op e in
+      subst (Spares s.realm) m.1.1 (spares_put c.name (restrung s call (with_string c.key c.value m.0.strings) m.0)
+      (found_name c.name m.0 m.1.0) (one_name s.realm c.name others))
   spares (command.DelString c) op others line e =
-      let m = mapped (λ q. PutPrinc (restrung s call (without_string c.key q.strings) q)) (princ_named (printed c.name) s.princs) op e in
-      subst (Spares s.realm) m.1.1 (spares_put c.name (restrung s call (without_string c.key m.0.strings) m.0) (found_name c.name m.0 m.1.0) (one_name s.realm c.name others))
+      let m = mapped (λ q. PutPrinc (restrung s call (without_string c.key q.strings) q))
+      (princ_named (printed c.name) s.princs) op e in
+      subst (Spares s.realm) m.1.1 (spares_put c.name (restrung s call (without_string c.key m.0.strings) m.0)
+      (found_name c.name m.0 m.1.0) (one_name s.realm c.name others))
   spares (command.AddPolicy p) op others line e = subst (Spares s.realm) (of_some (PutPolicy p) op e) tt
   spares (command.ModPolicy c) op others line e =
       let m = mapped (λ p. PutPolicy (changed_policy c p)) (policy_named c.name s.policies) op e in
@@ -92,7 +105,8 @@ module _ (s : State) (call : Call) where
   spares command.Stash op others line e = absurd cc
   spares command.Dump op others line e = absurd cc
 
-  pub change_spares : (op : PlainOp) → refusal s call ≡ None → entry s call ≡ Some op → is_master_line call.command ≡ false → Spares s.realm op
+  pub change_spares : (op : PlainOp) → refusal s call ≡ None → entry s call ≡ Some op
+      → is_master_line call.command ≡ false → Spares s.realm op
   change_spares op accepted_now e line =
       let a = accepted s call (entry s call) (accepted_parts s call accepted_now).0 in
       spares call.command op a.unprotected line e

@@ -26,7 +26,8 @@ none_then g None e = refl
 none_then g (Some x) e = e x
 
 -- without K/M nothing is changed of the master keys
-pub no_master : (s : State) (call : Call) (cmd : Command) → is_master_line cmd ≡ true → princ_named (master_name s.realm) s.princs ≡ None → entry_of s call cmd ≡ None
+pub no_master : (s : State) (call : Call) (cmd : Command) → is_master_line cmd ≡ true
+    → princ_named (master_name s.realm) s.princs ≡ None → entry_of s call cmd ≡ None
 unfolding entry_of
 no_master s call (command.AddMaster etype) line gone = none_then _ (last_or None s.masters) (λ newest. rw gone refl)
 no_master s call (command.UseMaster c) line gone = rw gone refl
@@ -55,7 +56,8 @@ no_master s call command.Stash line gone = absurd cc
 no_master s call command.Dump line gone = absurd cc
 
 -- what is changed of the principal that a command needs
-pub at_target : (s : State) (call : Call) (cmd : Command) (q : PlainPrinc) → target s cmd ≡ Some q → entry_of s call cmd ≡ princ_change s call cmd q
+pub at_target : (s : State) (call : Call) (cmd : Command) (q : PlainPrinc) → target s cmd ≡ Some q
+    → entry_of s call cmd ≡ princ_change s call cmd q
 unfolding entry_of princ_change target
 at_target s call (command.ModPrinc c) q e = rw e refl
 at_target s call (command.ChangeKeys c) q e = rw e refl
@@ -84,7 +86,8 @@ at_target s call command.Stash q e = absurd cc
 at_target s call command.Dump q e = absurd cc
 
 -- where it is not there, or none is needed
-pub no_target : (s : State) (call : Call) (cmd : Command) → changes_state cmd ≡ false → target s cmd ≡ None → entry_of s call cmd ≡ None
+pub no_target : (s : State) (call : Call) (cmd : Command) → changes_state cmd ≡ false → target s cmd ≡ None
+    → entry_of s call cmd ≡ None
 unfolding entry_of target
 no_target s call (command.ModPrinc c) other e = rw e refl
 no_target s call (command.ChangeKeys c) other e = rw e refl

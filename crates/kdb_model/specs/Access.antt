@@ -1,5 +1,6 @@
 -- What a command asks of the access list, and what the list denies and restricts.
-use Rattle.std.specs.Prelude.{ℕ, Bool, true, false, not, ◌&&◌, List, [], ◌∷◌, codes, filter, Option, Some, None, is_some, option_and_then, if◌then◌else◌}
+use Rattle.std.specs.Prelude.{ℕ, Bool, true, false, not, ◌&&◌, List, [], ◌∷◌, codes, filter}
+use Rattle.std.specs.Prelude.{Option, Some, None, is_some, option_and_then, if◌then◌else◌}
 use Rattle.std.specs.Str.{bytes_eq}
 use Rattle.acl_text.specs.Decisions.{Decision, decision}
 use Rattle.acl_text.specs.declared.limits.Limits.{Limits}
@@ -58,12 +59,14 @@ setting = 115
 abbrev pub master_parts : List ℕ → NameParts
 master_parts realm = record { parts = codes "K" ∷ codes "M" ∷ []; realm = realm }
 
--- what a command asks for, one after the other; a rename asks for a deletion and then for an addition without restrictions
+-- what a command asks for, one after the other; a rename asks for a deletion and then for an addition without
+-- restrictions
 unfoldable pub asks : List ℕ → Command → List Asking
 asks realm (command.AddPrinc c) = asking adding c.name ∷ []
 asks realm (command.ModPrinc c) = asking modifying c.name ∷ []
 asks realm (command.ChangeKeys c) = asking changing c.name ∷ []
-asks realm (command.RenPrinc c) = asking deleting c.name ∷ record { letter = adding; target = Some c.new_name; plainly = true } ∷ []
+asks realm (command.RenPrinc c) =
+    asking deleting c.name ∷ record { letter = adding; target = Some c.new_name; plainly = true } ∷ []
 asks realm (command.DelPrinc name) = asking deleting name ∷ []
 asks realm (command.GetPrinc name) = asking inquiring name ∷ []
 asks realm (command.ListPrincs glob) = asking_alone listing ∷ []
@@ -110,11 +113,13 @@ denied_in lines client (asked ∷ others) = if allows asked (decision lines clie
 -- without a list nothing is denied
 abbrev pub denied_by : List ℕ → NameParts → Command → Option (List AclLine) → Option Refusal
 denied_by realm client asked None = None
-denied_by realm client asked (Some lines) = if is_own client asked then None else denied_in lines client (asks realm asked)
+denied_by realm client asked (Some lines) =
+    if is_own client asked then None else denied_in lines client (asks realm asked)
 
 -- the restrictions of the line that decides on an operation on a principal
 unfoldable pub limits_for : Call → ℕ → NameParts → Option Limits
-limits_for call letter name = option_and_then (λ lines. (decision lines call.client letter (Some name)).limits) call.access
+limits_for call letter name =
+    option_and_then (λ lines. (decision lines call.client letter (Some name)).limits) call.access
 
 abbrev pub privileges_by : NameParts → Option (List AclLine) → List ℕ
 privileges_by client None = codes "admcilspe"

@@ -73,7 +73,8 @@ changes_state _ = false
 
 -- ---- decisions
 
--- the refusal is that of the command; where there is none, the change is its own, there is room for it, and a version is left for it
+-- the refusal is that of the command; where there is none, the change is its own, there is room for it, and a version
+-- is left for it
 pub record IsDecided (s : State) (call : Call) (change : Option PlainOp) (why : Option Refusal) : Type 0 where
   pub why_is : refusal s call ≡ why
   pub change_is : why ≡ None → change ≡ entry s call

@@ -22,7 +22,8 @@ pub record Call : Type 0 where
   pub due : Bool
 
 abbrev pub call_of : NameParts → Option (List AclLine) → Command → Moment → List ℕ → Bool → Call
-call_of client access command moment random due = record { client = client; access = access; command = command; moment = moment; random = random; due = due }
+call_of client access command moment random due =
+    record { client = client; access = access; command = command; moment = moment; random = random; due = due }
 
 -- the later of the clock's time and that of the last change
 abbrev pub moment_of : State → Call → Moment
@@ -33,14 +34,15 @@ secs_of s call = (moment_of s call).secs
 
 -- a microsecond later
 unfoldable pub next_moment : Moment → Moment
-next_moment m = if nat_eq m.usecs 999999 then record { secs = m.secs + 1; usecs = 0 } else record { secs = m.secs; usecs = m.usecs + 1 }
+next_moment m = if nat_eq m.usecs 999999 then record { secs = m.secs + 1; usecs = 0 }
+    else record { secs = m.secs; usecs = m.usecs + 1 }
 
 -- nothing is later
 abbrev pub is_last : Moment → Bool
 is_last m = nat_eq m.secs 4294967295 && nat_eq m.usecs 999999
 
--- The point of the next change of a state, by a clock. Where the log is to start anew, that is made first, with serial 1, at the
--- later of the clock's time and the microsecond behind the last change, and the change has that time too.
+-- The point of the next change of a state, by a clock. Where the log is to start anew, that is made first, with serial
+-- 1, at the later of the clock's time and the microsecond behind the last change, and the change has that time too.
 unfoldable pub point_after : State → Moment → Bool → Point
 point_after s clock due = if due
     then record { sno = 2; time = later_moment clock (next_moment s.point.time) }

@@ -33,15 +33,20 @@ entry_of s call (command.ChangeKeys c) = on_named s c.name (λ q. PutPrinc (reke
 entry_of s call (command.RenPrinc c) = on_named s c.name (λ q. Rename (printed c.name) (renamed s call c q))
 entry_of s call (command.DelPrinc name) = on_named s name (λ _. DropPrinc (printed name))
 entry_of s call (command.PurgeKeys c) = on_named s c.name (λ q. PutPrinc (purged s call c q))
-entry_of s call (command.SetString c) = on_named s c.name (λ q. PutPrinc (restrung s call (with_string c.key c.value q.strings) q))
-entry_of s call (command.DelString c) = on_named s c.name (λ q. PutPrinc (restrung s call (without_string c.key q.strings) q))
+entry_of s call (command.SetString c) =
+    on_named s c.name (λ q. PutPrinc (restrung s call (with_string c.key c.value q.strings) q))
+entry_of s call (command.DelString c) =
+    on_named s c.name (λ q. PutPrinc (restrung s call (without_string c.key q.strings) q))
 entry_of s call (command.AddPolicy p) = Some (PutPolicy p)
-entry_of s call (command.ModPolicy c) = option_map (λ p. PutPolicy (changed_policy c p)) (policy_named c.name s.policies)
+entry_of s call (command.ModPolicy c) =
+    option_map (λ p. PutPolicy (changed_policy c p)) (policy_named c.name s.policies)
 entry_of s call (command.DelPolicy name) = option_map (λ _. DropPolicy name) (policy_named name s.policies)
 entry_of s call (command.AddMaster etype) =
-    option_and_then (λ newest. on_master s (adds_master s (new_master (new_etype etype newest) call.random s.masters))) (last_or None s.masters)
+    option_and_then (λ newest. on_master s (adds_master s (new_master (new_etype etype newest) call.random s.masters)))
+    (last_or None s.masters)
 entry_of s call (command.UseMaster c) = on_master s (uses_version s c.version (use_secs s call c))
-entry_of s call command.PurgeMasters = unless_none_dead (dead_versions s (secs_of s call)) (on_master s (purges_masters s (secs_of s call)))
+entry_of s call command.PurgeMasters =
+    unless_none_dead (dead_versions s (secs_of s call)) (on_master s (purges_masters s (secs_of s call)))
 entry_of s call _ = None
 
 abbrev pub entry : State → Call → Option PlainOp

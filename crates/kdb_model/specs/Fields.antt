@@ -1,5 +1,5 @@
--- What commands make of the fields of a principal. All of it is over records without keys, so that it is said once of records as they
--- are kept and of plain ones.
+-- What commands make of the fields of a principal. All of it is over records without keys, so that it is said once of
+-- records as they are kept and of plain ones.
 use Rattle.std.specs.Prelude.{ℕ, ◌+◌, ◌==◌, Bool, List, [], Option, Some, None, min, unwrap_or, bit_and, if◌then◌else◌}
 use Rattle.std.specs.Int.{bit_not}
 use Rattle.std.specs.Int.Width.{w32}
@@ -41,10 +41,24 @@ chosen (Some Cleared) standing = None
 -- ---- restrictions
 
 abbrev pub wanted_of : Princ → Wanted
-wanted_of h = record { attributes = h.attributes; policy = h.policy; expire = h.expire; pw_expire = h.pw_expire; max_life = h.max_life; max_renew = h.max_renew }
+wanted_of h = record {
+  attributes = h.attributes;
+  policy = h.policy;
+  expire = h.expire;
+  pw_expire = h.pw_expire;
+  max_life = h.max_life;
+  max_renew = h.max_renew;
+}
 
 abbrev pub with_wanted : Wanted → Princ → Princ
-with_wanted w h = record h { attributes = w.attributes; policy = w.policy; expire = w.expire; pw_expire = w.pw_expire; max_life = w.max_life; max_renew = w.max_renew }
+with_wanted w h = record h {
+  attributes = w.attributes;
+  policy = w.policy;
+  expire = w.expire;
+  pw_expire = w.pw_expire;
+  max_life = w.max_life;
+  max_renew = w.max_renew;
+}
 
 -- what restrictions leave of the fields
 abbrev pub limited : Option Limits → ℕ → Princ → Princ
@@ -108,8 +122,8 @@ blank_head name active policy = record {
   strings = [];
 }
 
--- addprinc, with the policy of its line; `life` is the greatest life under the policy in force, where keys are set. Restrictions come
--- last.
+-- addprinc, with the policy of its line; `life` is the greatest life under the policy in force, where keys are set.
+-- Restrictions come last.
 unfoldable pub added_head : List ℕ → ℕ → Option (List ℕ) → Option ℕ → Option Limits → PrincOptions → By → Princ
 added_head name active policy life limits options by =
     limited limits by.secs (marked by (with_options options (keyed_by life by.secs (blank_head name active policy))))
@@ -121,7 +135,8 @@ modified_head choice limits options by h =
 
 -- cpw, under this version of the master key and a policy of this greatest life
 unfoldable pub rekeyed_head : ℕ → ℕ → By → Princ → Princ
-rekeyed_head active life by h = marked by (keyed life by.secs (record h { attributes = without_bit needchange h.attributes; mkvno = active }))
+rekeyed_head active life by h =
+    marked by (keyed life by.secs (record h { attributes = without_bit needchange h.attributes; mkvno = active }))
 
 -- renprinc
 abbrev pub renamed_head : List ℕ → By → Princ → Princ

@@ -28,7 +28,8 @@ new_etype given newest = unwrap_or given newest.key.etype
 
 -- the next version, with a key of the first random bytes
 unfoldable pub new_master : Etype → List ℕ → List Master → Master
-new_master etype random masters = record { version = next_version masters; key = record { etype = etype; bytes = take (key_len etype) random } }
+new_master etype random masters =
+    record { version = next_version masters; key = record { etype = etype; bytes = take (key_len etype) random } }
 
 -- ---- use_mkey
 
@@ -51,7 +52,12 @@ purge_rows s secs = map (purge_row s secs) s.masters
 -- ---- list_mkeys
 
 abbrev pub master_row : State → ℕ → Master → MasterRow
-master_row s secs m = record { version = m.version; etype = m.key.etype; secs = activation_of m.version s.activations; active = is_active_at s.activations secs m.version }
+master_row s secs m = record {
+  version = m.version;
+  etype = m.key.etype;
+  secs = activation_of m.version s.activations;
+  active = is_active_at s.activations secs m.version;
+}
 
 unfoldable pub master_rows : State → ℕ → List MasterRow
 master_rows s secs = map (master_row s secs) s.masters

@@ -11,7 +11,8 @@ use Rattle.kdb_model.specs.Access.{adding, modifying, limits_for}
 use Rattle.kdb_model.specs.Calls.{Call, secs_of}
 use Rattle.kdb_model.specs.Fields.{By, marked, chosen, forced, added_head, modified_head, rekeyed_head, renamed_head}
 use Rattle.kdb_plain.specs.Heads.{plain_head, plain_of}
-use Rattle.plain_keys.specs.Keys.{newest_kvno, made_keys, items_of, is_password, kept_keys, keys_from, least_kvno, remembered, settled_items}
+use Rattle.plain_keys.specs.Keys.{newest_kvno, made_keys, items_of, is_password, kept_keys}
+use Rattle.plain_keys.specs.Keys.{keys_from, least_kvno, remembered, settled_items}
 use Rattle.kdb_plain.specs.States.{has_policy, policy_named}
 use Rattle.plain_keys.specs.declared.items.PlainItem.{PlainItem}
 use Rattle.plain_keys.specs.declared.new_keys.NewKeys.{NewKeys}
@@ -60,16 +61,19 @@ added_keys call c = unwrap_or (option_map (λ keys. items_of 1 (made_keys call.r
 
 unfoldable pub added : State → Call → AddPrinc → PlainPrinc
 added s call c = plain_of
-    (added_head (printed c.name) (active_in s call) (line_policy c s.policies) (added_life s call c) (limits_for call adding c.name) c.options (by_of s call))
+    (added_head (printed c.name) (active_in s call) (line_policy c s.policies) (added_life s call c)
+    (limits_for call adding c.name) c.options (by_of s call))
     (added_keys call c)
     []
 
 -- ---- changes of a principal
 
 unfoldable pub modified : State → Call → ModPrinc → PlainPrinc → PlainPrinc
-modified s call c q = plain_of (modified_head c.policy (limits_for call modifying c.name) c.options (by_of s call) (plain_head q)) q.keys q.old
+modified s call c q = plain_of
+    (modified_head c.policy (limits_for call modifying c.name) c.options (by_of s call) (plain_head q)) q.keys q.old
 
--- new keys in front of the kept ones; the keys that a password replaces are remembered, those that a random key replaces are not
+-- new keys in front of the kept ones; the keys that a password replaces are remembered, those that a random key
+-- replaces are not
 unfoldable pub rekeyed : State → Call → ChangeKeys → PlainPrinc → PlainPrinc
 rekeyed s call c q = plain_of
     (rekeyed_head (active_in s call) (numbers_for q.policy s.policies).max_life (by_of s call) (plain_head q))
@@ -78,7 +82,8 @@ rekeyed s call c q = plain_of
 
 -- the salts of the old name stay
 unfoldable pub renamed : State → Call → RenPrinc → PlainPrinc → PlainPrinc
-renamed s call c q = plain_of (renamed_head (printed c.new_name) (by_of s call) (plain_head q)) (settled_items c.name q.keys) q.old
+renamed s call c q =
+    plain_of (renamed_head (printed c.new_name) (by_of s call) (plain_head q)) (settled_items c.name q.keys) q.old
 
 unfoldable pub purged : State → Call → PurgeKeys → PlainPrinc → PlainPrinc
 purged s call c q = plain_of (marked (by_of s call) (plain_head q)) (keys_from (least_kvno c.keep q.keys) q.keys) q.old

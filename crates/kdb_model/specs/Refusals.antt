@@ -1,5 +1,7 @@
 -- Why a command is refused. Each cause stands for itself; where several hold, the first of their list is the answer.
-use Rattle.std.specs.Prelude.{ℕ, ◌+◌, Bool, true, false, not, ◌&&◌, ◌||◌, nat_eq, nat_le, nat_lt, List, [], ◌∷◌, ◌++◌, length, min, Option, Some, None, is_none, is_some, option_map, option_and_then, if◌then◌else◌}
+use Rattle.std.specs.Prelude.{ℕ, ◌+◌, Bool, true, false, not, ◌&&◌, ◌||◌, nat_eq, nat_le}
+use Rattle.std.specs.Prelude.{nat_lt, List, [], ◌∷◌, ◌++◌, length, min, Option, Some, None}
+use Rattle.std.specs.Prelude.{is_none, is_some, option_map, option_and_then, if◌then◌else◌}
 use Rattle.std.specs.List.{list_any}
 use Rattle.std.specs.Str.{bytes_eq}
 use Rattle.kadm_commands.specs.declared.commands.Command.{Command}
@@ -20,7 +22,8 @@ use Rattle.kdb_model.specs.Fields.{has_bit, lockdown_keys, needchange}
 use Rattle.kdb_model.specs.Masters.{used_activations}
 use Rattle.kdb_model.specs.Records.{added_policy, numbers_for}
 use Rattle.kdb_plain.specs.declared.changes.PlainOp.{PlainOp}
-use Rattle.kdb_plain.specs.declared.changes.PlainOp.TheVariants.{PutPrinc, DropPrinc, Rename, PutPolicy, DropPolicy, PutMasters}
+use Rattle.kdb_plain.specs.declared.changes.PlainOp.TheVariants.{PutPrinc, DropPrinc, Rename}
+use Rattle.kdb_plain.specs.declared.changes.PlainOp.TheVariants.{PutPolicy, DropPolicy, PutMasters}
 use Rattle.plain_keys.specs.Keys.{is_password, is_reused, made_keys, newest_kvno}
 use Rattle.kdb_plain.specs.Lengths.{chain_len, in_64_bits, row_len}
 use Rattle.kdb_plain.specs.States.{has_policy, history_key, history_name, master_of, princ_named, users_of}
@@ -154,7 +157,8 @@ breaks_lock change _ = false
 
 -- over a connection, which has an access list; on the own record too
 abbrev pub locked_down : State → Call → Option PlainOp → Option Refusal
-locked_down s call change = when (is_some call.access && is_locked (target s call.command) && breaks_lock change call.command) why.LockedDown
+locked_down s call change =
+    when (is_some call.access && is_locked (target s call.command) && breaks_lock change call.command) why.LockedDown
 
 abbrev pub is_missing : State → Option (List ℕ) → Bool
 is_missing s None = false
@@ -178,7 +182,8 @@ abbrev pub unknown_policy : State → Option PlainOp → Command → Option Refu
 unknown_policy s change command = when (lacks_policy s change command) why.UnknownPolicy
 
 abbrev pub policy_in_use : State → Command → Option Refusal
-policy_in_use s (command.DelPolicy name) = when (nat_lt 0 (users_of name s.princs)) (why.PolicyInUse (users_of name s.princs))
+policy_in_use s (command.DelPolicy name) =
+    when (nat_lt 0 (users_of name s.princs)) (why.PolicyInUse (users_of name s.princs))
 policy_in_use s _ = None
 
 abbrev pub fails_by : (Numbers → List ℕ → Bool) → Numbers → Option (List ℕ) → Bool
@@ -186,14 +191,17 @@ fails_by test numbers None = false
 fails_by test numbers (Some text) = test numbers text
 
 abbrev pub too_short : State → Call → Option Refusal
-too_short s call = when (fails_by is_short (password_numbers s call call.command) (password call.command)) why.PassTooShort
+too_short s call =
+    when (fails_by is_short (password_numbers s call call.command) (password call.command)) why.PassTooShort
 
 abbrev pub few_classes : State → Call → Option Refusal
-few_classes s call = when (fails_by has_few_classes (password_numbers s call call.command) (password call.command)) why.PassClasses
+few_classes s call =
+    when (fails_by has_few_classes (password_numbers s call call.command) (password call.command)) why.PassClasses
 
 -- a key of the password is one of the newest or of the remembered ones
 abbrev pub reuses : Call → Command → Option PlainPrinc → Bool
-reuses call (command.ChangeKeys c) (Some q) = is_password c.keys && is_reused (made_keys call.random c.name c.keys) q.keys q.old
+reuses call (command.ChangeKeys c) (Some q) =
+    is_password c.keys && is_reused (made_keys call.random c.name c.keys) q.keys q.old
 reuses call _ _ = false
 
 abbrev pub pass_reused : State → Call → Option Refusal
@@ -202,11 +210,13 @@ pass_reused s call = when (reuses call call.command (target s call.command)) why
 -- the least life of the keys that were set at a second is not over
 abbrev pub soon_after : State → Call → PlainPrinc → ℕ → Option Refusal
 soon_after s call q changed = when
-    (not (has_bit needchange q.attributes) && nat_lt (secs_of s call) (changed + (numbers_for q.policy s.policies).min_life))
+    (not (has_bit needchange q.attributes)
+    && nat_lt (secs_of s call) (changed + (numbers_for q.policy s.policies).min_life))
     (why.PassTooSoon (min (changed + (numbers_for q.policy s.policies).min_life) 4294967295))
 
 abbrev pub soon : State → Call → Command → Option PlainPrinc → Option Refusal
-soon s call (command.ChangeKeys c) (Some q) = if same_name call.client c.name then option_and_then (soon_after s call q) q.pw_changed else None
+soon s call (command.ChangeKeys c) (Some q) =
+    if same_name call.client c.name then option_and_then (soon_after s call q) q.pw_changed else None
 soon s call _ _ = None
 
 -- over a connection a principal does not change the own keys again before that
@@ -226,7 +236,8 @@ puts_many_keys _ = false
 
 -- no version is left for new keys, or there would be more keys than a principal may have
 abbrev pub keys_full : State → Option PlainOp → Command → Option Refusal
-keys_full s change command = when (has_last_kvno command (target s command) || (is_some (new_keys command) && puts_many_keys change)) why.KeysFull
+keys_full s change command = when
+    (has_last_kvno command (target s command) || (is_some (new_keys command) && puts_many_keys change)) why.KeysFull
 
 abbrev pub lacks_string : Command → Option PlainPrinc → Bool
 lacks_string (command.DelString c) (Some q) = not (has_string c.key q.strings)
@@ -246,12 +257,14 @@ strings_full s command = when (lacks_room command (target s command)) (why.Strin
 -- no version more may be listed, or none is left
 abbrev pub too_many_masters : State → Command → Option Refusal
 too_many_masters s (command.AddMaster etype) =
-    when (nat_le most_masters (length s.masters) || nat_le greatest_kvno (last_version s.masters)) (why.TooManyMasters most_masters)
+    when (nat_le most_masters (length s.masters) || nat_le greatest_kvno (last_version s.masters))
+    (why.TooManyMasters most_masters)
 too_many_masters s _ = None
 
 -- no version would be active
 abbrev pub no_active_master : State → Call → Command → Option Refusal
-no_active_master s call (command.UseMaster c) = when (is_none (active (used_activations s call c) (secs_of s call))) why.NoActiveMaster
+no_active_master s call (command.UseMaster c) =
+    when (is_none (active (used_activations s call c) (secs_of s call))) why.NoActiveMaster
 no_active_master s call _ = None
 
 abbrev pub adds_row : Command → Bool
@@ -260,7 +273,8 @@ adds_row (command.AddPolicy p) = true
 adds_row _ = false
 
 abbrev pub rows_full : State → Command → Option Refusal
-rows_full s command = when (adds_row command && nat_le most_rows (length s.princs + length s.policies)) (why.RowsFull most_rows)
+rows_full s command =
+    when (adds_row command && nat_le most_rows (length s.princs + length s.policies)) (why.RowsFull most_rows)
 
 -- ---- the length of a row in a state
 
@@ -283,11 +297,13 @@ len_in s q = len_under s.masters (history_key s.realm s.princs) q
 unfoldable pub bytes_put : State → Option PlainOp → ℕ
 bytes_put s (Some (PutPrinc q)) = len_in s q
 bytes_put s (Some (Rename old q)) = len_in s q
-bytes_put s (Some (PutMasters q masters activations)) = len_under masters (history_key s.realm s.princs) q + chain_len masters activations
+bytes_put s (Some (PutMasters q masters activations)) =
+    len_under masters (history_key s.realm s.princs) q + chain_len masters activations
 bytes_put s _ = 0
 
 abbrev pub too_large : State → Option PlainOp → Option Refusal
-too_large s change = when (nat_lt longest_row (bytes_put s change)) (why.RecordTooLarge (in_64_bits (bytes_put s change)))
+too_large s change =
+    when (nat_lt longest_row (bytes_put s change)) (why.RecordTooLarge (in_64_bits (bytes_put s change)))
 
 -- the log is to start anew, and no later time is left for it
 abbrev pub ended : State → Call → Option PlainOp → Option Refusal

@@ -1,5 +1,5 @@
--- Rekeying one principal beside commands: taken under the lock, wrapped anew outside it, and settled under it. MIT's kdb5_util
--- update_princ_encryption does it name by name; that it may be done beside commands is this project's own.
+-- Rekeying one principal beside commands: taken under the lock, wrapped anew outside it, and settled under it. MIT's
+-- kdb5_util update_princ_encryption does it name by name; that it may be done beside commands is this project's own.
 use Rattle.std.specs.Prelude.{ℕ, Bool, false, ◌&&◌, nat_eq, nat_lt, List, Option, Some, None, if◌then◌else◌}
 use Rattle.std.specs.Str.{bytes_eq}
 use Rattle.kdb_base.specs.Key.{Key, is_same_key}
@@ -81,7 +81,8 @@ ready p version _ _ = TakenAlready
 
 unfoldable pub take_to : List Master → Princ → Option ℕ → Take
 take_to masters p None = TakenAlready
-take_to masters p (Some version) = if nat_eq p.mkvno version then TakenAlready else ready p version (master_of masters p.mkvno) (master_of masters version)
+take_to masters p (Some version) = if nat_eq p.mkvno version then TakenAlready
+    else ready p version (master_of masters p.mkvno) (master_of masters version)
 
 -- of the record that rows have by a name. A valid state has an active version, and lists it and that of the record.
 unfoldable pub take_of : State → At → Option Princ → Take
@@ -117,11 +118,13 @@ is_key (Some found) key = is_same_key found key
 
 -- both versions still have the keys taken
 unfoldable pub has_keys : List Master → Taking → Bool
-has_keys masters taken = is_key (master_of masters taken.princ.mkvno) taken.old && is_key (master_of masters taken.version) taken.fresh
+has_keys masters taken =
+    is_key (master_of masters taken.princ.mkvno) taken.old && is_key (master_of masters taken.version) taken.fresh
 
 -- of the record that stands by the name, the master keys and the active version: nothing of what was taken has changed
 unfoldable pub may_settle : List Master → Option ℕ → Princ → Taking → Bool
-may_settle masters active stored taken = is_record stored taken.princ && is_version active taken.version && has_keys masters taken
+may_settle masters active stored taken =
+    is_record stored taken.princ && is_version active taken.version && has_keys masters taken
 
 abbrev pub unless_same : {A : Type 0} → Bool → Option A → Option A
 unless_same same found = if same then None else found
@@ -140,8 +143,8 @@ settled_by made Already = Changed None None
 settled_by made Gone = SettledGone
 settled_by made (Refused why) = NotStored why
 
--- Of the record that rows have by the name now. A rekeying is neither gone nor done already here: the record is there, and it names
--- another version than the active one.
+-- Of the record that rows have by the name now. A rekeying is neither gone nor done already here: the record is there,
+-- and it names another version than the active one.
 unfoldable pub settle : State → NameParts → At → Option Princ → Work → Settled
 settle s name at None work = SettledGone
 settle s name at (Some stored) work = if may_settle s.masters (active_at s at) stored work.taken

@@ -63,15 +63,15 @@ abbrev pub policy_shown : Option Rules → Reply
 policy_shown None = reply.Refused UnknownPolicy
 policy_shown (Some p) = reply.PolicyShown p
 
--- Whether one step does the command. A rekeying of many principals is a step for each, and a dump is written and answers
--- no line: of these two the step says nothing.
+-- Whether one step does the command. A rekeying of many principals is a step for each, and a dump is written and
+-- answers no line: of these two the step says nothing.
 abbrev pub is_one_step : Command → Bool
 is_one_step (command.RekeyPrincs glob) = false
 is_one_step command.Dump = false
 is_one_step other = true
 
--- The answer to a command that makes no entry. A command that changes a principal or a policy makes one where that is there, and is
--- refused before where it is not.
+-- The answer to a command that makes no entry. A command that changes a principal or a policy makes one where that is
+-- there, and is refused before where it is not.
 unfoldable pub reading_of : State → Call → Command → Option PlainPrinc → Reply
 reading_of s call (command.GetPrinc name) (Some q) = reply.Shown (shown_of q)
 reading_of s call (command.GetStrings name) (Some q) = reply.Strings q.strings
@@ -110,7 +110,10 @@ with_point point s = record s { point = point }
 
 -- the entry takes effect
 abbrev pub committed : State → Call → PlainOp → Outcome
-committed s call op = record { state = with_point (change_point s call) (effect_on op s); reply = change_reply s call (change_point s call) call.command }
+committed s call op = record {
+  state = with_point (change_point s call) (effect_on op s);
+  reply = change_reply s call (change_point s call) call.command;
+}
 
 unfoldable pub performed : State → Call → Option PlainOp → Outcome
 performed s call None = answered s (reading s call)

@@ -26,7 +26,8 @@ fn denial(
     target: Option<&Name>,
     plainly: bool,
 ) -> Option<Refusal>
-    ensures { result ≡ denied_in acl.now client.now (record { letter = letter; target = option_map (λ t. t.now) target.entry; plainly = plainly } ∷ []) }
+    ensures { result ≡ denied_in acl.now client.now
+        (record { letter = letter; target = option_map (λ t. t.now) target.entry; plainly = plainly } ∷ []) }
 {
     let verdict = acl.decide(client, letter, target);
     if verdict.allowed && !(plainly && verdict.limits.is_some()) {
@@ -39,7 +40,8 @@ fn denial(
 /// The refusal of a rename: a deletion, and then an addition without restrictions.
 #[tactic(auto, unfolding(crate::specs::Access::denied_in))]
 fn rename_denial(acl: &Acl, client: &Name, old: &Name, new: &Name) -> Option<Refusal>
-    ensures { result ≡ denied_in acl.now client.now (record { letter = 100; target = Some old.now; plainly = false } ∷ record { letter = 97; target = Some new.now; plainly = true } ∷ []) }
+    ensures { result ≡ denied_in acl.now client.now (record { letter = 100; target = Some old.now; plainly = false }
+        ∷ record { letter = 97; target = Some new.now; plainly = true } ∷ []) }
 {
     match denial(acl, client, b'd', Some(old), false) {
         Some(refusal) => Some(refusal),
@@ -57,7 +59,8 @@ fn alone_denial(acl: &Acl, client: &Name, letter: u8) -> Option<Refusal>
 /// The refusal of a command, whoever it is of.
 #[tactic(auto, unfolding(crate::specs::Access::asks, crate::specs::Access::denied_in))]
 fn asked_denial(acl: &Acl, client: &Name, command: &Command, master: &Name) -> Option<Refusal>
-    ensures { (realm : List ℕ) → master.now ≡ master_parts realm → result ≡ denied_in acl.now client.now (asks realm command.now) }
+    ensures { (realm : List ℕ) → master.now ≡ master_parts realm
+        → result ≡ denied_in acl.now client.now (asks realm command.now) }
 {
     match command {
         Command::AddPrinc(c) => denial(acl, client, b'a', Some(&c.name), false),
@@ -85,7 +88,8 @@ fn asked_denial(acl: &Acl, client: &Name, command: &Command, master: &Name) -> O
 
 /// Whether everybody may give the command, since it is on the own name. Both names are printed ones.
 pub(crate) fn is_own(command: &Command, needed: &Option<Blob>, client: &[u8]) -> bool
-    ensures { (who : NameParts) → needed.now ≡ option_map printed (needed_name command.now) → client.now ≡ printed who → result ≡ is_own who command.now }
+    ensures { (who : NameParts) → needed.now ≡ option_map printed (needed_name command.now) → client.now ≡ printed who
+        → result ≡ is_own who command.now }
 {
     match command {
         Command::ChangeKeys(_) | Command::GetPrinc(_) => match needed {
@@ -115,7 +119,8 @@ pub(crate) fn denied(asked: &Asked, master: &Name, own: bool) -> Option<Refusal>
 
 /// The letters that a client has for operations without a target.
 fn granted(alloc: Global, acl: &Acl, client: &Name) -> Result<Vec<u8>, MemoryOut>
-    ensures { IfOk result (λ letters. letters.items ≡ filter (λ letter. (decision acl.now client.now letter None).allowed) (codes "admcilspe")) }
+    ensures { IfOk result (λ letters.
+        letters.items ≡ filter (λ letter. (decision acl.now client.now letter None).allowed) (codes "admcilspe")) }
 {
     let letters = LETTERS
         .iter()

@@ -58,7 +58,8 @@ fn princ_change(
 ) -> Result<Option<PlainOp>, MemoryOut>
     requires command { IsCommand (state_in asked.now).realm asked.now.command.now }
     requires random { length asked.now.random.now ≡ 2048 }
-    ensures { has_last_kvno asked.now.command.now (Some princ.now) ≡ false → IfOk result (λ op. op ≡ princ_change (state_in asked.now) (call_in asked.now) asked.now.command.now princ.now) }
+    ensures { has_last_kvno asked.now.command.now (Some princ.now) ≡ false → IfOk result
+        (λ op. op ≡ princ_change (state_in asked.now) (call_in asked.now) asked.now.command.now princ.now) }
 {
     match asked.command {
         Command::ModPrinc(c) => {
@@ -110,7 +111,8 @@ fn princ_added(alloc: Global, asked: &Asked, c: &AddPrinc) -> Result<Option<Plai
 /// `addpol`.
 #[tactic(auto, unfolding(crate::specs::Entries::entry_of))]
 fn policy_added(alloc: Global, asked: &Asked, policy: &Policy) -> Result<Option<PlainOp>, MemoryOut>
-    ensures { IfOk result (λ op. op ≡ entry_of (state_in asked.now) (call_in asked.now) (command.AddPolicy policy.now)) }
+    ensures { IfOk result
+        (λ op. op ≡ entry_of (state_in asked.now) (call_in asked.now) (command.AddPolicy policy.now)) }
 {
     let policy = copy_policy(alloc, policy)?;
     Ok(Some(PlainOp::PutPolicy(policy)))
@@ -155,7 +157,8 @@ fn master_added(
 ) -> Result<Option<PlainOp>, MemoryOut>
     requires there { princ_named (master_name (state_in asked.now).realm) (state_in asked.now).princs ≡ Some entry.now }
     requires random { length asked.now.random.now ≡ 2048 }
-    ensures { too_many_masters (state_in asked.now) (command.AddMaster etype) ≡ None → IfOk result (λ op. op ≡ entry_of (state_in asked.now) (call_in asked.now) (command.AddMaster etype)) }
+    ensures { too_many_masters (state_in asked.now) (command.AddMaster etype) ≡ None
+        → IfOk result (λ op. op ≡ entry_of (state_in asked.now) (call_in asked.now) (command.AddMaster etype)) }
 {
     if last_version(&asked.state.masters) == u16::MAX {
         return Ok(None);
@@ -213,7 +216,8 @@ fn master_change(
     requires there { princ_named (master_name (state_in asked.now).realm) (state_in asked.now).princs ≡ Some own.now }
     requires command { IsCommand (state_in asked.now).realm asked.now.command.now }
     requires random { length asked.now.random.now ≡ 2048 }
-    ensures { too_many_masters (state_in asked.now) asked.now.command.now ≡ None → is_master_line asked.now.command.now ≡ true → IfOk result (λ op. op ≡ entry (state_in asked.now) (call_in asked.now)) }
+    ensures { too_many_masters (state_in asked.now) asked.now.command.now ≡ None → is_master_line asked.now.command.now
+        ≡ true → IfOk result (λ op. op ≡ entry (state_in asked.now) (call_in asked.now)) }
 {
     match asked.command {
         Command::AddMaster(etype) => master_added(alloc, asked, *etype, own),
@@ -227,7 +231,8 @@ fn master_change(
 fn masters_changed(alloc: Global, asked: &Asked) -> Result<Option<PlainOp>, MemoryOut>
     requires command { IsCommand (state_in asked.now).realm asked.now.command.now }
     requires random { length asked.now.random.now ≡ 2048 }
-    ensures { too_many_masters (state_in asked.now) asked.now.command.now ≡ None → is_master_line asked.now.command.now ≡ true → IfOk result (λ op. op ≡ entry (state_in asked.now) (call_in asked.now)) }
+    ensures { too_many_masters (state_in asked.now) asked.now.command.now ≡ None → is_master_line asked.now.command.now
+        ≡ true → IfOk result (λ op. op ≡ entry (state_in asked.now) (call_in asked.now)) }
 {
     let name = master_name(alloc, asked.state.realm.as_slice())?;
     match princ_named(&asked.state.princs, name.as_slice()) {
@@ -256,7 +261,8 @@ fn changes_state(command: &Command) -> bool
 fn state_change(alloc: Global, asked: &Asked) -> Result<Option<PlainOp>, MemoryOut>
     requires command { IsCommand (state_in asked.now).realm asked.now.command.now }
     requires random { length asked.now.random.now ≡ 2048 }
-    ensures { too_many_masters (state_in asked.now) asked.now.command.now ≡ None → changes_state asked.now.command.now ≡ true → IfOk result (λ op. op ≡ entry (state_in asked.now) (call_in asked.now)) }
+    ensures { too_many_masters (state_in asked.now) asked.now.command.now ≡ None → changes_state asked.now.command.now
+        ≡ true → IfOk result (λ op. op ≡ entry (state_in asked.now) (call_in asked.now)) }
 {
     match asked.command {
         Command::AddPrinc(c) => princ_added(alloc, asked, c),
@@ -279,7 +285,8 @@ pub(crate) fn entry(
     requires target { option_map (λ q. q.now) target ≡ needed_target (state_in asked.now) asked.now.command.now }
     requires command { IsCommand (state_in asked.now).realm asked.now.command.now }
     requires random { length asked.now.random.now ≡ 2048 }
-    ensures { HasVersions (state_in asked.now) asked.now.command.now → IfOk result (λ op. op ≡ entry (state_in asked.now) (call_in asked.now)) }
+    ensures { HasVersions (state_in asked.now) asked.now.command.now
+        → IfOk result (λ op. op ≡ entry (state_in asked.now) (call_in asked.now)) }
 {
     match target {
         Some(princ) => princ_change(alloc, asked, princ),

@@ -1,7 +1,8 @@
 //! What commands make of the fields of a principal, as records without keys.
 
 ghost use Rattle.std.specs.Prelude.{◌≡◌, Some, IfOk, option_map, unwrap_or};
-ghost use Rattle.kdb_model.specs.Fields.{blank_head, chosen, expiry, forced, has_bit, keyed, limited, marked, needchange, with_options, without_bit};
+ghost use Rattle.kdb_model.specs.Fields.{blank_head, chosen, expiry, forced, has_bit, keyed};
+ghost use Rattle.kdb_model.specs.Fields.{limited, marked, needchange, with_options, without_bit};
 
 use acl_text::{Limits, Wanted, restrict};
 use kadm_commands::{PolicyChoice, PrincOptions};

@@ -4,8 +4,10 @@ ghost use Rattle.std.specs.Prelude.{◌≡◌, ◌∷◌, ◌++◌, [], ◌+◌,
 ghost use Rattle.std.specs.List.{last_or};
 ghost use Rattle.kdb_base.specs.Etypes.{key_len};
 ghost use Rattle.kdb_model.specs.Asking.{call_in, state_in};
-ghost use Rattle.kdb_model.specs.Masters.{master_row, master_rows, new_etype, new_master, purge_row, purge_rows, use_secs, used_activations};
-ghost use Rattle.serving_versions.specs.MasterChanges.{adds_master, purges_masters, serving_activations, uses_version, with_master};
+ghost use Rattle.kdb_model.specs.Masters.{master_row, master_rows, new_etype, new_master};
+ghost use Rattle.kdb_model.specs.Masters.{purge_row, purge_rows, use_secs, used_activations};
+ghost use Rattle.serving_versions.specs.MasterChanges.{adds_master, purges_masters};
+ghost use Rattle.serving_versions.specs.MasterChanges.{serving_activations, uses_version, with_master};
 ghost use Rattle.serving_versions.specs.Versions.{is_active_at, serves};
 ghost use Rattle.key_activation.specs.Activations.{activation_of};
 ghost use Rattle.master_keys.specs.Versions.{last_version};
@@ -137,7 +139,8 @@ pub(crate) fn added_master(
 ) -> Result<PlainOp, MemoryOut>
     requires version { last_version (state_in asked.now).masters < 65535 }
     requires random { length asked.now.random.now ≡ 2048 }
-    ensures { IfOk result (λ op. op ≡ adds_master (state_in asked.now) (new_master (new_etype etype newest.now) asked.now.random.now (state_in asked.now).masters) entry.now) }
+    ensures { IfOk result (λ op. op ≡ adds_master (state_in asked.now)
+        (new_master (new_etype etype newest.now) asked.now.random.now (state_in asked.now).masters) entry.now) }
 {
     let etype = new_etype(etype, newest);
     let master = new_master(etype, asked.random, &asked.state.masters);
@@ -179,7 +182,8 @@ pub(crate) fn used_master(
     entry: &PlainPrinc,
 ) -> Result<PlainOp, MemoryOut>
     requires { 1 ≤ c.now.version }
-    ensures { IfOk result (λ op. op ≡ uses_version (state_in asked.now) c.now.version (use_secs (state_in asked.now) (call_in asked.now) c.now) entry.now) }
+    ensures { IfOk result (λ op. op ≡ uses_version (state_in asked.now) c.now.version
+        (use_secs (state_in asked.now) (call_in asked.now) c.now) entry.now) }
 {
     let princ = copy_princ(alloc, entry)?;
     let masters = copy_masters(alloc, &asked.state.masters)?;

@@ -189,7 +189,8 @@ fn policy_shown(alloc: Global, policies: &PolicyList, name: &[u8]) -> Result<Rep
 /// What is told of the principal that a command needs.
 #[tactic(auto, unfolding(crate::specs::Steps::reading_of))]
 fn princ_reading(alloc: Global, asked: &Asked, princ: &PlainPrinc) -> Result<Reply, MemoryOut>
-    ensures { reads_princ asked.now.command.now ≡ true → IfOk result (λ r. r ≡ reading_of (state_in asked.now) (call_in asked.now) asked.now.command.now (Some princ.now)) }
+    ensures { reads_princ asked.now.command.now ≡ true → IfOk result
+        (λ r. r ≡ reading_of (state_in asked.now) (call_in asked.now) asked.now.command.now (Some princ.now)) }
 {
     match asked.command {
         Command::GetPrinc(_) => {
@@ -211,7 +212,8 @@ fn princ_reading(alloc: Global, asked: &Asked, princ: &PlainPrinc) -> Result<Rep
 /// What is told of the state.
 #[tactic(auto, unfolding(crate::specs::Steps::reading_of))]
 fn state_reading(alloc: Global, asked: &Asked) -> Result<Reply, MemoryOut>
-    ensures { (found : Option PlainPrinc) → reads_princ asked.now.command.now ≡ false → IfOk result (λ r. r ≡ reading_of (state_in asked.now) (call_in asked.now) asked.now.command.now found) }
+    ensures { (found : Option PlainPrinc) → reads_princ asked.now.command.now ≡ false
+        → IfOk result (λ r. r ≡ reading_of (state_in asked.now) (call_in asked.now) asked.now.command.now found) }
 {
     let state = asked.state;
     match asked.command {

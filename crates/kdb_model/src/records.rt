@@ -1,14 +1,19 @@
 //! The records that commands put: principals with their keys, and policies.
 
-ghost use Rattle.std.specs.Prelude.{◌≡◌, ◌++◌, ◌+◌, ◌<◌, ◌≤◌, IfOk, IfSome, if◌then◌else◌, length, option_map, unwrap_or};
+ghost use Rattle.std.specs.Prelude.{◌≡◌, ◌++◌, ◌+◌, ◌<◌, ◌≤◌, IfOk, IfSome};
+ghost use Rattle.std.specs.Prelude.{if◌then◌else◌, length, option_map, unwrap_or};
 ghost use Rattle.kadm_commands.specs.Commands.{IsModPolicy};
 ghost use Rattle.kdb_model.specs.Access.{adding, limits_for, modifying};
 ghost use Rattle.kdb_model.specs.Asking.{call_in, state_in};
 ghost use Rattle.kdb_model.specs.Calls.{secs_of};
-ghost use Rattle.kdb_model.specs.Fields.{added_head, blank_head, keyed_by, marked, modified_head, rekeyed_head, renamed_head};
-ghost use Rattle.kdb_model.specs.Records.{active_in, added, added_keys, added_life, added_policy, by_of, changed_policy, default_given, line_policy, modified, numbers_for, purged, rekeyed, renamed, restrung};
+ghost use Rattle.kdb_model.specs.Fields.{added_head, blank_head, keyed_by, marked};
+ghost use Rattle.kdb_model.specs.Fields.{modified_head, rekeyed_head, renamed_head};
+ghost use Rattle.kdb_model.specs.Records.{active_in, added, added_keys, added_life, added_policy};
+ghost use Rattle.kdb_model.specs.Records.{by_of, changed_policy, default_given, line_policy};
+ghost use Rattle.kdb_model.specs.Records.{modified, numbers_for, purged, rekeyed, renamed, restrung};
 ghost use Rattle.kdb_plain.specs.Heads.{plain_head};
-ghost use Rattle.plain_keys.specs.Keys.{bytes_to_make, is_password, items_of, kept_keys, keys_from, least_kvno, made_keys, newest_kvno, remembered, settled_item, settled_items};
+ghost use Rattle.plain_keys.specs.Keys.{bytes_to_make, is_password, items_of, kept_keys, keys_from, least_kvno};
+ghost use Rattle.plain_keys.specs.Keys.{made_keys, newest_kvno, remembered, settled_item, settled_items};
 ghost use Rattle.kdb_plain.specs.States.{has_policy};
 ghost use Rattle.policy_rules.specs.Numbers.{numbers_of};
 ghost use Rattle.princ_name.specs.Names.{printed};
@@ -81,7 +86,8 @@ pub(crate) fn added_numbers(
     asked: &Asked,
     c: &AddPrinc,
 ) -> Result<Numbers, MemoryOut>
-    ensures { IfOk result (λ n. n ≡ numbers_for (added_policy (state_in asked.now) (call_in asked.now) c.now) (state_in asked.now).policies) }
+    ensures { IfOk result (λ n.
+        n ≡ numbers_for (added_policy (state_in asked.now) (call_in asked.now) c.now) (state_in asked.now).policies) }
 {
     let policy = line_policy(alloc, asked, c)?;
     let policy = forced(alloc, limits_for(asked, b'a', &c.name), policy)?;
@@ -90,7 +96,9 @@ pub(crate) fn added_numbers(
 
 /// The head of a new principal, before its options.
 fn keyed_head(alloc: Global, asked: &Asked, c: &AddPrinc) -> Result<Princ, MemoryOut>
-    ensures { IfOk result (λ h. h ≡ keyed_by (added_life (state_in asked.now) (call_in asked.now) c.now) (secs_of (state_in asked.now) (call_in asked.now)) (blank_head (printed c.now.name) (active_in (state_in asked.now) (call_in asked.now)) (line_policy c.now (state_in asked.now).policies))) }
+    ensures { IfOk result (λ h. h ≡ keyed_by (added_life (state_in asked.now) (call_in asked.now) c.now)
+        (secs_of (state_in asked.now) (call_in asked.now)) (blank_head (printed c.now.name)
+        (active_in (state_in asked.now) (call_in asked.now)) (line_policy c.now (state_in asked.now).policies))) }
 {
     let name = print_name(alloc, &c.name)?;
     let policy = line_policy(alloc, asked, c)?;
@@ -105,7 +113,10 @@ fn keyed_head(alloc: Global, asked: &Asked, c: &AddPrinc) -> Result<Princ, Memor
 /// The head of a new principal.
 #[tactic(auto, unfolding(crate::specs::Fields::added_head))]
 fn added_head(alloc: Global, asked: &Asked, c: &AddPrinc) -> Result<Princ, MemoryOut>
-    ensures { IfOk result (λ h. h ≡ added_head (printed c.now.name) (active_in (state_in asked.now) (call_in asked.now)) (line_policy c.now (state_in asked.now).policies) (added_life (state_in asked.now) (call_in asked.now) c.now) (limits_for (call_in asked.now) adding c.now.name) c.now.options (by_of (state_in asked.now) (call_in asked.now))) }
+    ensures { IfOk result (λ h. h ≡ added_head (printed c.now.name) (active_in (state_in asked.now) (call_in asked.now))
+        (line_policy c.now (state_in asked.now).policies) (added_life (state_in asked.now) (call_in asked.now) c.now)
+        (limits_for (call_in asked.now) adding c.now.name) c.now.options
+        (by_of (state_in asked.now) (call_in asked.now))) }
 {
     let head = keyed_head(alloc, asked, c)?;
     let head = with_options(head, &c.options);
@@ -198,7 +209,8 @@ fn rekeyed_old(
     password: bool,
     princ: &PlainPrinc,
 ) -> Result<PlainSets, MemoryOut>
-    ensures { IfOk result (λ old. old ≡ (if password then remembered history princ.now.keys princ.now.old else princ.now.old)) }
+    ensures { IfOk result
+        (λ old. old ≡ (if password then remembered history princ.now.keys princ.now.old else princ.now.old)) }
 {
     if password {
         return remembered(alloc, history, princ.keys.as_slice(), princ.old.as_slice());
@@ -224,7 +236,9 @@ fn rekeyed_keys(
     princ: &PlainPrinc,
 ) -> Result<PlainItems, MemoryOut>
     requires { bytes_to_make c.now.keys ≤ length asked.now.random.now }
-    ensures { newest_kvno princ.now.keys < 65535 → IfOk result (λ items. items ≡ items_of (newest_kvno princ.now.keys + 1) (made_keys asked.now.random.now c.now.name c.now.keys) ++ kept_keys c.now.keep_old princ.now.keys) }
+    ensures { newest_kvno princ.now.keys < 65535
+        → IfOk result (λ items. items ≡ items_of (newest_kvno princ.now.keys + 1)
+        (made_keys asked.now.random.now c.now.name c.now.keys) ++ kept_keys c.now.keep_old princ.now.keys) }
 {
     let kvno = newest_kvno(princ.keys.as_slice()).saturating_add(1);
     let fresh = made_items(alloc, asked.random, &c.name, &c.keys, kvno)?;
@@ -241,7 +255,8 @@ pub(crate) fn rekeyed(
     princ: &PlainPrinc,
 ) -> Result<PlainPrinc, MemoryOut>
     requires { bytes_to_make c.now.keys ≤ length asked.now.random.now }
-    ensures { newest_kvno princ.now.keys < 65535 → IfOk result (λ q. q ≡ rekeyed (state_in asked.now) (call_in asked.now) c.now princ.now) }
+    ensures { newest_kvno princ.now.keys < 65535
+        → IfOk result (λ q. q ≡ rekeyed (state_in asked.now) (call_in asked.now) c.now princ.now) }
 {
     let numbers = numbers_for(&princ.policy, &asked.state.policies);
     let mut head = plain_head(alloc, princ)?;

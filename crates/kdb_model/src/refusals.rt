@@ -5,7 +5,14 @@ ghost use Rattle.kadm_commands.specs.Commands.{IsCommand};
 ghost use Rattle.kdb_base.specs.declared.outcomes.Refusal.{Refusal};
 ghost use Rattle.kdb_model.specs.Access.{is_own};
 ghost use Rattle.kdb_model.specs.Asking.{any_name, call_in, state_in, touches};
-ghost use Rattle.kdb_model.specs.Refusals.{breaks_lock, bytes_put, duplicate, fails_by, first, has_last_kvno, is_locked, is_missing, is_protected, keys_full, lacks_policy, len_under, locked_down, names_missing, needed_name, new_name, no_active_master, pass_reused, password, password_numbers, policy_in_use, protected, puts_many_keys, puts_missing, rows_full, soon_after, strings_full, target as needed_target, too_large, too_many_masters, too_soon, unknown_master, unknown_policy, unknown_principal, unknown_string, unlocks, when};
+ghost use Rattle.kdb_model.specs.Refusals.{breaks_lock, bytes_put, duplicate, fails_by, first, has_last_kvno};
+ghost use Rattle.kdb_model.specs.Refusals.{is_locked, is_missing, is_protected, keys_full, lacks_policy};
+ghost use Rattle.kdb_model.specs.Refusals.{len_under, locked_down, names_missing, needed_name, new_name};
+ghost use Rattle.kdb_model.specs.Refusals.{no_active_master, pass_reused, password, password_numbers};
+ghost use Rattle.kdb_model.specs.Refusals.{policy_in_use, protected, puts_many_keys, puts_missing, rows_full};
+ghost use Rattle.kdb_model.specs.Refusals.{soon_after, strings_full, target as needed_target, too_large};
+ghost use Rattle.kdb_model.specs.Refusals.{too_many_masters, too_soon, unknown_master, unknown_policy};
+ghost use Rattle.kdb_model.specs.Refusals.{unknown_principal, unknown_string, unlocks, when};
 ghost use Rattle.plain_keys.specs.Keys.{bytes_to_make, is_password, is_reused, made_keys};
 ghost use Rattle.kdb_plain.specs.Lengths.{in_64_bits};
 ghost use Rattle.kdb_plain.specs.declared.states.State.{State};
@@ -67,7 +74,8 @@ pub(crate) fn unknown_master(asked: &Asked) -> Option<Refusal>
 /// Whether the text is the name of a principal with the database's own keys.
 #[tactic(auto, unfolding(crate::specs::Refusals::is_protected))]
 fn is_own_key(realm: &[u8], text: &Option<Blob>) -> bool
-    ensures { (name : Option NameParts) → text.now ≡ option_map printed name → result ≡ any_name (is_protected realm.now) name }
+    ensures { (name : Option NameParts) → text.now ≡ option_map printed name
+        → result ≡ any_name (is_protected realm.now) name }
 {
     match text {
         Some(text) => {
@@ -261,7 +269,8 @@ pub(crate) fn password_numbers(
 
 /// The password is shorter than these numbers ask.
 pub fn too_short(numbers: &Numbers, password: Option<&Blob>) -> Option<Refusal>
-    ensures { result ≡ when (fails_by is_short numbers.now (option_map (λ text. text.now) password.entry)) Refusal.PassTooShort }
+    ensures { result
+        ≡ when (fails_by is_short numbers.now (option_map (λ text. text.now) password.entry)) Refusal.PassTooShort }
 {
     match password {
         Some(text) => when(is_short(numbers, text.as_slice()), Refusal::PassTooShort),
@@ -271,7 +280,8 @@ pub fn too_short(numbers: &Numbers, password: Option<&Blob>) -> Option<Refusal>
 
 /// The password has bytes of fewer classes than these numbers ask.
 pub fn few_classes(numbers: &Numbers, password: Option<&Blob>) -> Option<Refusal>
-    ensures { result ≡ when (fails_by has_few_classes numbers.now (option_map (λ text. text.now) password.entry)) Refusal.PassClasses }
+    ensures { result ≡ when (fails_by has_few_classes numbers.now (option_map (λ text. text.now) password.entry))
+        Refusal.PassClasses }
 {
     match password {
         Some(text) => when(
@@ -290,7 +300,8 @@ fn reuses(
     princ: &PlainPrinc,
 ) -> Result<bool, MemoryOut>
     requires { bytes_to_make c.now.keys ≤ length asked.now.random.now }
-    ensures { IfOk result (λ b. b ≡ (is_password c.now.keys && is_reused (made_keys asked.now.random.now c.now.name c.now.keys) princ.now.keys princ.now.old)) }
+    ensures { IfOk result (λ b. b ≡ (is_password c.now.keys
+        && is_reused (made_keys asked.now.random.now c.now.name c.now.keys) princ.now.keys princ.now.old)) }
 {
     if !is_password(&c.keys) {
         return Ok(false);

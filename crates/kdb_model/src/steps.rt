@@ -5,7 +5,8 @@ ghost use Rattle.kadm_commands.specs.Commands.{IsCommand};
 ghost use Rattle.kdb_model.specs.Access.{is_own, master_parts};
 ghost use Rattle.kdb_model.specs.Asking.{IsDecided, call_in, state_in};
 ghost use Rattle.kdb_model.specs.Calls.{call_of, change_point, moment_of};
-ghost use Rattle.kdb_model.specs.Refusals.{causes_with, first, needed_name, new_name, target as needed_target, too_many_masters};
+ghost use Rattle.kdb_model.specs.Refusals.{causes_with, first, needed_name, new_name};
+ghost use Rattle.kdb_model.specs.Refusals.{target as needed_target, too_many_masters};
 ghost use Rattle.kdb_model.specs.Steps.{change_reply, committed, is_one_step, performed, step};
 ghost use Rattle.kdb_plain.specs.Changes.{HasRoom, effect_on};
 ghost use Rattle.kdb_plain.specs.States.{IsValid, IsValidState};
@@ -49,7 +50,9 @@ fn next_point(asked: &Asked) -> Point
 #[tactic(auto, unfolding(crate::specs::Steps::change_reply, master_keys::specs::Adding::next_version))]
 fn change_reply(alloc: Global, asked: &Asked) -> Result<Reply, MemoryOut>
     requires { (state_in asked.now).point.sno < 4294967295 }
-    ensures { too_many_masters (state_in asked.now) asked.now.command.now ≡ None → IfOk result (λ r. r ≡ change_reply (state_in asked.now) (call_in asked.now) (change_point (state_in asked.now) (call_in asked.now)) asked.now.command.now) }
+    ensures { too_many_masters (state_in asked.now) asked.now.command.now ≡ None
+        → IfOk result (λ r. r ≡ change_reply (state_in asked.now) (call_in asked.now)
+        (change_point (state_in asked.now) (call_in asked.now)) asked.now.command.now) }
 {
     match asked.command {
         Command::AddMaster(_) => {
@@ -82,7 +85,8 @@ fn answered(alloc: Global, state: &State, reply: Reply) -> Result<(State, Reply)
 fn changed(alloc: Global, asked: &Asked, op: PlainOp) -> Result<State, MemoryOut>
     requires serial { (state_in asked.now).point.sno < 4294967295 }
     requires room { HasRoom (effect_on op (state_in asked.now)) }
-    ensures { IfOk result (λ s. s ≡ record (effect_on op (state_in asked.now)) { point = change_point (state_in asked.now) (call_in asked.now) }) }
+    ensures { IfOk result (λ s. s ≡ record (effect_on op (state_in asked.now))
+        { point = change_point (state_in asked.now) (call_in asked.now) }) }
 {
     let copy = copy_state(alloc, asked.state)?;
     let mut next = apply(copy, op)?;
@@ -255,8 +259,10 @@ pub fn step_plain(
     requires one { is_one_step command.now ≡ true }
     requires client { IsPrinted client.now }
     requires random { length random.now ≡ 2048 }
-    ensures state { (who : NameParts) → IsName who → printed who ≡ client.now → IfOk result (λ r. r.0 ≡ (step state.now (call_of who (option_map (λ a. a.now) acl.entry) command.now moment random.now false)).state) }
-    ensures reply { (who : NameParts) → IsName who → printed who ≡ client.now → IfOk result (λ r. r.1 ≡ (step state.now (call_of who (option_map (λ a. a.now) acl.entry) command.now moment random.now false)).reply) }
+    ensures state { (who : NameParts) → IsName who → printed who ≡ client.now → IfOk result (λ r. r.0 ≡ (step state.now
+        (call_of who (option_map (λ a. a.now) acl.entry) command.now moment random.now false)).state) }
+    ensures reply { (who : NameParts) → IsName who → printed who ≡ client.now → IfOk result (λ r. r.1 ≡ (step state.now
+        (call_of who (option_map (λ a. a.now) acl.entry) command.now moment random.now false)).reply) }
 {
     valid_later();
     // A moment's microseconds are below a second's, so that the later of two has no earlier second.

@@ -1,5 +1,6 @@
 -- The tests by which a change is judged, and what they say.
-use Rattle.std.proofs.Common.{◌≡◌, ◌≢◌, ℕ, zero, suc, ◌≤◌, ◌⊎◌, inl, inr, ⊎_elim, Bool, true, false, ◌||◌, leb, not, List, [], ◌∷◌, Some, refl, sym, ◌∙◌, ap, arith}
+use Rattle.std.proofs.Common.{◌≡◌, ◌≢◌, ℕ, zero, suc, ◌≤◌, ◌⊎◌, inl, inr, ⊎_elim, Bool, true, false}
+use Rattle.std.proofs.Common.{◌||◌, leb, not, List, [], ◌∷◌, Some, refl, sym, ◌∙◌, ap, arith}
 use Rattle.std.specs.List.{All, list_any}
 use Rattle.std.specs.Str.{bytes_eq}
 use Rattle.std.proofs.lemmas.Bool.{and_parts, and_from, or_cases, leb-true, le-leb, false_from_ne_true, true≢false}
@@ -29,17 +30,23 @@ none_any p (x ∷ xs) none zero d lt = (none_or (p x) (list_any p xs) none).0
 none_any p (x ∷ xs) none (suc i) d lt = none_any p xs (none_or (p x) (list_any p xs) none).1 i d (omega (arith, lt))
 
 -- a principal has the name
-pub name_there : (name : List ℕ) (princs : List Princ) (p : Princ) → Contains princs p × (p.name ≡ name) → list_any (λ q. bytes_eq q.name name) princs ≡ true
+pub name_there : (name : List ℕ) (princs : List Princ) (p : Princ) → Contains princs p × (p.name ≡ name)
+    → list_any (λ q. bytes_eq q.name name) princs ≡ true
 name_there name princs p is =
     let at = is.0 in
-    list_any_at (λ q. bytes_eq q.name name) princs at.0 p at.1 (bytes_same _ name (ap (λ (q : Princ). q.name) at.2 ∙ is.1))
+    list_any_at (λ q. bytes_eq q.name name) princs at.0 p at.1
+    (bytes_same _ name (ap (λ (q : Princ). q.name) at.2 ∙ is.1))
 
 -- no principal has the name
-pub no_name : (name : List ℕ) (princs : List Princ) → All (λ q. q.name ≢ name) princs → list_any (λ q. bytes_eq q.name name) princs ≡ false
-no_name name princs none = list_any_none (λ q. bytes_eq q.name name) princs (λ i d lt. false_from_ne_true _ (λ e. none i d lt (same_bytes _ name e)))
+pub no_name : (name : List ℕ) (princs : List Princ) → All (λ q. q.name ≢ name) princs
+    → list_any (λ q. bytes_eq q.name name) princs ≡ false
+no_name name princs none = list_any_none (λ q. bytes_eq q.name name) princs
+    (λ i d lt. false_from_ne_true _ (λ e. none i d lt (same_bytes _ name e)))
 
-name_none : (name : List ℕ) (princs : List Princ) → list_any (λ q. bytes_eq q.name name) princs ≡ false → All (λ q. q.name ≢ name) princs
-name_none name princs none i d lt is = true≢false (sym (bytes_same _ name is) ∙ none_any (λ q. bytes_eq q.name name) princs none i d lt)
+name_none : (name : List ℕ) (princs : List Princ) → list_any (λ q. bytes_eq q.name name) princs ≡ false
+    → All (λ q. q.name ≢ name) princs
+name_none name princs none i d lt is =
+    true≢false (sym (bytes_same _ name is) ∙ none_any (λ q. bytes_eq q.name name) princs none i d lt)
 
 not_true : (b : Bool) → not b ≡ true → b ≡ false
 not_true true e = sym e
@@ -67,7 +74,8 @@ name_of_test (DropPolicy name) r e = tt
 test_of_name : (op : Op) (r : RowLists) → IsNewName op r → is_new_name op r ≡ true
 test_of_name (PutPrinc p) r h = refl
 test_of_name (DropPrinc name) r h = refl
-test_of_name (Rename old p) r h = either_true (bytes_eq p.name old) (not (list_any (λ q. bytes_eq q.name p.name) r.princs)) (⊎_elim
+test_of_name (Rename old p) r h =
+    either_true (bytes_eq p.name old) (not (list_any (λ q. bytes_eq q.name p.name) r.princs)) (⊎_elim
     (λ same. inl (bytes_same p.name old same))
     (λ free. inr (not_false (list_any (λ q. bytes_eq q.name p.name) r.princs) (no_name p.name r.princs free)))
     h)
@@ -82,6 +90,8 @@ pub applied_name : (op : Op) (rows : RowLists) → may_apply op rows ≡ true �
 unfolding may_apply
 applied_name op rows e = name_of_test op rows (and_parts (is_room (effect (Some op) rows)) (is_new_name op rows) e).1
 
-pub may_from : (op : Op) (rows : RowLists) → IsRoom (effect (Some op) rows) → IsNewName op rows → may_apply op rows ≡ true
+pub may_from : (op : Op) (rows : RowLists) → IsRoom (effect (Some op) rows) → IsNewName op rows
+    → may_apply op rows ≡ true
 unfolding may_apply
-may_from op rows room name = and_from (is_room (effect (Some op) rows)) (is_new_name op rows) (le-leb _ _ room) (test_of_name op rows name)
+may_from op rows room name =
+    and_from (is_room (effect (Some op) rows)) (is_new_name op rows) (le-leb _ _ room) (test_of_name op rows name)

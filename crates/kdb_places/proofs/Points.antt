@@ -1,5 +1,6 @@
 -- At which point a place stands, and how many entries it holds.
-use Rattle.std.proofs.Common.{◌≡◌, ◌-◌, ◌<◌, ◌≤◌, List, [], ◌∷◌, ◌++◌, length, drop, refl, ◌∙◌, ap, arith, length-append, length-drop}
+use Rattle.std.proofs.Common.{◌≡◌, ◌-◌, ◌<◌, ◌≤◌, List, [], ◌∷◌, ◌++◌, length, drop}
+use Rattle.std.proofs.Common.{refl, ◌∙◌, ap, arith, length-append, length-drop}
 use Rattle.std.proofs.lemmas.List.{drop-append-le}
 use Rattle.kdb_base.specs.Moment.{Moment}
 use Rattle.kdb_base.specs.declared.moments.Point.{Point}
@@ -13,12 +14,14 @@ last_of_more point [] e = refl
 last_of_more point (x ∷ entries) e = last_of_more x.point entries e
 
 -- the last of the last entries
-pub committed_point : (op : Op) (time : Moment) (p : Place) → 0 < p.size → point_of (committed op time p) ≡ next_point time p
+pub committed_point : (op : Op) (time : Moment) (p : Place) → 0 < p.size
+    → point_of (committed op time p) ≡ next_point time p
 committed_point op time p some =
     let e = change op (next_point time p) in
     let k = length (p.held ++ e ∷ []) - p.size in
     let long = length-append p.held (e ∷ []) in
-    ap (last_point no_point) (drop-append-le k p.held (e ∷ []) (omega (arith, long, some))) ∙ last_of_more no_point (drop k p.held) e
+    ap (last_point no_point) (drop-append-le k p.held (e ∷ []) (omega (arith, long, some)))
+    ∙ last_of_more no_point (drop k p.held) e
 
 pub held_few : (op : Op) (time : Moment) (p : Place) → length (committed op time p).held ≤ p.size
 held_few op time p =

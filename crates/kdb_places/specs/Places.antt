@@ -67,19 +67,51 @@ committed op time p = record {
 
 -- The log is begun anew, with another size and block perhaps. The files are then of format 2.
 abbrev pub log_anew : Point → ℕ → ℕ → Place → Place
-log_anew base size block p = record { realm = p.realm; rows = p.rows; held = base_marker base ∷ []; stash = p.stash; size = size; block = block; format = 2 }
+log_anew base size block p = record {
+  realm = p.realm;
+  rows = p.rows;
+  held = base_marker base ∷ [];
+  stash = p.stash;
+  size = size;
+  block = block;
+  format = 2;
+}
 
 -- All rows are replaced, and the log is begun anew. The files are then of format 2.
 abbrev pub replaced : List ℕ → RowLists → Point → Place → Place
-replaced realm rows base p = record { realm = realm; rows = rows; held = base_marker base ∷ []; stash = p.stash; size = p.size; block = p.block; format = 2 }
+replaced realm rows base p = record {
+  realm = realm;
+  rows = rows;
+  held = base_marker base ∷ [];
+  stash = p.stash;
+  size = p.size;
+  block = p.block;
+  format = 2;
+}
 
 -- Another stash is kept.
 abbrev pub restashed : List ℕ → Place → Place
-restashed bytes p = record { realm = p.realm; rows = p.rows; held = p.held; stash = Some bytes; size = p.size; block = p.block; format = p.format }
+restashed bytes p = record {
+  realm = p.realm;
+  rows = p.rows;
+  held = p.held;
+  stash = Some bytes;
+  size = p.size;
+  block = p.block;
+  format = p.format;
+}
 
 -- A database is made.
 abbrev pub created : List ℕ → RowLists → Point → ℕ → ℕ → Option (List ℕ) → ℕ → Place
-created realm rows base size block stash format = record { realm = realm; rows = rows; held = base_marker base ∷ []; stash = stash; size = size; block = block; format = format }
+created realm rows base size block stash format = record {
+  realm = realm;
+  rows = rows;
+  held = base_marker base ∷ [];
+  stash = stash;
+  size = size;
+  block = block;
+  format = format;
+}
 
 -- ---- contents
 

@@ -1,5 +1,6 @@
 -- What is found by key behind a put and a drop.
-use Rattle.std.proofs.Common.{◌≡◌, ◌≢◌, ℕ, Bool, true, false, List, [], ◌∷◌, ◌++◌, Option, Some, None, refl, sym, ap, ◌∙◌, ◌⊎◌, inl, inr}
+use Rattle.std.proofs.Common.{◌≡◌, ◌≢◌, ℕ, Bool, true, false, List, [], ◌∷◌, ◌++◌}
+use Rattle.std.proofs.Common.{Option, Some, None, refl, sym, ap, ◌∙◌, ◌⊎◌, inl, inr}
 use Rattle.std.specs.Prelude.{filter, find}
 use Rattle.std.specs.Option.{option_or}
 use Rattle.std.specs.Ordering.{is_lt, is_gt, is_eq}
@@ -46,15 +47,18 @@ module _ {X : Type 0} (key : X → List ℕ) where
   first : (name : List ℕ) (y : X) (ys : List X) → has key name y ≡ true → find (has key name) (y ∷ ys) ≡ Some y
   first name y ys e = rw e refl
 
-  passed : (name : List ℕ) (y : X) (ys : List X) → has key name y ≡ false → find (has key name) (y ∷ ys) ≡ find (has key name) ys
+  passed : (name : List ℕ) (y : X) (ys : List X) → has key name y ≡ false
+      → find (has key name) (y ∷ ys) ≡ find (has key name) ys
   passed name y ys e = rw e refl
 
   -- a test that keeps the records of a key
-  find_kept : (name : List ℕ) (p : X → Bool) → ((y : X) → has key name y ≡ true → p y ≡ true) → (xs : List X) → find (has key name) (filter p xs) ≡ find (has key name) xs
+  find_kept : (name : List ℕ) (p : X → Bool) → ((y : X) → has key name y ≡ true → p y ≡ true) → (xs : List X)
+      → find (has key name) (filter p xs) ≡ find (has key name) xs
   find_kept name p keeps [] = refl
   find_kept name p keeps (y ∷ ys) =
       elim (truth (has key name y)) [
-        | inl here ↦ ap (find (has key name)) (kept p y ys (keeps y here)) ∙ first name y (filter p ys) here ∙ sym (first name y ys here)
+        | inl here ↦ ap (find (has key name)) (kept p y ys (keeps y here)) ∙ first name y (filter p ys) here
+            ∙ sym (first name y ys here)
         | inr other ↦
             let rest = find_kept name p keeps ys ∙ sym (passed name y ys other) in
             elim (truth (p y)) [
@@ -64,7 +68,8 @@ module _ {X : Type 0} (key : X → List ℕ) where
       ]
 
   -- a test that leaves them out
-  find_gone : (name : List ℕ) (p : X → Bool) → ((y : X) → has key name y ≡ true → p y ≡ false) → (xs : List X) → find (has key name) (filter p xs) ≡ None
+  find_gone : (name : List ℕ) (p : X → Bool) → ((y : X) → has key name y ≡ true → p y ≡ false) → (xs : List X)
+      → find (has key name) (filter p xs) ≡ None
   find_gone name p leaves [] = refl
   find_gone name p leaves (y ∷ ys) =
       let rest = find_gone name p leaves ys in
@@ -81,34 +86,40 @@ module _ {X : Type 0} (key : X → List ℕ) where
     at_key : (y : X) → has key name y ≡ true → key_cmp (key y) k ≡ o
     at_key y here = ap (λ (a : List ℕ). key_cmp a k) (same_bytes (key y) name here) ∙ is
 
-    low_kept : is_lt o ≡ true → (xs : List X) → find (has key name) (filter (is_lower key k) xs) ≡ find (has key name) xs
+    low_kept : is_lt o ≡ true → (xs : List X)
+        → find (has key name) (filter (is_lower key k) xs) ≡ find (has key name) xs
     low_kept lt xs = find_kept name (is_lower key k) (λ y here. ap is_lt (at_key y here) ∙ lt) xs
 
     low_gone : is_lt o ≡ false → (xs : List X) → find (has key name) (filter (is_lower key k) xs) ≡ None
     low_gone lt xs = find_gone name (is_lower key k) (λ y here. ap is_lt (at_key y here) ∙ lt) xs
 
-    high_kept : is_gt o ≡ true → (xs : List X) → find (has key name) (filter (is_higher key k) xs) ≡ find (has key name) xs
+    high_kept : is_gt o ≡ true → (xs : List X)
+        → find (has key name) (filter (is_higher key k) xs) ≡ find (has key name) xs
     high_kept gt xs = find_kept name (is_higher key k) (λ y here. ap is_gt (at_key y here) ∙ gt) xs
 
     high_gone : is_gt o ≡ false → (xs : List X) → find (has key name) (filter (is_higher key k) xs) ≡ None
     high_gone gt xs = find_gone name (is_higher key k) (λ y here. ap is_gt (at_key y here) ∙ gt) xs
 
   -- on both sides of another key, the record is found as before
-  sides : (name k : List ℕ) (xs middle : List X) → name ≢ k → find (has key name) middle ≡ find (has key name) (filter (is_higher key k) xs)
+  sides : (name k : List ℕ) (xs middle : List X) → name ≢ k
+      → find (has key name) middle ≡ find (has key name) (filter (is_higher key k) xs)
       → find (has key name) (filter (is_lower key k) xs ++ middle) ≡ find (has key name) xs
   sides name k xs middle other same =
       let low = filter (is_lower key k) xs in
       let whole = find-append (has key name) low middle in
-      let behind : find (has key name) (low ++ middle) ≡ option_or (find (has key name) low) (find (has key name) (filter (is_higher key k) xs)) =
+      let behind : find (has key name) (low ++ middle)
+      ≡ option_or (find (has key name) low) (find (has key name) (filter (is_higher key k) xs)) =
       whole ∙ ap (option_or (find (has key name) low)) same in
       elim (three (key_cmp name k)) [
         | inl lt ↦
-            behind ∙ ap (option_or (find (has key name) low)) (high_gone name k Less lt refl xs) ∙ or_none (find (has key name) low) ∙ low_kept name k Less lt refl xs
+            behind ∙ ap (option_or (find (has key name) low)) (high_gone name k Less lt refl xs)
+            ∙ or_none (find (has key name) low) ∙ low_kept name k Less lt refl xs
         | inr more ↦ elim more [
           | inl same_key ↦ absurd (other (equal_is name k same_key))
           | inr gt ↦
               behind
-              ∙ ap (λ (a : Option X). option_or a (find (has key name) (filter (is_higher key k) xs))) (low_gone name k Greater gt refl xs)
+              ∙ ap (λ (a : Option X). option_or a (find (has key name) (filter (is_higher key k) xs)))
+              (low_gone name k Greater gt refl xs)
               ∙ high_kept name k Greater gt refl xs
         ]
       ]
@@ -120,10 +131,12 @@ module _ {X : Type 0} (key : X → List ℕ) where
         | inr not ↦ not
       ]
 
-  pub put_other : (name : List ℕ) (x : X) (xs : List X) → name ≢ key x → find (has key name) (put_by key x xs) ≡ find (has key name) xs
+  pub put_other : (name : List ℕ) (x : X) (xs : List X) → name ≢ key x
+      → find (has key name) (put_by key x xs) ≡ find (has key name) xs
   unfolding put_by
   put_other name x xs other =
-      sides name (key x) xs (x ∷ filter (is_higher key (key x)) xs) other (passed name x (filter (is_higher key (key x)) xs) (other_key x name other))
+      sides name (key x) xs (x ∷ filter (is_higher key (key x)) xs) other
+      (passed name x (filter (is_higher key (key x)) xs) (other_key x name other))
 
   pub put_own : (x : X) (xs : List X) → find (has key (key x)) (put_by key x xs) ≡ Some x
   unfolding put_by
@@ -132,10 +145,12 @@ module _ {X : Type 0} (key : X → List ℕ) where
       let low = filter (is_lower key name) xs in
       let high = filter (is_higher key name) xs in
       find-append (has key name) low (x ∷ high)
-      ∙ ap (λ (a : Option X). option_or a (find (has key name) (x ∷ high))) (low_gone name name Equal (self name) refl xs)
+      ∙ ap (λ (a : Option X). option_or a (find (has key name) (x ∷ high)))
+      (low_gone name name Equal (self name) refl xs)
       ∙ first name x high (bytes_same name name refl)
 
-  pub drop_other : (name k : List ℕ) (xs : List X) → name ≢ k → find (has key name) (drop_by key k xs) ≡ find (has key name) xs
+  pub drop_other : (name k : List ℕ) (xs : List X) → name ≢ k
+      → find (has key name) (drop_by key k xs) ≡ find (has key name) xs
   unfolding drop_by
   drop_other name k xs other = sides name k xs (filter (is_higher key k) xs) other refl
 

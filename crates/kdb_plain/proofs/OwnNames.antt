@@ -11,19 +11,23 @@ use Rattle.princ_name.specs.Printed.{IsPrinted}
 use Rattle.master_keys.specs.First.{master_name}
 use Rattle.kdb_plain.specs.States.{history_name}
 
-pub master_prints : (realm : List ℕ) → IsRealm realm → master_name realm ≡ printed (name_in (codes "K" ∷ codes "M" ∷ []) realm)
+pub master_prints : (realm : List ℕ) → IsRealm realm
+    → master_name realm ≡ printed (name_in (codes "K" ∷ codes "M" ∷ []) realm)
 unfolding master_name printed_parts printed_text printed_byte is_sign can_stand is_refused
 master_prints realm is = sym (prints_in (codes "K" ∷ codes "M" ∷ []) realm is)
 
-pub history_prints : (realm : List ℕ) → IsRealm realm → history_name realm ≡ printed (name_in (codes "kadmin" ∷ codes "history" ∷ []) realm)
+pub history_prints : (realm : List ℕ) → IsRealm realm
+    → history_name realm ≡ printed (name_in (codes "kadmin" ∷ codes "history" ∷ []) realm)
 unfolding history_name printed_parts printed_text printed_byte is_sign can_stand is_refused
 history_prints realm is = sym (prints_in (codes "kadmin" ∷ codes "history" ∷ []) realm is)
 
 pub history_printed : (realm : List ℕ) → IsRealm realm → IsPrinted (history_name realm)
 unfolding history_name printed_parts printed_text printed_byte is_sign can_stand is_refused
 history_printed realm is =
-    let parts : List (List ℕ) = codes "kadmin" ∷ codes "history" ∷ [] in
-    (name_in parts realm, (is_name_in parts realm is (λ e. absurd cc) (omega arith) refl (omega arith), sym (prints_in parts realm is)))
+    let parts : List (List ℕ) = codes "kadmin" ∷ codes "history" ∷ [] in (
+      name_in parts realm,
+      (is_name_in parts realm is (λ e. absurd cc) (omega arith) refl (omega arith), sym (prints_in parts realm is)),
+    )
 
 -- ---- behind the same front
 
@@ -31,6 +35,8 @@ same_front : (front xs ys : List ℕ) → bytes_eq (front ++ xs) (front ++ ys) �
 same_front [] xs ys = refl
 same_front (b ∷ front) xs ys = rw (eq-eqb b b refl) (same_front front xs ys)
 
-pub history_rest : (realm name rest : List ℕ) → name ≡ codes "kadmin/history@" ++ rest → bytes_eq name (history_name realm) ≡ bytes_eq rest realm
+pub history_rest : (realm name rest : List ℕ) → name ≡ codes "kadmin/history@" ++ rest
+    → bytes_eq name (history_name realm) ≡ bytes_eq rest realm
 unfolding history_name
-history_rest realm name rest is = ap (λ n. bytes_eq n (codes "kadmin/history@" ++ realm)) is ∙ same_front (codes "kadmin/history@") rest realm
+history_rest realm name rest is =
+    ap (λ n. bytes_eq n (codes "kadmin/history@" ++ realm)) is ∙ same_front (codes "kadmin/history@") rest realm

@@ -6,7 +6,8 @@ use Rattle.policy_rules.specs.Rules.{Rules}
 use Rattle.princ_rows.specs.Effects.{put_by, drop_by}
 use Rattle.kdb_plain.specs.States.{NeverRise, history_name}
 use Rattle.kdb_plain.specs.declared.changes.PlainOp.{PlainOp}
-use Rattle.kdb_plain.specs.declared.changes.PlainOp.TheVariants.{PutPrinc, DropPrinc, Rename, PutPolicy, DropPolicy, PutMasters}
+use Rattle.kdb_plain.specs.declared.changes.PlainOp.TheVariants.{PutPrinc, DropPrinc, Rename}
+use Rattle.kdb_plain.specs.declared.changes.PlainOp.TheVariants.{PutPolicy, DropPolicy, PutMasters}
 use Rattle.kdb_plain.specs.declared.princs.PlainPrinc.{PlainPrinc}
 use Rattle.kdb_plain.specs.declared.states.State.{State}
 

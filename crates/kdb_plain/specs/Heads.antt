@@ -1,5 +1,5 @@
--- The fields of a principal without its keys. What a command does to them is said once, of records as they are kept and of plain
--- ones.
+-- The fields of a principal without its keys. What a command does to them is said once, of records as they are kept and
+-- of plain ones.
 use Rattle.std.specs.Prelude.{List, [], None}
 use Rattle.princ_record.specs.declared.princs.Princ.{Princ}
 use Rattle.plain_keys.specs.declared.items.PlainItem.{PlainItem}

@@ -17,7 +17,8 @@ use Rattle.kdb_plain.specs.declared.princs.PlainPrinc.{PlainPrinc}
 abbrev pub in_64_bits : ℕ → ℕ
 in_64_bits n = min n 18446744073709551615
 
--- a key in a row, under a master key of this type: version, type, kind of salt, counted salt, and the counted wrapped key
+-- a key in a row, under a master key of this type: version, type, kind of salt, counted salt, and the counted wrapped
+-- key
 abbrev pub item_len : Etype → PlainItem → ℕ
 item_len master k = 10 + length (salt_bytes k.salt) + wrapped_len master k.key.etype
 
@@ -31,7 +32,8 @@ set_len history s = 4 + sum_by (old_key_len history) s.keys
 
 -- the row, its keys under a master key of the first type and its remembered keys under a history key of the second
 unfoldable pub row_len : Etype → Etype → PlainPrinc → ℕ
-row_len master history q = length (princ (plain_head q)) + sum_by (item_len master) q.keys + sum_by (set_len history) q.old
+row_len master history q =
+    length (princ (plain_head q)) + sum_by (item_len master) q.keys + sum_by (set_len history) q.old
 
 -- ---- what K/M's row has beside: its activations, and the newest master key wrapped under each older one
 
@@ -47,4 +49,5 @@ abbrev pub older_masters : List Master → List Master
 older_masters masters = take (length masters - 1) masters
 
 unfoldable pub chain_len : List Master → List Activation → ℕ
-chain_len masters activations = (4 + 6 * length activations) + (4 + aux_lens (last_or None masters) (older_masters masters))
+chain_len masters activations =
+    (4 + 6 * length activations) + (4 + aux_lens (last_or None masters) (older_masters masters))

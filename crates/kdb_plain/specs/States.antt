@@ -1,5 +1,7 @@
 -- What is found in a state, and which states are valid.
-use Rattle.std.specs.Prelude.{ℕ, ◌≡◌, ◌+◌, ◌≤◌, Bool, true, false, nat_eq, List, [], ◌∷◌, ◌++◌, ◌&&◌, nat_le, codes, length, map, filter, reverse, find, Option, Some, None, is_some, option_map, option_and_then, IfSome, IsTrue}
+use Rattle.std.specs.Prelude.{ℕ, ◌≡◌, ◌+◌, ◌≤◌, Bool, true, false, nat_eq, List, [], ◌∷◌, ◌++◌}
+use Rattle.std.specs.Prelude.{◌&&◌, nat_le, codes, length, map, filter, reverse, find, Option}
+use Rattle.std.specs.Prelude.{Some, None, is_some, option_map, option_and_then, IfSome, IsTrue}
 use Rattle.std.specs.List.{All, last_or, list_all}
 use Rattle.std.specs.Str.{bytes_eq}
 use Rattle.kdb_base.specs.Key.{Key}
@@ -67,7 +69,8 @@ history_name realm = codes "kadmin/history@" ++ realm
 
 -- the key that protects remembered keys, in a database of this realm
 unfoldable pub history_key : List ℕ → List PlainPrinc → Option Key
-history_key realm princs = option_and_then (λ (q : PlainPrinc). first_key q.keys) (princ_named (history_name realm) princs)
+history_key realm princs =
+    option_and_then (λ (q : PlainPrinc). first_key q.keys) (princ_named (history_name realm) princs)
 
 -- ---- valid states
 
@@ -109,8 +112,8 @@ never_rise (k ∷ keys) = list_all (may_follow k) keys && never_rise keys
 abbrev pub NeverRise : List PlainItem → Type 0
 NeverRise keys = IsTrue (never_rise keys)
 
--- The state is valid at a time. This speaks of no point, and holds at later times too; a valid state is one that is valid at the
--- time of its point.
+-- The state is valid at a time. This speaks of no point, and holds at later times too; a valid state is one that is
+-- valid at the time of its point.
 pub record IsValid (time : Moment) (s : State) : Type 0 where
   pub realm : IsRealm s.realm
   pub princ_order : AreInOrder (princ_names s.princs)

@@ -8,7 +8,8 @@ ghost use Rattle.princ_keys.specs.Keys.{salt_bytes};
 ghost use Rattle.princ_record.specs.Princs.{name_of, princ};
 ghost use Rattle.princ_record.specs.Sizes.{pw_text_len, strings_item_len};
 ghost use Rattle.kdb_plain.specs.Heads.{plain_head};
-ghost use Rattle.kdb_plain.specs.Lengths.{aux_len, aux_lens, chain_len, in_64_bits, item_len, old_key_len, older_masters, row_len, set_len};
+ghost use Rattle.kdb_plain.specs.Lengths.{aux_len, aux_lens, chain_len, in_64_bits, item_len};
+ghost use Rattle.kdb_plain.specs.Lengths.{old_key_len, older_masters, row_len, set_len};
 ghost use Rattle.tagged_data.specs.StringLaws.{string_len};
 
 use crate::princs::PlainPrinc;

@@ -4,7 +4,8 @@ ghost use Rattle.std.specs.Prelude.{◌≡◌, ◌≤◌, IfOk, find, option_map
 ghost use Rattle.std.specs.Str.{bytes_eq};
 ghost use Rattle.kdb_base.specs.Limits.{most_rows};
 ghost use Rattle.master_keys.specs.First.{master_name};
-ghost use Rattle.kdb_plain.specs.States.{first_key, has_policy, history_key, history_name, is_version, master_of, policy_named, princ_named, users_of, uses};
+ghost use Rattle.kdb_plain.specs.States.{first_key, has_policy, history_key, history_name, is_version};
+ghost use Rattle.kdb_plain.specs.States.{master_of, policy_named, princ_named, users_of, uses};
 
 use crate::lists::{PlainPrincs, PolicyList};
 use crate::princs::PlainPrinc;

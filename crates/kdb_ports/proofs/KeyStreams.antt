@@ -1,5 +1,6 @@
 -- The next byte of a key's stream, and what is left after it.
-use Rattle.std.proofs.Common.{◌≡◌, ℕ, ◌+◌, ◌-◌, ◌/◌, ◌%◌, ◌^◌, ◌<◌, List, length, slice_index, slice_set, w32, refl, ap, ◌∙◌, arith}
+use Rattle.std.proofs.Common.{◌≡◌, ℕ, ◌+◌, ◌-◌, ◌/◌, ◌%◌, ◌^◌, ◌<◌, List, length}
+use Rattle.std.proofs.Common.{slice_index, slice_set, w32, refl, ap, ◌∙◌, arith}
 use Rattle.std.proofs.Math.Path.{fun_ext}
 use Rattle.std.proofs.Math.Decide.{dec_lt}
 use Rattle.std.proofs.lemmas.List.{get_or-set_other}
@@ -29,11 +30,14 @@ next_in_word words word given stands more =
 
 -- one byte more was given
 pub goes_on : (words : ChaCha) (given : ℕ)
-    → chacha_bytes words.key (drawn_in words (given + 1)) ≡ later_bytes 1 (chacha_bytes words.key (drawn_in words given))
-goes_on words given = fun_ext (λ i. key_byte_at words.key (drawn_in words (given + 1) + i) (drawn_in words given + (1 + i)) (omega arith))
+    → chacha_bytes words.key (drawn_in words (given + 1))
+    ≡ later_bytes 1 (chacha_bytes words.key (drawn_in words given))
+goes_on words given =
+    fun_ext (λ i. key_byte_at words.key (drawn_in words (given + 1) + i) (drawn_in words given + (1 + i)) (omega arith))
 
 -- a new word begins where all of the last one were given
-pub first_of_word : (old new : ChaCha) (x : ℕ) (word : List ℕ) → old.stream ≡ 0 → old.word_pos < 2 ^ 68 → (x, new) ≡ next_word 10 old
+pub first_of_word : (old new : ChaCha) (x : ℕ) (word : List ℕ) → old.stream ≡ 0 → old.word_pos < 2 ^ 68
+    → (x, new) ≡ next_word 10 old
     → word ≡ to_le_bytes w32 x → slice_index word 0 ≡ key_byte old.key (drawn_in old 4)
 unfolding key_byte
 first_of_word old new x word nonce below step is =
@@ -50,11 +54,13 @@ after_first old new x step =
     rw key (fun_ext (λ i. key_byte_at old.key (drawn_in new 1 + i) (drawn_in old 4 + (1 + i)) (omega arith)))
 
 -- a stream behind n bytes, and that behind m more
-pub later_bytes-later_bytes : (m n : ℕ) (stream : ℕ → ℕ) → later_bytes m (later_bytes n stream) ≡ later_bytes (n + m) stream
+pub later_bytes-later_bytes : (m n : ℕ) (stream : ℕ → ℕ)
+    → later_bytes m (later_bytes n stream) ≡ later_bytes (n + m) stream
 later_bytes-later_bytes m n stream = fun_ext (λ i. ap stream (omega arith))
 
 -- one byte more of a stream stands in
-pub stands_one_more : (xs : List ℕ) (n x : ℕ) (stream rest : ℕ → ℕ) → ((i : ℕ) → i < n → slice_index xs i ≡ stream i) → n < length xs
+pub stands_one_more : (xs : List ℕ) (n x : ℕ) (stream rest : ℕ → ℕ) → ((i : ℕ) → i < n → slice_index xs i ≡ stream i)
+    → n < length xs
     → rest ≡ later_bytes n stream → x ≡ rest 0 → (i : ℕ) → i < n + 1 → slice_index (slice_set xs n x) i ≡ stream i
 stands_one_more xs n x stream rest before inside told is i below =
     let value : x ≡ stream n = is ∙ ap (λ (f : ℕ → ℕ). f 0) told ∙ ap stream (omega arith) in

@@ -1,5 +1,5 @@
--- Sources and sinks over the readers and writers of std. Std knows the bytes of some of them, as of a slice or a vector,
--- and of those an adapter says what it did with them.
+-- Sources and sinks over the readers and writers of std. Std knows the bytes of some of them, as of a slice or a
+-- vector, and of those an adapter says what it did with them.
 use Rattle.std.specs.Prelude.{ℕ, List, take, Option}
 use Rattle.std.specs.Io.KnownBytes.{Appends}
 

@@ -1,7 +1,8 @@
 -- Random bytes from a seed: the key stream of ChaCha20 (RFC 8439, 2.3 and 2.4) under the seed as its
 -- key, with a zero nonce. The block counter has 64 bits, and so the stream is the RFC's for its first
 -- 2 ^ 32 blocks.
-use Rattle.std.specs.Prelude.{◌≡◌, ◌<◌, ◌≤◌, ℕ, Option, Some, None, ◌+◌, ◌-◌, ◌*◌, ◌/◌, ◌%◌, ◌^◌, List, length, slice_index}
+use Rattle.std.specs.Prelude.{◌≡◌, ◌<◌, ◌≤◌, ℕ, Option, Some, None, ◌+◌, ◌-◌}
+use Rattle.std.specs.Prelude.{◌*◌, ◌/◌, ◌%◌, ◌^◌, List, length, slice_index}
 use Rattle.std.specs.Int.{w32, to_le_bytes}
 use Rattle.rand_chacha.specs.ChaCha.{ChaCha, word_at}
 use Rattle.kdb_ports.specs.Told.{StandsIn, later_bytes}

@@ -1,6 +1,7 @@
 //! Random bytes of the cipher ChaCha20, from a seed.
 
-ghost use Rattle.std.specs.Prelude.{◌≡◌, ◌↔◌, ℕ, Option, Some, None, length, Contains, IsErr, IsTrue, OnErr, OnOk, IfSome, option_map};
+ghost use Rattle.std.specs.Prelude.{◌≡◌, ◌↔◌, ℕ, Option, Some, None, length, Contains};
+ghost use Rattle.std.specs.Prelude.{IsErr, IsTrue, OnErr, OnOk, IfSome, option_map};
 ghost use Rattle.rand_chacha.specs.ChaCha.{key_of};
 ghost use Rattle.kdb_base.specs.Causes.{HasCause};
 ghost use Rattle.kdb_ports.specs.Told.{StandsIn, later_bytes};
@@ -50,7 +51,8 @@ impl KeyStream {
     fn next_byte(&mut self) -> u8
         ensures byte { result ≡ key_byte self.old.key self.old.drawn }
         ensures key { self.new.key ≡ self.old.key }
-        ensures rest { chacha_bytes self.new.key self.new.drawn ≡ later_bytes 1 (chacha_bytes self.old.key self.old.drawn) }
+        ensures rest { chacha_bytes self.new.key self.new.drawn
+            ≡ later_bytes 1 (chacha_bytes self.old.key self.old.drawn) }
     {
         if self.given == 4 {
             self.word = self.words.next_word().to_le_bytes();
@@ -65,7 +67,8 @@ impl KeyStream {
     fn fill(&mut self, into: &mut [u8])
         ensures bytes { StandsIn into.new (chacha_bytes self.old.key self.old.drawn) }
         ensures key { self.new.key ≡ self.old.key }
-        ensures rest { chacha_bytes self.new.key self.new.drawn ≡ later_bytes (length into.old) (chacha_bytes self.old.key self.old.drawn) }
+        ensures rest { chacha_bytes self.new.key self.new.drawn
+            ≡ later_bytes (length into.old) (chacha_bytes self.old.key self.old.drawn) }
     {
         for byte in into.iter_mut() {
             *byte = self.next_byte();
@@ -88,7 +91,8 @@ impl Model for ChaChaEntropy {
 
     ghost Value = { ChaChaState };
 
-    ghost view = { λ s. record { key = s.bytes.key; drawn = s.bytes.drawn; fails = s.fails; calls = s.calls; faults = s.faults } };
+    ghost view = { λ s.
+        record { key = s.bytes.key; drawn = s.bytes.drawn; fails = s.fails; calls = s.calls; faults = s.faults } };
 }
 
 impl ChaChaEntropy {
@@ -124,8 +128,10 @@ impl Entropy for ChaChaEntropy {
     /// Gives the next bytes. It fails where its number is among those that are to fail.
     fn draw(&mut self, into: &mut [u8]) -> Result<(), DrawFailed>
         ensures bytes { OnOk result (StandsIn into.new (chacha_bytes self.old.key self.old.drawn)) }
-        ensures rest { OnOk result (Some (chacha_bytes self.new.key self.new.drawn) ≡ option_map (later_bytes (length into.old)) (Some (chacha_bytes self.old.key self.old.drawn))) }
-        ensures err { OnErr result (Some (chacha_bytes self.new.key self.new.drawn) ≡ Some (chacha_bytes self.old.key self.old.drawn)) }
+        ensures rest { OnOk result (Some (chacha_bytes self.new.key self.new.drawn)
+            ≡ option_map (later_bytes (length into.old)) (Some (chacha_bytes self.old.key self.old.drawn))) }
+        ensures err { OnErr result
+            (Some (chacha_bytes self.new.key self.new.drawn) ≡ Some (chacha_bytes self.old.key self.old.drawn)) }
         ensures cause { HasCause self.old.faults self.new.faults result }
 
         ensures fails { IsErr result ↔ Contains self.old.fails self.old.calls }

@@ -1,5 +1,6 @@
 //! A link: connections to a peer, one after the other.
-ghost use Rattle.std.specs.Prelude.{◌≡◌, ◌<◌, ◌≤◌, ◌↔◌, ◌∷◌, ◌++◌, ◌+◌, ◌-◌, [], List, ℕ, Option, Some, None, ◌⊎◌, length, take, min, get_or, Contains, IfOk, IfSome, IsErr, OnErr, OnOk, IsTrue};
+ghost use Rattle.std.specs.Prelude.{◌≡◌, ◌<◌, ◌≤◌, ◌↔◌, ◌∷◌, ◌++◌, ◌+◌, ◌-◌, [], List, ℕ, Option, Some, None, ◌⊎◌};
+ghost use Rattle.std.specs.Prelude.{length, take, min, get_or, Contains, IfOk, IfSome, IsErr, OnErr, OnOk, IsTrue};
 ghost use Rattle.kdb_base.specs.Causes.{HasCause};
 ghost use Rattle.kdb_ports.specs.Links.{Wire, after_dial, after_sent, before_received, dialled, with_sent, IsDrained};
 ghost use Rattle.kdb_ports.specs.Memory.{counted_up};
@@ -131,14 +132,24 @@ impl Model for MemoryLink {
 
     ghost Value = { LinkState };
 
-    ghost view = { λ l. record { wire = record { sent = l.sent.items; left = l.left; to_come = l.to_come.items }; fails = l.fails; calls = l.calls; faults = l.faults } };
+    ghost view = { λ l. record {
+      wire = record { sent = l.sent.items; left = l.left; to_come = l.to_come.items };
+      fails = l.fails;
+      calls = l.calls;
+      faults = l.faults;
+    } };
 }
 
 impl MemoryLink {
     /// A link on which no connection was made. The connection of the kth dial, counted from 0, gives the kth of
     /// these texts, and nothing where there is none. Its calls of the numbers in `fails` fail.
     pub fn new(alloc: Global, gives: VecDeque<Blob>, fails: Fails) -> Result<MemoryLink, MemoryOut>
-        ensures { IfOk result (λ link. link ≡ record { wire = record { sent = []; left = []; to_come = gives.items }; fails = fails; calls = 0; faults = 0 }) }
+        ensures { IfOk result (λ link. link ≡ record {
+          wire = record { sent = []; left = []; to_come = gives.items };
+          fails = fails;
+          calls = 0;
+          faults = 0;
+        }) }
     {
         Ok(MemoryLink {
             alloc,
@@ -153,7 +164,8 @@ impl MemoryLink {
 
     /// What was sent on the connection of this dial, counted from 0. None exactly where there was no such dial.
     pub fn sent(&self, dial: u32) -> Option<&[u8]>
-        ensures some { IfSome result (λ text. (dial < length self.now.wire.sent) × (text.now ≡ get_or self.now.wire.sent (length self.now.wire.sent - 1 - dial) [])) }
+        ensures some { IfSome result (λ text. (dial < length self.now.wire.sent)
+            × (text.now ≡ get_or self.now.wire.sent (length self.now.wire.sent - 1 - dial) [])) }
         ensures none { result ≡ None → length self.now.wire.sent ≤ dial }
     {
         let dials = self.sent.len();

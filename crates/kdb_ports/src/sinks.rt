@@ -1,4 +1,5 @@
-ghost use Rattle.std.specs.Prelude.{◌≡◌, ◌<◌, ◌≤◌, ◌++◌, ◌↔◌, [], List, ℕ, Option, Some, None, length, take, Contains, IfOk, IfSome, IsErr, OnErr, OnOk, IsTrue};
+ghost use Rattle.std.specs.Prelude.{◌≡◌, ◌<◌, ◌≤◌, ◌++◌, ◌↔◌, [], List, ℕ, Option, Some, None, length};
+ghost use Rattle.std.specs.Prelude.{take, Contains, IfOk, IfSome, IsErr, OnErr, OnOk, IsTrue};
 ghost use Rattle.kdb_base.specs.Causes.{HasCause};
 ghost use Rattle.std.specs.Io.KnownBytes.{Appends, Keeps};
 ghost use Rattle.kdb_ports.specs.Told.{after_told, untold};
@@ -102,7 +103,8 @@ impl Sink for MemorySink {
         requires { 0 < length bytes.now }
         ensures least { IfOk result (λ n. 0 < n) }
         ensures bound { IfOk result (λ n. n ≤ length bytes.now) }
-        ensures bytes { IfOk result (λ n. Some self.new.written ≡ after_told (Some self.old.written) (take n bytes.now)) }
+        ensures bytes { IfOk result
+            (λ n. Some self.new.written ≡ after_told (Some self.old.written) (take n bytes.now)) }
         ensures err { OnErr result (Some self.new.written ≡ Some self.old.written) }
         ensures cause { HasCause self.old.faults self.new.faults result }
 
@@ -224,7 +226,8 @@ impl<W: Write> Sink for WriterSink<W> {
         ensures err { OnErr result (untold ≡ untold) }
         ensures cause { HasCause self.old.faults self.new.faults result }
 
-        ensures got { IfOk result (λ n. Appends (W.contents self.old.writer) (W.contents self.new.writer) (take n bytes.now)) }
+        ensures got { IfOk result
+            (λ n. Appends (W.contents self.old.writer) (W.contents self.new.writer) (take n bytes.now)) }
         ensures part { OnErr result (AppendsFront (W.contents self.old.writer) (W.contents self.new.writer) bytes.now) }
         ensures failed { OnErr result (self.new.faults ≡ counted_up self.old.faults) }
         ensures whole { OnOk result (self.new.faults ≡ self.old.faults) }

@@ -1,4 +1,5 @@
-ghost use Rattle.std.specs.Prelude.{◌≡◌, ◌<◌, ◌≤◌, ◌↔◌, [], List, ℕ, Option, Some, None, length, take, drop, min, Contains, IfOk, IsErr, OnErr, OnOk, IsTrue};
+ghost use Rattle.std.specs.Prelude.{◌≡◌, ◌<◌, ◌≤◌, ◌↔◌, [], List, ℕ, Option, Some, None, length};
+ghost use Rattle.std.specs.Prelude.{take, drop, min, Contains, IfOk, IsErr, OnErr, OnOk, IsTrue};
 ghost use Rattle.kdb_base.specs.Causes.{HasCause};
 ghost use Rattle.std.specs.Io.KnownBytes.{ReadConsumes};
 ghost use Rattle.kdb_ports.specs.Told.{before_told, untold, IsSpent};

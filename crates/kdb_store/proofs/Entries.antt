@@ -12,13 +12,16 @@ use Rattle.store_files.proofs.Committing.{prepare_runs, open_runs, opened_pendin
 use Rattle.kdb_store.specs.Parts.{ArePending}
 
 -- it is written, and nothing is done yet
-pub prepared_crash : {old new : View} (log : Journal) (o : Found) (l : Logged) → IsLogOf log o → Holds o old → IsChange o l
+pub prepared_crash : {old new : View} (log : Journal) (o : Found) (l : Logged) → IsLogOf log o → Holds o old
+    → IsChange o l
     → LeavesOnly old new (LeavesLog log old) → LeavesOnly old new (IsUnderWay l o)
-prepared_crash log o l is holds change run = weaken (prepare_runs log o change.newer is holds run) (λ c stands. inl stands)
+prepared_crash log o l is holds change run =
+    weaken (prepare_runs log o change.newer is holds run) (λ c stands. inl stands)
 
 -- it is opened
 pub opened_crash : {old mid new : View} (log : Journal) (o : Found) (l : Logged) → log.prepared ≡ Some l → IsLogOf log o
-    → Holds o old → IsChange o l → LeavesOnly old mid (LeavesLog log old) → LeavesOnly mid new (LeavesEither log (log_committed log) mid)
+    → Holds o old → IsChange o l → LeavesOnly old mid (LeavesLog log old)
+    → LeavesOnly mid new (LeavesEither log (log_committed log) mid)
     → LeavesOnly old new (IsUnderWay l o)
 opened_crash {old} {mid} {new} log o l ready is holds change first next =
     let stands = prepare_runs log o change.newer is holds first in
@@ -26,7 +29,8 @@ opened_crash {old} {mid} {new} log o l ready is holds change first next =
     (open_runs log o l is ready change holds.files (at_end stands) next) (λ c way. way)
 
 pub opened_each : {old mid new : View} (log : Journal) (o : Found) (l : Logged) → log.prepared ≡ Some l → IsLogOf log o
-    → Holds o old → IsChange o l → LeavesOnly old mid (LeavesLog log old) → LeavesOnly mid new (LeavesEither log (log_committed log) mid)
+    → Holds o old → IsChange o l → LeavesOnly old mid (LeavesLog log old)
+    → LeavesOnly mid new (LeavesEither log (log_committed log) mid)
     → HasLog (log_committed log) new → ArePending l o new
 opened_each {old} {mid} {new} log o l ready is holds change first next has =
     let stands = prepare_runs log o change.newer is holds first in

@@ -20,6 +20,8 @@ pub answers_ok : (k : Kept) (found : Result Found Refusal) → IsFoundOf k found
 answers_ok k found is = ap place_in is.1.1 ∙ ap Ok (place_is k is.0 is.1.0)
 
 -- and a refusal is why none is found
-pub answers_err : {A B : Type 0} (place : A → Place) (stop : Stop) (found : Result Found Refusal) → ((why : Refusal) → ◌≡◌ {A = Result B Stop} (Err stop) (Err (Refused why)) → found ≡ Err why) → AnswersFound place (Err stop) (place_in found)
+pub answers_err : {A B : Type 0} (place : A → Place) (stop : Stop) (found : Result Found Refusal)
+    → ((why : Refusal) → ◌≡◌ {A = Result B Stop} (Err stop) (Err (Refused why)) → found ≡ Err why)
+    → AnswersFound place (Err stop) (place_in found)
 answers_err place (Refused why) found is = ap place_in (is why refl)
 answers_err place (Halt halt) found is = tt

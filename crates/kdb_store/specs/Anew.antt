@@ -33,7 +33,8 @@ pub record IsPlanned (k : Kept) (given : CellFile) (w : UnitWrite) (op : Op) : T
   pub room : IsRoom (effect (Some op) k.rows)
 
 -- What is kept stands under this choice, and the entry is that of a change of it behind this base, at this time.
-pub record IsBehind (now : Choice) (base : Point) (time : Moment) (k : Kept) (given : CellFile) (e : Entry) (w : UnitWrite) (op : Op) (v : View) : Type 0 where
+pub record IsBehind (now : Choice) (base : Point) (time : Moment) (k : Kept) (given : CellFile) (e : Entry)
+    (w : UnitWrite) (op : Op) (v : View) : Type 0 where
   pub under : IsUnder now k v
   pub planned : IsPlanned k given w op
   pub entry_is : e ≡ change op (point_behind base time)

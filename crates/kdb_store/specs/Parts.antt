@@ -50,7 +50,8 @@ pub record SameNumbers (old new : Journal) : Type 0 where
   pub block_is : new.block ≡ old.block
 
 -- What is kept with these parts stands on the disk, and the point is the one of its next change.
-pub record StandsOn (log : Journal) (cells : CellFile) (rows : RowLists) (k : Kept) (point : Point) (now : View) : Type 0 where
+pub record StandsOn (log : Journal) (cells : CellFile) (rows : RowLists) (k : Kept) (point : Point)
+    (now : View) : Type 0 where
   pub chosen : HasChosen (with_parts log cells rows k)
   pub on : IsOnDisk (with_parts log cells rows k) now
   pub next_is : point ≡ next_point point.time (place_kept (with_parts log cells rows k))

@@ -17,9 +17,10 @@ pub record IsPlanned (next : Choice) (realm : List ℕ) (rows : RowLists) (plan 
   pub content : plan.image.content ≡ file_text 2 realm next.base rows
   pub log_is : plan.log ≡ begun next.log next.base next.size next.block
 
--- The choice is the one that comes next, the log is begun at its base, and the index of its file of cells leads to these
--- rows.
-pub record AreRenewed (base : Point) (size block : ℕ) (rows : RowLists) (old new : Choice) (log : Journal) (cells : CellFile) : Type 0 where
+-- The choice is the one that comes next, the log is begun at its base, and the index of its file of cells leads to
+-- these rows.
+pub record AreRenewed (base : Point) (size block : ℕ) (rows : RowLists) (old new : Choice) (log : Journal)
+    (cells : CellFile) : Type 0 where
   pub control_is : new ≡ renewed_choice new.image new.log base size block old
   pub log_is : log ≡ begun new.log base size block
   pub file_is : cells.file ≡ new.image

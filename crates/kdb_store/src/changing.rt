@@ -1,5 +1,6 @@
 //! A change of rows in memory and on the disk.
-ghost use Rattle.std.specs.Prelude.{◌≡◌, ◌≢◌, ◌≤◌, ◌+◌, ◌-◌, ◌*◌, ◌∷◌, ◌++◌, [], List, ℕ, Some, Err, IfOk, OnOk, OnErr, IsErr, length, map, slice_index_or};
+ghost use Rattle.std.specs.Prelude.{◌≡◌, ◌≢◌, ◌≤◌, ◌+◌, ◌-◌, ◌*◌, ◌∷◌, ◌++◌, [], List, ℕ, Some};
+ghost use Rattle.std.specs.Prelude.{Err, IfOk, OnOk, OnErr, IsErr, length, map, slice_index_or};
 ghost use Rattle.kdb_base.specs.Moments.{micros};
 ghost use Rattle.kdb_base.specs.declared.outcomes.Halt.TheVariants.{MemoryOut as IsMemoryOut, DiskFault as IsDiskFault};
 ghost use Rattle.kdb_disk.specs.View.{View};
@@ -105,20 +106,28 @@ fn write_begun<D: Disk>(
     requires given { IsGivenTo write cells.old }
     requires may { MayWrite write cells.old }
     requires apart { log.old.file ≢ cells.old.file }
-    requires within { D.tells → number_of write * unit_size cells.old.format ≤ length ((D.view disk.old).seen cells.old.file) }
+    requires within { D.tells
+        → number_of write * unit_size cells.old.format ≤ length ((D.view disk.old).seen cells.old.file) }
     requires begun { IsBegun begun rows.old }
     ensures rows { OnOk result (rows.new ≡ finished begun rows.old) }
     ensures back { OnErr result (rows.new ≡ undone begun rows.old) }
-    ensures crash { D.tells → (o : Found) → MayCommit log.old cells.old (record { entry = entry; cell = number_of write }) o (D.view disk.old)
-        → LeavesOnly (D.view disk.old) (D.view disk.new) (IsUnderWay (record { entry = entry; cell = number_of write }) o) }
-    ensures stands { D.tells → (o : Found) → MayCommit log.old cells.old (record { entry = entry; cell = number_of write }) o (D.view disk.old)
+    ensures crash { D.tells → (o : Found)
+        → MayCommit log.old cells.old (record { entry = entry; cell = number_of write }) o (D.view disk.old)
+        → LeavesOnly (D.view disk.old) (D.view disk.new)
+        (IsUnderWay (record { entry = entry; cell = number_of write }) o) }
+    ensures stands { D.tells → (o : Found)
+        → MayCommit log.old cells.old (record { entry = entry; cell = number_of write }) o (D.view disk.old)
         → OnOk result (Holds (after (record { entry = entry; cell = number_of write }) o) (D.view disk.new)) }
-    ensures file { D.tells → (o : Found) → MayCommit log.old cells.old (record { entry = entry; cell = number_of write }) o (D.view disk.old)
-        → OnOk result (IsFileOf cells.new (after (record { entry = entry; cell = number_of write }) o).sheet ((D.view disk.new).seen cells.old.file)) }
-    ensures others { D.tells → OnOk result ((g : ℕ) → g ≢ log.old.file → g ≢ cells.old.file → (D.view disk.new).seen g ≡ (D.view disk.old).seen g) }
+    ensures file { D.tells → (o : Found)
+        → MayCommit log.old cells.old (record { entry = entry; cell = number_of write }) o (D.view disk.old)
+        → OnOk result (IsFileOf cells.new (after (record { entry = entry; cell = number_of write }) o).sheet
+        ((D.view disk.new).seen cells.old.file)) }
+    ensures others { D.tells → OnOk result
+        ((g : ℕ) → g ≢ log.old.file → g ≢ cells.old.file → (D.view disk.new).seen g ≡ (D.view disk.old).seen g) }
     ensures log { D.tells → OnOk result (HasLog log.new (D.view disk.new)) }
     ensures durable { D.tells → OnOk result (IsDurable log.new.file (D.view disk.new)) }
-    ensures held { OnOk result (log.new ≡ log_committed (with_prepared (Some (record { entry = entry; cell = number_of write })) log.old)) }
+    ensures held { OnOk result
+        (log.new ≡ log_committed (with_prepared (Some (record { entry = entry; cell = number_of write })) log.old)) }
     ensures leads { (held : List Cell) → HoldsCells cells.old held → number_of write ≤ length held
         → OnOk result (HoldsCells cells.new (with_unit (unit_numbered (number_of write)) (left_by entry.op) held)) }
     ensures alike { OnErr result (HoldsAlike log.old log.new) }
@@ -155,8 +164,10 @@ pub(crate) fn change<D: Disk>(
     requires op { IsOp (Some op) }
     requires room { IsRoom (effect (Some op) rows.old) }
     requires name { IsNewName op rows.old }
-    requires serial { (d : Logged) → point.sno ≡ (slice_index_or log.old.held (length log.old.held - 1) d).entry.point.sno + 1 }
-    requires time { (d : Logged) → micros (slice_index_or log.old.held (length log.old.held - 1) d).entry.point.time ≤ micros point.time }
+    requires serial { (d : Logged)
+        → point.sno ≡ (slice_index_or log.old.held (length log.old.held - 1) d).entry.point.sno + 1 }
+    requires time { (d : Logged)
+        → micros (slice_index_or log.old.held (length log.old.held - 1) d).entry.point.time ≤ micros point.time }
     requires short { entry_len (Some op) ≤ log.old.block - 1 }
     requires format { cells.old.format ≡ 2 }
     requires apart { log.old.file ≢ cells.old.file }
@@ -166,17 +177,21 @@ pub(crate) fn change<D: Disk>(
     ensures rows { OnOk result (rows.new ≡ effect (Some op) rows.old) }
     ensures back { OnErr result (rows.new ≡ rows.old) }
     ensures indexed { AreIndexed cells.new rows.new }
-    ensures held { OnOk result (map entry_of log.new.held ≡ last_entries log.old.size (map entry_of log.old.held ++ record { point = point; op = Some op } ∷ [])) }
+    ensures held { OnOk result (map entry_of log.new.held
+        ≡ last_entries log.old.size (map entry_of log.old.held ++ record { point = point; op = Some op } ∷ [])) }
     ensures entered { OnOk result (HasEntered op point log.old log.new cells.old rows.old) }
     ensures alike { SameNumbers log.old log.new }
     ensures kept { OnErr result (HoldsAlike log.old log.new) }
     ensures number { cells.new.file ≡ cells.old.file }
     ensures same_format { cells.new.format ≡ cells.old.format }
     ensures crash { D.tells → (k : Kept) → StandsOn log.old cells.old rows.old k point (D.view disk.old)
-        → LeavesOnly (D.view disk.old) (D.view disk.new) (LeavesPart (place_kept (with_parts log.old cells.old rows.old k)) (committed op point.time (place_kept (with_parts log.old cells.old rows.old k)) ∷ [])) }
+        → LeavesOnly (D.view disk.old) (D.view disk.new)
+        (LeavesPart (place_kept (with_parts log.old cells.old rows.old k))
+        (committed op point.time (place_kept (with_parts log.old cells.old rows.old k)) ∷ [])) }
     ensures on { D.tells → (k : Kept) → StandsOn log.old cells.old rows.old k point (D.view disk.old)
         → OnOk result (IsOnDisk (with_parts log.new cells.new rows.new k) (D.view disk.new)) }
-    ensures others { D.tells → OnOk result ((g : ℕ) → g ≢ log.old.file → g ≢ cells.old.file → (D.view disk.new).seen g ≡ (D.view disk.old).seen g) }
+    ensures others { D.tells → OnOk result
+        ((g : ℕ) → g ≢ log.old.file → g ≢ cells.old.file → (D.view disk.new).seen g ≡ (D.view disk.old).seen g) }
     ensures still { D.tells → (k : Kept) → StandsOn log.old cells.old rows.old k point (D.view disk.old)
         → result ≡ Err IsMemoryOut → IsOnDisk (with_parts log.new cells.new rows.new k) (D.view disk.new) }
     ensures memory { result ≡ Err IsMemoryOut → disk.new ≡ disk.old }

@@ -1,5 +1,6 @@
 //! A change of a database.
-ghost use Rattle.std.specs.Prelude.{◌≡◌, ◌≢◌, ◌≤◌, ◌<◌, ◌-◌, ◌+◌, ◌∷◌, [], ℕ, true, false, Some, Err, IfOk, OnOk, OnErr, length, slice_index_or};
+ghost use Rattle.std.specs.Prelude.{◌≡◌, ◌≢◌, ◌≤◌, ◌<◌, ◌-◌, ◌+◌, ◌∷◌, [], ℕ, true, false};
+ghost use Rattle.std.specs.Prelude.{Some, Err, IfOk, OnOk, OnErr, length, slice_index_or};
 ghost use Rattle.kdb_base.specs.Moments.{micros};
 ghost use Rattle.kdb_base.specs.declared.outcomes.Halt.TheVariants.{MemoryOut as IsMemoryOut, DiskFault as IsDiskFault};
 ghost use Rattle.kdb_disk.specs.View.{View};
@@ -27,7 +28,8 @@ use update_log::Log;
 // The point of the change that comes next in the log.
 fn next_in(log: &Log, time: Time) -> Point
     requires { (d : Logged) → (slice_index_or log.now.held (length log.now.held - 1) d).entry.point.sno < 4294967295 }
-    ensures sno { (d : Logged) → result.sno ≡ (slice_index_or log.now.held (length log.now.held - 1) d).entry.point.sno + 1 }
+    ensures sno { (d : Logged)
+        → result.sno ≡ (slice_index_or log.now.held (length log.now.held - 1) d).entry.point.sno + 1 }
     ensures time { result.time ≡ time }
 {
     let (_, last) = log.held();
@@ -71,11 +73,14 @@ impl Database {
         ensures place { OnOk result (place_kept self.new ≡ committed op time (place_kept self.old)) }
         ensures control { self.new.control ≡ self.old.control }
         // The entry names the unit of its row: the one that the row has, the least free one for a new row, or none.
-        ensures entered { OnOk result (HasEntered op (next_point time (place_kept self.old)) self.old.log self.new.log self.old.cells self.old.rows) }
+        ensures entered { OnOk result (HasEntered op (next_point time (place_kept self.old)) self.old.log self.new.log
+            self.old.cells self.old.rows) }
         ensures on { D.tells → OnOk result (IsOnDisk self.new (D.view disk.new)) }
         // No file is written but the log and the file of cells that are in force.
-        ensures others { D.tells → OnOk result ((g : ℕ) → g ≢ self.old.control.log → g ≢ self.old.control.image → (D.view disk.new).seen g ≡ (D.view disk.old).seen g) }
-        ensures crash { IsCrashSafe D.Disk disk.old disk.new (LeavesPart (place_kept self.old) (committed op time (place_kept self.old) ∷ [])) }
+        ensures others { D.tells → OnOk result ((g : ℕ) → g ≢ self.old.control.log → g ≢ self.old.control.image
+            → (D.view disk.new).seen g ≡ (D.view disk.old).seen g) }
+        ensures crash { IsCrashSafe D.Disk disk.old disk.new
+            (LeavesPart (place_kept self.old) (committed op time (place_kept self.old) ∷ [])) }
         ensures err { OnErr result (place_kept self.new ≡ place_kept self.old) }
         ensures memory { result ≡ Err IsMemoryOut → disk.new ≡ disk.old }
         // Where memory ran out, the database stands on the disk as before.

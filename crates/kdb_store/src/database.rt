@@ -1,4 +1,5 @@
-ghost use Rattle.std.specs.Prelude.{◌≡◌, ◌≢◌, ◌≤◌, ◌<◌, ◌↔◌, ◌-◌, ◌+◌, false, Contains, IfSome, IsTrue, None, Some, length, option_map, slice_index_or};
+ghost use Rattle.std.specs.Prelude.{◌≡◌, ◌≢◌, ◌≤◌, ◌<◌, ◌↔◌, ◌-◌, ◌+◌, false, Contains, IfSome};
+ghost use Rattle.std.specs.Prelude.{IsTrue, None, Some, length, option_map, slice_index_or};
 ghost use Rattle.std.specs.List.{All};
 ghost use Rattle.kdb_places.specs.Places.{point_of};
 ghost use Rattle.princ_rows.specs.Entries.{IsOp, entry_len};
@@ -34,9 +35,25 @@ impl Model for Database {
 
     ghost Value = { Kept };
 
-    ghost view = { λ d. record { control = d.control; log = d.log; cells = d.cells; rows = d.rows; realm = d.realm; stash = d.stash; broken = d.broken } };
+    ghost view = { λ d. record {
+      control = d.control;
+      log = d.log;
+      cells = d.cells;
+      rows = d.rows;
+      realm = d.realm;
+      stash = d.stash;
+      broken = d.broken;
+    } };
 
-    ghost invariant = { λ d. IsKept (record { control = d.control; log = d.log; cells = d.cells; rows = d.rows; realm = d.realm; stash = d.stash; broken = d.broken }) };
+    ghost invariant = { λ d. IsKept (record {
+      control = d.control;
+      log = d.log;
+      cells = d.cells;
+      rows = d.rows;
+      realm = d.realm;
+      stash = d.stash;
+      broken = d.broken;
+    }) };
 }
 
 /// How many bytes the entry of a change has in a log: its key and its row, and what stands before them.
@@ -65,8 +82,24 @@ impl Database {
         realm: Realm,
         stash: Option<Blob>,
     ) -> Database
-        requires { IsKept (record { control = control; log = log; cells = cells; rows = rows; realm = realm; stash = stash; broken = false }) }
-        ensures { result ≡ record { control = control; log = log; cells = cells; rows = rows; realm = realm; stash = stash; broken = false } }
+        requires { IsKept (record {
+          control = control;
+          log = log;
+          cells = cells;
+          rows = rows;
+          realm = realm;
+          stash = stash;
+          broken = false;
+        }) }
+        ensures { result ≡ record {
+          control = control;
+          log = log;
+          cells = cells;
+          rows = rows;
+          realm = realm;
+          stash = stash;
+          broken = false;
+        } }
     {
         Database {
             control,
@@ -143,7 +176,8 @@ impl Database {
     /// The points of the first and of the last entry that the log holds.
     pub fn held(&self) -> (Point, Point)
         ensures first { (d : Logged) → result.0 ≡ (slice_index_or self.now.log.held 0 d).entry.point }
-        ensures last { (d : Logged) → result.1 ≡ (slice_index_or self.now.log.held (length self.now.log.held - 1) d).entry.point }
+        ensures last { (d : Logged)
+            → result.1 ≡ (slice_index_or self.now.log.held (length self.now.log.held - 1) d).entry.point }
     {
         self.log.held()
     }

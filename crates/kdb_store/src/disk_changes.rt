@@ -44,14 +44,21 @@ pub(crate) fn write_prepared<D: Disk>(
     requires given { IsGivenTo write cells.old }
     requires may { MayWrite write cells.old }
     requires apart { log.old.file ≢ cells.old.file }
-    requires within { D.tells → number_of write * unit_size cells.old.format ≤ length ((D.view disk.old).seen cells.old.file) }
-    ensures crash { D.tells → (o : Found) → MayCommit log.old cells.old (record { entry = entry.now; cell = number_of write }) o (D.view disk.old)
-        → LeavesOnly (D.view disk.old) (D.view disk.new) (IsUnderWay (record { entry = entry.now; cell = number_of write }) o) }
-    ensures stands { D.tells → (o : Found) → MayCommit log.old cells.old (record { entry = entry.now; cell = number_of write }) o (D.view disk.old)
+    requires within { D.tells
+        → number_of write * unit_size cells.old.format ≤ length ((D.view disk.old).seen cells.old.file) }
+    ensures crash { D.tells → (o : Found)
+        → MayCommit log.old cells.old (record { entry = entry.now; cell = number_of write }) o (D.view disk.old)
+        → LeavesOnly (D.view disk.old) (D.view disk.new)
+        (IsUnderWay (record { entry = entry.now; cell = number_of write }) o) }
+    ensures stands { D.tells → (o : Found)
+        → MayCommit log.old cells.old (record { entry = entry.now; cell = number_of write }) o (D.view disk.old)
         → OnOk result (Holds (after (record { entry = entry.now; cell = number_of write }) o) (D.view disk.new)) }
-    ensures file { D.tells → (o : Found) → MayCommit log.old cells.old (record { entry = entry.now; cell = number_of write }) o (D.view disk.old)
-        → OnOk result (IsFileOf cells.new (after (record { entry = entry.now; cell = number_of write }) o).sheet ((D.view disk.new).seen cells.old.file)) }
-    ensures others { D.tells → OnOk result ((g : ℕ) → g ≢ log.old.file → g ≢ cells.old.file → (D.view disk.new).seen g ≡ (D.view disk.old).seen g) }
+    ensures file { D.tells → (o : Found)
+        → MayCommit log.old cells.old (record { entry = entry.now; cell = number_of write }) o (D.view disk.old)
+        → OnOk result (IsFileOf cells.new (after (record { entry = entry.now; cell = number_of write }) o).sheet
+        ((D.view disk.new).seen cells.old.file)) }
+    ensures others { D.tells → OnOk result
+        ((g : ℕ) → g ≢ log.old.file → g ≢ cells.old.file → (D.view disk.new).seen g ≡ (D.view disk.old).seen g) }
     ensures log { D.tells → OnOk result (HasLog log.new (D.view disk.new)) }
     ensures durable { D.tells → OnOk result (IsDurable log.new.file (D.view disk.new)) }
     ensures held { OnOk result (log.new ≡ log_committed log.old) }
@@ -98,17 +105,25 @@ pub(crate) fn write_change<D: Disk>(
     requires given { IsGivenTo write cells.old }
     requires may { MayWrite write cells.old }
     requires apart { log.old.file ≢ cells.old.file }
-    requires within { D.tells → number_of write * unit_size cells.old.format ≤ length ((D.view disk.old).seen cells.old.file) }
-    ensures crash { D.tells → (o : Found) → MayCommit log.old cells.old (record { entry = entry.now; cell = number_of write }) o (D.view disk.old)
-        → LeavesOnly (D.view disk.old) (D.view disk.new) (IsUnderWay (record { entry = entry.now; cell = number_of write }) o) }
-    ensures stands { D.tells → (o : Found) → MayCommit log.old cells.old (record { entry = entry.now; cell = number_of write }) o (D.view disk.old)
+    requires within { D.tells
+        → number_of write * unit_size cells.old.format ≤ length ((D.view disk.old).seen cells.old.file) }
+    ensures crash { D.tells → (o : Found)
+        → MayCommit log.old cells.old (record { entry = entry.now; cell = number_of write }) o (D.view disk.old)
+        → LeavesOnly (D.view disk.old) (D.view disk.new)
+        (IsUnderWay (record { entry = entry.now; cell = number_of write }) o) }
+    ensures stands { D.tells → (o : Found)
+        → MayCommit log.old cells.old (record { entry = entry.now; cell = number_of write }) o (D.view disk.old)
         → OnOk result (Holds (after (record { entry = entry.now; cell = number_of write }) o) (D.view disk.new)) }
-    ensures file { D.tells → (o : Found) → MayCommit log.old cells.old (record { entry = entry.now; cell = number_of write }) o (D.view disk.old)
-        → OnOk result (IsFileOf cells.new (after (record { entry = entry.now; cell = number_of write }) o).sheet ((D.view disk.new).seen cells.old.file)) }
-    ensures others { D.tells → OnOk result ((g : ℕ) → g ≢ log.old.file → g ≢ cells.old.file → (D.view disk.new).seen g ≡ (D.view disk.old).seen g) }
+    ensures file { D.tells → (o : Found)
+        → MayCommit log.old cells.old (record { entry = entry.now; cell = number_of write }) o (D.view disk.old)
+        → OnOk result (IsFileOf cells.new (after (record { entry = entry.now; cell = number_of write }) o).sheet
+        ((D.view disk.new).seen cells.old.file)) }
+    ensures others { D.tells → OnOk result
+        ((g : ℕ) → g ≢ log.old.file → g ≢ cells.old.file → (D.view disk.new).seen g ≡ (D.view disk.old).seen g) }
     ensures log { D.tells → OnOk result (HasLog log.new (D.view disk.new)) }
     ensures durable { D.tells → OnOk result (IsDurable log.new.file (D.view disk.new)) }
-    ensures held { OnOk result (log.new ≡ log_committed (with_prepared (Some (record { entry = entry.now; cell = number_of write })) log.old)) }
+    ensures held { OnOk result (log.new
+        ≡ log_committed (with_prepared (Some (record { entry = entry.now; cell = number_of write })) log.old)) }
     ensures leads { (held : List Cell) → HoldsCells cells.old held → number_of write ≤ length held
         → OnOk result (HoldsCells cells.new (with_unit (unit_numbered (number_of write)) (left_by entry.now.op) held)) }
     ensures alike { OnErr result (HoldsAlike log.old log.new) }

@@ -28,9 +28,11 @@ pub(crate) fn write_entry<D: Disk>(
     requires body { IsBodyFor (record { entry = entry.now; cell = cell }) log.now.block body.now }
     requires log { D.tells → HasLog log.now (D.view disk.old) }
     requires durable { D.tells → IsDurable log.now.file (D.view disk.old) }
-    ensures crash { D.tells → (o : Found) → IsLogOf log.now o → Holds o (D.view disk.old) → IsChange o (record { entry = entry.now; cell = cell })
+    ensures crash { D.tells → (o : Found) → IsLogOf log.now o → Holds o (D.view disk.old)
+        → IsChange o (record { entry = entry.now; cell = cell })
         → LeavesOnly (D.view disk.old) (D.view disk.new) (IsUnderWay (record { entry = entry.now; cell = cell }) o) }
-    ensures pending { D.tells → (o : Found) → IsLogOf log.now o → Holds o (D.view disk.old) → IsChange o (record { entry = entry.now; cell = cell })
+    ensures pending { D.tells → (o : Found) → IsLogOf log.now o → Holds o (D.view disk.old)
+        → IsChange o (record { entry = entry.now; cell = cell })
         → OnOk result (ArePending (record { entry = entry.now; cell = cell }) o (D.view disk.new)) }
     ensures log { D.tells → OnOk result (HasLog (log_committed log.now) (D.view disk.new)) }
     ensures durable { D.tells → OnOk result (IsDurable log.now.file (D.view disk.new)) }

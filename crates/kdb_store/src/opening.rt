@@ -69,16 +69,21 @@ impl Database {
         // in format 1 rows are shorter, and have no string attributes
         requires rows { All (IsRowOf format) rows.princs }
         ensures answer { D.tells → AnswersMade result (in_force ((D.view disk.old).seen 0)) }
-        ensures place { IfOk result (λ d. place_kept d ≡ created realm.now rows base size block (option_map (λ s. s.now) stash.entry) format) }
+        ensures place { IfOk result
+            (λ d. place_kept d ≡ created realm.now rows base size block (option_map (λ s. s.now) stash.entry) format) }
         ensures whole { IfOk result (λ d. d.broken ≡ false) }
         // The files are the first of each kind, and so is the turn of the slot.
-        ensures control { IfOk result (λ d. d.control ≡ first_choice format (first_stash (option_map (λ s. s.now) stash.entry)) base size block) }
+        ensures control { IfOk result
+            (λ d. d.control ≡ first_choice format (first_stash (option_map (λ s. s.now) stash.entry)) base size block) }
         // The rows stand one behind the other from the first unit on, in their order, whatever a crash leaves.
         ensures written { D.tells → OnOk result (HasFile 1 (file_text format realm.now base rows) (D.view disk.new)) }
         ensures on { D.tells → IfOk result (λ d. IsOnDisk d (D.view disk.new)) }
-        ensures moments { D.tells → LeavesOnly (D.view disk.old) (D.view disk.new) (Creates (D.view disk.old) (created realm.now rows base size block (option_map (λ s. s.now) stash.entry) format)) }
-        ensures refused { D.tells → (refusal : Refuses) → result ≡ Err (Refused refusal) → Keeps (D.view disk.old) (D.view disk.new) }
-        ensures there { D.tells → in_force ((D.view disk.old).seen 0) ≢ Nothing → Keeps (D.view disk.old) (D.view disk.new) }
+        ensures moments { D.tells → LeavesOnly (D.view disk.old) (D.view disk.new) (Creates (D.view disk.old)
+            (created realm.now rows base size block (option_map (λ s. s.now) stash.entry) format)) }
+        ensures refused { D.tells → (refusal : Refuses) → result ≡ Err (Refused refusal)
+            → Keeps (D.view disk.old) (D.view disk.new) }
+        ensures there { D.tells → in_force ((D.view disk.old).seen 0) ≢ Nothing
+            → Keeps (D.view disk.old) (D.view disk.new) }
         ensures memory { result ≡ Err (Halts IsMemoryOut) → disk.new ≡ disk.old }
         ensures call { IsCall D.Disk disk.old disk.new (result ≡ Err (Halts IsDiskFault)) }
     {

@@ -30,13 +30,15 @@ impl Database {
         ensures answer { D.tells → AnswersFound place_kept result (recovers (D.view disk.old).seen) }
         // what is kept is what the reading finds
         ensures found { D.tells → IfOk result (λ d. IsFoundAs d (found_in (D.view disk.old).seen)) }
-        ensures refused { D.tells → (why : Refuses) → result ≡ Err (Refused why) → found_in (D.view disk.old).seen ≡ Err why }
+        ensures refused { D.tells → (why : Refuses) → result ≡ Err (Refused why)
+            → found_in (D.view disk.old).seen ≡ Err why }
         // whatever the disk tells
         ensures stops { IfErr result StopsOpening }
         ensures whole { IfOk result (λ d. d.broken ≡ false) }
         ensures on { D.tells → IfOk result (λ d. IsOnDisk d (D.view disk.new)) }
         ensures moments { D.tells → LeavesOnly (D.view disk.old) (D.view disk.new) (IsLike (D.view disk.old)) }
-        ensures refused_keeps { D.tells → (why : Refuses) → result ≡ Err (Refused why) → Keeps (D.view disk.old) (D.view disk.new) }
+        ensures refused_keeps { D.tells → (why : Refuses) → result ≡ Err (Refused why)
+            → Keeps (D.view disk.old) (D.view disk.new) }
         ensures memory_keeps { D.tells → result ≡ Err (Halts IsMemoryOut) → Keeps (D.view disk.old) (D.view disk.new) }
         // after a refusal no crash leaves anything but what is read
         ensures refused_settled { D.tells → (why : Refuses) → result ≡ Err (Refused why) → IsSettled (D.view disk.new) }

@@ -76,9 +76,12 @@ fn put_renewal<D: Disk>(
     ensures cells { OnOk result (cells.new ≡ plan.image.cells) }
     ensures same_log { OnErr result (log.new ≡ log.old) }
     ensures same_cells { OnErr result (cells.new ≡ cells.old) }
-    ensures crash { D.tells → (k : Kept) → (realm : List ℕ) → (rows : RowLists) → IsUnder now.now k (D.view disk.old) → HasRows realm rows plan.image
-        → LeavesOnly (D.view disk.old) (D.view disk.new) (LeavesPart (place_kept k) (place_renewed next.now.base next.now.size next.now.block realm rows (place_kept k) ∷ [])) }
-    ensures on { D.tells → (k : Kept) → (realm : List ℕ) → (rows : RowLists) → IsUnder now.now k (D.view disk.old) → HasRows realm rows plan.image
+    ensures crash { D.tells → (k : Kept) → (realm : List ℕ) → (rows : RowLists) → IsUnder now.now k (D.view disk.old)
+        → HasRows realm rows plan.image
+        → LeavesOnly (D.view disk.old) (D.view disk.new) (LeavesPart (place_kept k)
+        (place_renewed next.now.base next.now.size next.now.block realm rows (place_kept k) ∷ [])) }
+    ensures on { D.tells → (k : Kept) → (realm : List ℕ) → (rows : RowLists) → IsUnder now.now k (D.view disk.old)
+        → HasRows realm rows plan.image
         → OnOk result (IsOnDisk (renewed next.now log.new cells.new realm rows k) (D.view disk.new)) }
     ensures written { D.tells → OnOk result ((D.view disk.new).seen next.now.image ≡ plan.image.content) }
     ensures call { IsCall D.Disk disk.old disk.new (IsErr result) }
@@ -116,10 +119,12 @@ fn renew_parts<D: Disk>(
     ensures same_log { OnErr result (log.new ≡ log.old) }
     ensures same_cells { OnErr result (cells.new ≡ cells.old) }
     ensures crash { D.tells → (k : Kept) → IsUnder control.old k (D.view disk.old)
-        → LeavesOnly (D.view disk.old) (D.view disk.new) (LeavesPart (place_kept k) (place_renewed base size block realm.now rows.now (place_kept k) ∷ [])) }
+        → LeavesOnly (D.view disk.old) (D.view disk.new)
+        (LeavesPart (place_kept k) (place_renewed base size block realm.now rows.now (place_kept k) ∷ [])) }
     ensures on { D.tells → (k : Kept) → IsUnder control.old k (D.view disk.old)
         → OnOk result (IsOnDisk (renewed control.new log.new cells.new realm.now rows.now k) (D.view disk.new)) }
-    ensures written { D.tells → OnOk result ((D.view disk.new).seen control.new.image ≡ file_text 2 realm.now base rows.now) }
+    ensures written { D.tells
+        → OnOk result ((D.view disk.new).seen control.new.image ≡ file_text 2 realm.now base rows.now) }
     ensures memory { result ≡ Err IsMemoryOut → disk.new ≡ disk.old }
     ensures call { IsCall D.Disk disk.old disk.new (result ≡ Err IsDiskFault) }
 {
@@ -152,17 +157,20 @@ fn replace_parts<D: Disk>(
     requires force { D.tells → HasInForce (Is control.old) (D.view disk.old) }
     ensures realm { OnOk result (realm.new ≡ new_realm) }
     ensures rows { OnOk result (rows.new ≡ new) }
-    ensures renewed { OnOk result (AreRenewed base control.old.size control.old.block new control.old control.new log.new cells.new) }
+    ensures renewed { OnOk result
+        (AreRenewed base control.old.size control.old.block new control.old control.new log.new cells.new) }
     ensures same_realm { OnErr result (realm.new ≡ realm.old) }
     ensures same_rows { OnErr result (rows.new ≡ rows.old) }
     ensures same_control { OnErr result (control.new ≡ control.old) }
     ensures same_log { OnErr result (log.new ≡ log.old) }
     ensures same_cells { OnErr result (cells.new ≡ cells.old) }
     ensures crash { D.tells → (k : Kept) → IsUnder control.old k (D.view disk.old)
-        → LeavesOnly (D.view disk.old) (D.view disk.new) (LeavesPart (place_kept k) (place_renewed base control.old.size control.old.block new_realm new (place_kept k) ∷ [])) }
+        → LeavesOnly (D.view disk.old) (D.view disk.new) (LeavesPart (place_kept k)
+        (place_renewed base control.old.size control.old.block new_realm new (place_kept k) ∷ [])) }
     ensures on { D.tells → (k : Kept) → IsUnder control.old k (D.view disk.old)
         → OnOk result (IsOnDisk (renewed control.new log.new cells.new realm.new rows.new k) (D.view disk.new)) }
-    ensures written { D.tells → OnOk result ((D.view disk.new).seen control.new.image ≡ file_text 2 new_realm base new) }
+    ensures written { D.tells
+        → OnOk result ((D.view disk.new).seen control.new.image ≡ file_text 2 new_realm base new) }
     ensures memory { result ≡ Err IsMemoryOut → disk.new ≡ disk.old }
     ensures call { IsCall D.Disk disk.old disk.new (result ≡ Err IsDiskFault) }
 {
@@ -203,8 +211,10 @@ impl Database {
         ensures place { OnOk result (place_kept self.new ≡ log_anew base size block (place_kept self.old)) }
         ensures on { D.tells → OnOk result (IsOnDisk self.new (D.view disk.new)) }
         // The rows stand one behind the other from the first unit on, in their order.
-        ensures written { D.tells → OnOk result ((D.view disk.new).seen self.new.control.image ≡ file_text 2 self.old.realm base self.old.rows) }
-        ensures crash { IsCrashSafe D.Disk disk.old disk.new (LeavesPart (place_kept self.old) (log_anew base size block (place_kept self.old) ∷ [])) }
+        ensures written { D.tells → OnOk result
+            ((D.view disk.new).seen self.new.control.image ≡ file_text 2 self.old.realm base self.old.rows) }
+        ensures crash { IsCrashSafe D.Disk disk.old disk.new
+            (LeavesPart (place_kept self.old) (log_anew base size block (place_kept self.old) ∷ [])) }
         ensures err { OnErr result (place_kept self.new ≡ place_kept self.old) }
         ensures memory { result ≡ Err IsMemoryOut → disk.new ≡ disk.old }
         // Where memory ran out, the database stands on the disk as before.
@@ -254,8 +264,10 @@ impl Database {
         ensures place { OnOk result (place_kept self.new ≡ replaced realm rows base (place_kept self.old)) }
         ensures on { D.tells → OnOk result (IsOnDisk self.new (D.view disk.new)) }
         // The rows stand one behind the other from the first unit on, in their order.
-        ensures written { D.tells → OnOk result ((D.view disk.new).seen self.new.control.image ≡ file_text 2 realm base rows) }
-        ensures crash { IsCrashSafe D.Disk disk.old disk.new (LeavesPart (place_kept self.old) (replaced realm rows base (place_kept self.old) ∷ [])) }
+        ensures written { D.tells
+            → OnOk result ((D.view disk.new).seen self.new.control.image ≡ file_text 2 realm base rows) }
+        ensures crash { IsCrashSafe D.Disk disk.old disk.new
+            (LeavesPart (place_kept self.old) (replaced realm rows base (place_kept self.old) ∷ [])) }
         ensures err { OnErr result (place_kept self.new ≡ place_kept self.old) }
         ensures memory { result ≡ Err IsMemoryOut → disk.new ≡ disk.old }
         // Where memory ran out, the database stands on the disk as before.

@@ -1,5 +1,6 @@
 //! The log of a database begun anew, with a change behind it.
-ghost use Rattle.std.specs.Prelude.{◌≡◌, ◌≤◌, ◌<◌, ◌-◌, ◌*◌, ◌∷◌, [], List, ℕ, Some, Err, IfOk, OnOk, OnErr, IsErr, length, map};
+ghost use Rattle.std.specs.Prelude.{◌≡◌, ◌≤◌, ◌<◌, ◌-◌, ◌*◌, ◌∷◌, [], List, ℕ, Some};
+ghost use Rattle.std.specs.Prelude.{Err, IfOk, OnOk, OnErr, IsErr, length, map};
 ghost use Rattle.kdb_base.specs.Moment.{Moment};
 ghost use Rattle.kdb_base.specs.Moments.{micros};
 ghost use Rattle.kdb_base.specs.declared.outcomes.Halt.TheVariants.{MemoryOut as IsMemoryOut, DiskFault as IsDiskFault};
@@ -67,7 +68,8 @@ fn ready_anew(
     requires fits { IsOp entry.now.op }
     requires short { length (logged (record { entry = entry.now; cell = cell })) ≤ block - 1 }
     ensures marker { IfOk result (λ a. a.marker ≡ begun file base size block) }
-    ensures log { IfOk result (λ a. a.log ≡ with_prepared (Some (record { entry = entry.now; cell = cell })) (begun file base size block)) }
+    ensures log { IfOk result
+        (λ a. a.log ≡ with_prepared (Some (record { entry = entry.now; cell = cell })) (begun file base size block)) }
     ensures body { IfOk result (λ a. IsBodyFor (record { entry = entry.now; cell = cell }) block a.body.items) }
 {
     let marker = NewLog::new(alloc, file, base, size, block, None)?;
@@ -94,18 +96,25 @@ fn write_anew<D: Disk>(
     requires spare { IsSpareFor now.now next.now.log }
     requires size { 0 < next.now.size }
     requires marker { marker.now ≡ begun next.now.log next.now.base next.now.size next.now.block }
-    requires log { log.old ≡ with_prepared (Some (record { entry = entry.now; cell = number_of write })) (begun next.now.log next.now.base next.now.size next.now.block) }
+    requires log { log.old ≡ with_prepared (Some (record { entry = entry.now; cell = number_of write }))
+        (begun next.now.log next.now.base next.now.size next.now.block) }
     requires body { IsBodyFor (record { entry = entry.now; cell = number_of write }) next.now.block body.now }
     requires format { cells.old.format ≡ 2 }
     requires image { cells.old.file ≡ now.now.image }
     requires writes { Writes write (left_by entry.now.op) }
     requires given { IsGivenTo write cells.old }
     requires may { MayWrite write cells.old }
-    requires within { D.tells → number_of write * unit_size cells.old.format ≤ length ((D.view disk.old).seen cells.old.file) }
-    ensures crash { D.tells → (k : Kept) (op : IsChangeOp) (time : Moment) → IsBehind now.now next.now.base time k cells.old entry.now write op (D.view disk.old)
-        → LeavesOnly (D.view disk.old) (D.view disk.new) (LeavesPart (place_kept k) (log_anew next.now.base next.now.size next.now.block (place_kept k) ∷ committed op time (log_anew next.now.base next.now.size next.now.block (place_kept k)) ∷ [])) }
-    ensures on { D.tells → (k : Kept) (op : IsChangeOp) (time : Moment) → IsBehind now.now next.now.base time k cells.old entry.now write op (D.view disk.old)
-        → OnOk result (IsOnDisk (with_parts log.new cells.new (effect (Some op) k.rows) (with_log next.now log.new k)) (D.view disk.new)) }
+    requires within { D.tells
+        → number_of write * unit_size cells.old.format ≤ length ((D.view disk.old).seen cells.old.file) }
+    ensures crash { D.tells → (k : Kept) (op : IsChangeOp) (time : Moment)
+        → IsBehind now.now next.now.base time k cells.old entry.now write op (D.view disk.old)
+        → LeavesOnly (D.view disk.old) (D.view disk.new) (LeavesPart (place_kept k)
+        (log_anew next.now.base next.now.size next.now.block (place_kept k)
+        ∷ committed op time (log_anew next.now.base next.now.size next.now.block (place_kept k)) ∷ [])) }
+    ensures on { D.tells → (k : Kept) (op : IsChangeOp) (time : Moment)
+        → IsBehind now.now next.now.base time k cells.old entry.now write op (D.view disk.old)
+        → OnOk result (IsOnDisk (with_parts log.new cells.new (effect (Some op) k.rows) (with_log next.now log.new k))
+        (D.view disk.new)) }
     ensures held { OnOk result (log.new ≡ log_committed log.old) }
     ensures leads { (held : List Cell) → HoldsCells cells.old held → number_of write ≤ length held
         → OnOk result (HoldsCells cells.new (with_unit (unit_numbered (number_of write)) (left_by entry.now.op) held)) }
@@ -136,19 +145,29 @@ fn put_anew<D: Disk>(
     requires spare { IsSpareFor now.now next.now.log }
     requires size { 0 < next.now.size }
     requires marker { marker.now ≡ begun next.now.log next.now.base next.now.size next.now.block }
-    requires log { log ≡ with_prepared (Some (record { entry = entry.now; cell = number_of write })) (begun next.now.log next.now.base next.now.size next.now.block) }
+    requires log { log ≡ with_prepared (Some (record { entry = entry.now; cell = number_of write }))
+        (begun next.now.log next.now.base next.now.size next.now.block) }
     requires body { IsBodyFor (record { entry = entry.now; cell = number_of write }) next.now.block body.now }
     requires format { cells.old.format ≡ 2 }
     requires image { cells.old.file ≡ now.now.image }
     requires writes { Writes write (left_by entry.now.op) }
     requires given { IsGivenTo write cells.old }
     requires may { MayWrite write cells.old }
-    requires within { D.tells → number_of write * unit_size cells.old.format ≤ length ((D.view disk.old).seen cells.old.file) }
-    ensures crash { D.tells → (k : Kept) (op : IsChangeOp) (time : Moment) → IsBehind now.now next.now.base time k cells.old entry.now write op (D.view disk.old)
-        → LeavesOnly (D.view disk.old) (D.view disk.new) (LeavesPart (place_kept k) (log_anew next.now.base next.now.size next.now.block (place_kept k) ∷ committed op time (log_anew next.now.base next.now.size next.now.block (place_kept k)) ∷ [])) }
-    ensures on { D.tells → (k : Kept) (op : IsChangeOp) (time : Moment) → IsBehind now.now next.now.base time k cells.old entry.now write op (D.view disk.old)
-        → IfOk result (λ log. IsOnDisk (with_parts log cells.new (effect (Some op) k.rows) (with_log next.now log k)) (D.view disk.new)) }
-    ensures held { IfOk result (λ log. log ≡ log_committed (with_prepared (Some (record { entry = entry.now; cell = number_of write })) (begun next.now.log next.now.base next.now.size next.now.block))) }
+    requires within { D.tells
+        → number_of write * unit_size cells.old.format ≤ length ((D.view disk.old).seen cells.old.file) }
+    ensures crash { D.tells → (k : Kept) (op : IsChangeOp) (time : Moment)
+        → IsBehind now.now next.now.base time k cells.old entry.now write op (D.view disk.old)
+        → LeavesOnly (D.view disk.old) (D.view disk.new) (LeavesPart (place_kept k)
+        (log_anew next.now.base next.now.size next.now.block (place_kept k)
+        ∷ committed op time (log_anew next.now.base next.now.size next.now.block (place_kept k)) ∷ [])) }
+    ensures on { D.tells → (k : Kept) (op : IsChangeOp) (time : Moment)
+        → IsBehind now.now next.now.base time k cells.old entry.now write op (D.view disk.old)
+        → IfOk result (λ log.
+        IsOnDisk (with_parts log cells.new (effect (Some op) k.rows) (with_log next.now log k)) (D.view disk.new)) }
+    ensures held { IfOk result (λ log. log ≡ log_committed (with_prepared (Some (record {
+      entry = entry.now;
+      cell = number_of write;
+    })) (begun next.now.log next.now.base next.now.size next.now.block))) }
     ensures leads { (held : List Cell) → HoldsCells cells.old held → number_of write ≤ length held
         → OnOk result (HoldsCells cells.new (with_unit (unit_numbered (number_of write)) (left_by entry.now.op) held)) }
     ensures err { OnErr result (cells.new ≡ cells.old) }
@@ -188,13 +207,21 @@ fn reset_parts<D: Disk>(
     requires writes { Writes write (left_by entry.now.op) }
     requires given { IsGivenTo write cells.old }
     requires may { MayWrite write cells.old }
-    requires within { D.tells → number_of write * unit_size cells.old.format ≤ length ((D.view disk.old).seen cells.old.file) }
-    ensures crash { D.tells → (k : Kept) (op : IsChangeOp) (time : Moment) → IsBehind control.old base time k cells.old entry.now write op (D.view disk.old)
-        → LeavesOnly (D.view disk.old) (D.view disk.new) (LeavesPart (place_kept k) (log_anew base size block (place_kept k) ∷ committed op time (log_anew base size block (place_kept k)) ∷ [])) }
-    ensures on { D.tells → (k : Kept) (op : IsChangeOp) (time : Moment) → IsBehind control.old base time k cells.old entry.now write op (D.view disk.old)
-        → OnOk result (IsOnDisk (with_parts log.new cells.new (effect (Some op) k.rows) (with_log control.new log.new k)) (D.view disk.new)) }
+    requires within { D.tells
+        → number_of write * unit_size cells.old.format ≤ length ((D.view disk.old).seen cells.old.file) }
+    ensures crash { D.tells → (k : Kept) (op : IsChangeOp) (time : Moment)
+        → IsBehind control.old base time k cells.old entry.now write op (D.view disk.old)
+        → LeavesOnly (D.view disk.old) (D.view disk.new) (LeavesPart (place_kept k)
+        (log_anew base size block (place_kept k) ∷ committed op time (log_anew base size block (place_kept k)) ∷ [])) }
+    ensures on { D.tells → (k : Kept) (op : IsChangeOp) (time : Moment)
+        → IsBehind control.old base time k cells.old entry.now write op (D.view disk.old)
+        → OnOk result (IsOnDisk
+        (with_parts log.new cells.new (effect (Some op) k.rows) (with_log control.new log.new k)) (D.view disk.new)) }
     ensures control { OnOk result (control.new ≡ reset_choice control.new.log base size block control.old) }
-    ensures held { OnOk result (log.new ≡ log_committed (with_prepared (Some (record { entry = entry.now; cell = number_of write })) (begun control.new.log base size block))) }
+    ensures held { OnOk result (log.new ≡ log_committed (with_prepared (Some (record {
+      entry = entry.now;
+      cell = number_of write;
+    })) (begun control.new.log base size block))) }
     ensures same_control { OnErr result (control.new ≡ control.old) }
     ensures same_log { OnErr result (log.new ≡ log.old) }
     ensures leads { (held : List Cell) → HoldsCells cells.old held → number_of write ≤ length held
@@ -262,16 +289,24 @@ fn reset_begun<D: Disk>(
     requires writes { Writes write (left_by entry.op) }
     requires given { IsGivenTo write cells.old }
     requires may { MayWrite write cells.old }
-    requires within { D.tells → number_of write * unit_size cells.old.format ≤ length ((D.view disk.old).seen cells.old.file) }
+    requires within { D.tells
+        → number_of write * unit_size cells.old.format ≤ length ((D.view disk.old).seen cells.old.file) }
     requires begun { IsBegun under_way rows.old }
     ensures rows { OnOk result (rows.new ≡ finished under_way rows.old) }
     ensures back { OnErr result (rows.new ≡ undone under_way rows.old) }
-    ensures crash { D.tells → (k : Kept) (op : IsChangeOp) (time : Moment) → IsBehind control.old base time k cells.old entry write op (D.view disk.old)
-        → LeavesOnly (D.view disk.old) (D.view disk.new) (LeavesPart (place_kept k) (log_anew base size block (place_kept k) ∷ committed op time (log_anew base size block (place_kept k)) ∷ [])) }
-    ensures on { D.tells → (k : Kept) (op : IsChangeOp) (time : Moment) → IsBehind control.old base time k cells.old entry write op (D.view disk.old)
-        → OnOk result (IsOnDisk (with_parts log.new cells.new (effect (Some op) k.rows) (with_log control.new log.new k)) (D.view disk.new)) }
+    ensures crash { D.tells → (k : Kept) (op : IsChangeOp) (time : Moment)
+        → IsBehind control.old base time k cells.old entry write op (D.view disk.old)
+        → LeavesOnly (D.view disk.old) (D.view disk.new) (LeavesPart (place_kept k)
+        (log_anew base size block (place_kept k) ∷ committed op time (log_anew base size block (place_kept k)) ∷ [])) }
+    ensures on { D.tells → (k : Kept) (op : IsChangeOp) (time : Moment)
+        → IsBehind control.old base time k cells.old entry write op (D.view disk.old)
+        → OnOk result (IsOnDisk
+        (with_parts log.new cells.new (effect (Some op) k.rows) (with_log control.new log.new k)) (D.view disk.new)) }
     ensures control { OnOk result (control.new ≡ reset_choice control.new.log base size block control.old) }
-    ensures held { OnOk result (log.new ≡ log_committed (with_prepared (Some (record { entry = entry; cell = number_of write })) (begun control.new.log base size block))) }
+    ensures held { OnOk result (log.new ≡ log_committed (with_prepared (Some (record {
+      entry = entry;
+      cell = number_of write;
+    })) (begun control.new.log base size block))) }
     ensures same_control { OnErr result (control.new ≡ control.old) }
     ensures same_log { OnErr result (log.new ≡ log.old) }
     ensures leads { (held : List Cell) → HoldsCells cells.old held → number_of write ≤ length held
@@ -307,8 +342,8 @@ pub(crate) fn behind(base: &Point, time: Time) -> Point
     }
 }
 
-/// Begins the log anew at this base and makes the change behind it, at this time, in memory and on the disk. Memory is taken
-/// before the first device call. After an error nothing of it is in memory.
+/// Begins the log anew at this base and makes the change behind it, at this time, in memory and on the disk. Memory is
+/// taken before the first device call. After an error nothing of it is in memory.
 pub(crate) fn reset_change<D: Disk>(
     alloc: Global,
     disk: &mut D,
@@ -321,7 +356,8 @@ pub(crate) fn reset_change<D: Disk>(
     op: Op,
     time: Time,
 ) -> Result<(), Halt>
-    requires on { D.tells → (k : Kept) × IsUnder control.old (with_parts log.old cells.old rows.old k) (D.view disk.old) }
+    requires on { D.tells
+        → (k : Kept) × IsUnder control.old (with_parts log.old cells.old rows.old k) (D.view disk.old) }
     requires indexed { AreIndexed cells.old rows.old }
     requires older { control.old.format ≡ 2 }
     requires block { (2048 ≤ block) × (block ≤ 16384) }
@@ -338,17 +374,25 @@ pub(crate) fn reset_change<D: Disk>(
     ensures indexed { AreIndexed cells.new rows.new }
     ensures control { OnOk result (control.new ≡ reset_choice control.new.log base control.old.size block control.old) }
     ensures alike { OnOk result (SameNumbers (begun control.new.log base control.old.size block) log.new) }
-    ensures held { OnOk result (map entry_of log.new.held ≡ last_entries control.old.size (base_marker base ∷ change op (point_behind base time) ∷ [])) }
+    ensures held { OnOk result (map entry_of log.new.held
+        ≡ last_entries control.old.size (base_marker base ∷ change op (point_behind base time) ∷ [])) }
     ensures same_control { OnErr result (control.new ≡ control.old) }
     ensures same_log { OnErr result (log.new ≡ log.old) }
     ensures number { cells.new.file ≡ cells.old.file }
     ensures same_format { cells.new.format ≡ cells.old.format }
-    ensures crash { D.tells → (k : Kept) → IsUnder control.old (with_parts log.old cells.old rows.old k) (D.view disk.old)
-        → LeavesOnly (D.view disk.old) (D.view disk.new) (LeavesPart (place_kept (with_parts log.old cells.old rows.old k)) (log_anew base control.old.size block (place_kept (with_parts log.old cells.old rows.old k)) ∷ committed op time (log_anew base control.old.size block (place_kept (with_parts log.old cells.old rows.old k))) ∷ [])) }
+    ensures crash { D.tells → (k : Kept)
+        → IsUnder control.old (with_parts log.old cells.old rows.old k) (D.view disk.old)
+        → LeavesOnly (D.view disk.old) (D.view disk.new)
+        (LeavesPart (place_kept (with_parts log.old cells.old rows.old k))
+        (log_anew base control.old.size block (place_kept (with_parts log.old cells.old rows.old k)) ∷ committed op time
+        (log_anew base control.old.size block (place_kept (with_parts log.old cells.old rows.old k))) ∷ [])) }
     ensures on { D.tells → (k : Kept) → IsUnder control.old (with_parts log.old cells.old rows.old k) (D.view disk.old)
-        → OnOk result (IsOnDisk (with_parts log.new cells.new rows.new (with_log control.new log.new k)) (D.view disk.new)) }
-    ensures still { D.tells → (k : Kept) → IsUnder control.old (with_parts log.old cells.old rows.old k) (D.view disk.old)
-        → result ≡ Err IsMemoryOut → IsOnDisk (with_parts log.new cells.new rows.new (with_log control.new log.new k)) (D.view disk.new) }
+        → OnOk result
+        (IsOnDisk (with_parts log.new cells.new rows.new (with_log control.new log.new k)) (D.view disk.new)) }
+    ensures still { D.tells → (k : Kept)
+        → IsUnder control.old (with_parts log.old cells.old rows.old k) (D.view disk.old)
+        → result ≡ Err IsMemoryOut
+        → IsOnDisk (with_parts log.new cells.new rows.new (with_log control.new log.new k)) (D.view disk.new) }
     ensures memory { result ≡ Err IsMemoryOut → disk.new ≡ disk.old }
     ensures call { IsCall D.Disk disk.old disk.new (result ≡ Err IsDiskFault) }
 {

@@ -36,8 +36,11 @@ fn put_log<D: Disk>(
     requires size { 2 ≤ next.now.size }
     requires log { log ≡ begun next.now.log next.now.base next.now.size next.now.block }
     ensures ok { IfOk result (λ put. put ≡ log) }
-    ensures crash { D.tells → (k : Kept) → IsUnder now.now k (D.view disk.old) → LeavesOnly (D.view disk.old) (D.view disk.new) (LeavesPart (place_kept k) (log_anew next.now.base next.now.size next.now.block (place_kept k) ∷ [])) }
-    ensures on { D.tells → (k : Kept) → IsUnder now.now k (D.view disk.old) → OnOk result (IsOnDisk (with_log next.now log k) (D.view disk.new)) }
+    ensures crash { D.tells → (k : Kept)
+        → IsUnder now.now k (D.view disk.old) → LeavesOnly (D.view disk.old) (D.view disk.new)
+        (LeavesPart (place_kept k) (log_anew next.now.base next.now.size next.now.block (place_kept k) ∷ [])) }
+    ensures on { D.tells → (k : Kept) → IsUnder now.now k (D.view disk.old)
+        → OnOk result (IsOnDisk (with_log next.now log k) (D.view disk.new)) }
     ensures call { IsCall D.Disk disk.old disk.new (IsErr result) }
 {
     match reset_files(disk, now, next, &log) {
@@ -64,8 +67,10 @@ fn reset_parts<D: Disk>(
     ensures log { OnOk result (log.new ≡ begun control.new.log base size block) }
     ensures same_control { OnErr result (control.new ≡ control.old) }
     ensures same_log { OnErr result (log.new ≡ log.old) }
-    ensures crash { D.tells → (k : Kept) → IsUnder control.old k (D.view disk.old) → LeavesOnly (D.view disk.old) (D.view disk.new) (LeavesPart (place_kept k) (log_anew base size block (place_kept k) ∷ [])) }
-    ensures on { D.tells → (k : Kept) → IsUnder control.old k (D.view disk.old) → OnOk result (IsOnDisk (with_log control.new log.new k) (D.view disk.new)) }
+    ensures crash { D.tells → (k : Kept) → IsUnder control.old k (D.view disk.old) → LeavesOnly (D.view disk.old)
+        (D.view disk.new) (LeavesPart (place_kept k) (log_anew base size block (place_kept k) ∷ [])) }
+    ensures on { D.tells → (k : Kept) → IsUnder control.old k (D.view disk.old)
+        → OnOk result (IsOnDisk (with_log control.new log.new k) (D.view disk.new)) }
     ensures memory { result ≡ Err IsMemoryOut → disk.new ≡ disk.old }
     ensures call { IsCall D.Disk disk.old disk.new (result ≡ Err IsDiskFault) }
 {
@@ -104,7 +109,8 @@ impl Database {
         requires block { (2048 ≤ block) × (block ≤ 16384) }
         ensures place { OnOk result (place_kept self.new ≡ log_anew base size block (place_kept self.old)) }
         ensures on { D.tells → OnOk result (IsOnDisk self.new (D.view disk.new)) }
-        ensures crash { IsCrashSafe D.Disk disk.old disk.new (LeavesPart (place_kept self.old) (log_anew base size block (place_kept self.old) ∷ [])) }
+        ensures crash { IsCrashSafe D.Disk disk.old disk.new
+            (LeavesPart (place_kept self.old) (log_anew base size block (place_kept self.old) ∷ [])) }
         ensures err { OnErr result (place_kept self.new ≡ place_kept self.old) }
         ensures memory { result ≡ Err IsMemoryOut → disk.new ≡ disk.old }
         // Where memory ran out, the database stands on the disk as before.

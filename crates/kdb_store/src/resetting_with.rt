@@ -45,10 +45,14 @@ impl Database {
         requires serial { base.sno < 4294967295 }
         requires time { micros base.time ≤ micros time }
         ensures point { IfOk result (λ p. p ≡ point_behind base time) }
-        ensures place { OnOk result (place_kept self.new ≡ committed op time (log_anew base (place_kept self.old).size block (place_kept self.old))) }
+        ensures place { OnOk result (place_kept self.new
+            ≡ committed op time (log_anew base (place_kept self.old).size block (place_kept self.old))) }
         ensures on { D.tells → OnOk result (IsOnDisk self.new (D.view disk.new)) }
-        ensures err { OnErr result ((place_kept self.new ≡ place_kept self.old) ⊎ (place_kept self.new ≡ log_anew base (place_kept self.old).size block (place_kept self.old))) }
-        ensures crash { IsCrashSafe D.Disk disk.old disk.new (LeavesPart (place_kept self.old) (log_anew base (place_kept self.old).size block (place_kept self.old) ∷ committed op time (log_anew base (place_kept self.old).size block (place_kept self.old)) ∷ [])) }
+        ensures err { OnErr result ((place_kept self.new ≡ place_kept self.old)
+            ⊎ (place_kept self.new ≡ log_anew base (place_kept self.old).size block (place_kept self.old))) }
+        ensures crash { IsCrashSafe D.Disk disk.old disk.new
+            (LeavesPart (place_kept self.old) (log_anew base (place_kept self.old).size block (place_kept self.old)
+            ∷ committed op time (log_anew base (place_kept self.old).size block (place_kept self.old)) ∷ [])) }
         ensures memory { result ≡ Err IsMemoryOut → disk.new ≡ disk.old }
         ensures memory_place { result ≡ Err IsMemoryOut → place_kept self.new ≡ place_kept self.old }
         // Where memory ran out, the database stands on the disk as before.

@@ -34,8 +34,10 @@ fn restash_parts<D: Disk>(
     ensures stash { OnOk result (stash.new ≡ Some bytes.now) }
     ensures same_control { OnErr result (control.new ≡ control.old) }
     ensures same_stash { OnErr result (stash.new ≡ stash.old) }
-    ensures crash { D.tells → (k : Kept) → IsUnder control.old k (D.view disk.old) → LeavesOnly (D.view disk.old) (D.view disk.new) (LeavesPart (place_kept k) (restashed bytes.now (place_kept k) ∷ [])) }
-    ensures on { D.tells → (k : Kept) → IsUnder control.old k (D.view disk.old) → OnOk result (IsOnDisk (with_stash control.new bytes.now k) (D.view disk.new)) }
+    ensures crash { D.tells → (k : Kept) → IsUnder control.old k (D.view disk.old) → LeavesOnly (D.view disk.old)
+        (D.view disk.new) (LeavesPart (place_kept k) (restashed bytes.now (place_kept k) ∷ [])) }
+    ensures on { D.tells → (k : Kept) → IsUnder control.old k (D.view disk.old)
+        → OnOk result (IsOnDisk (with_stash control.new bytes.now k) (D.view disk.new)) }
     ensures memory { result ≡ Err IsMemoryOut → disk.new ≡ disk.old }
     ensures call { IsCall D.Disk disk.old disk.new (result ≡ Err IsDiskFault) }
 {
@@ -72,7 +74,8 @@ impl Database {
         // The first stash of a database without one stands in the first of the two files.
         ensures first { OnOk result (self.old.control.stash ≡ 0 → self.new.control.stash ≡ 5) }
         ensures on { D.tells → OnOk result (IsOnDisk self.new (D.view disk.new)) }
-        ensures crash { IsCrashSafe D.Disk disk.old disk.new (LeavesPart (place_kept self.old) (restashed bytes.now (place_kept self.old) ∷ [])) }
+        ensures crash { IsCrashSafe D.Disk disk.old disk.new
+            (LeavesPart (place_kept self.old) (restashed bytes.now (place_kept self.old) ∷ [])) }
         ensures err { OnErr result (place_kept self.new ≡ place_kept self.old) }
         ensures memory { result ≡ Err IsMemoryOut → disk.new ≡ disk.old }
         // Where memory ran out, the database stands on the disk as before.

@@ -124,7 +124,8 @@ pub(crate) fn plan(
 ) -> Result<UnitWrite, MemoryOut>
     requires op { IsOp (Some op.now) }
     ensures writes { IfOk result (λ w. Writes w (cell_after op.now)) }
-    ensures given { IfOk result (λ w. number_of w ≢ 0 → IsGivenFor (key_of (Some op.now)) (number_of w) (units cells.old)) }
+    ensures given { IfOk result
+        (λ w. number_of w ≢ 0 → IsGivenFor (key_of (Some op.now)) (number_of w) (units cells.old)) }
     ensures none { IfOk result (λ w. number_of w ≡ 0 → HasNoRow op.now rows.now) }
     ensures ready { IfOk result (λ w. IsGivenTo w cells.new) }
     ensures near { IfOk result (λ w. number_of w ≤ last_unit) }

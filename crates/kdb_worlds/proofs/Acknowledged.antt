@@ -2,7 +2,8 @@
 use Rattle.std.proofs.Common.{inl, inr, Bool, true, false, List, [], ◌∷◌, Option, refl, sym, subst}
 use Rattle.std.specs.Prelude.{take}
 use Rattle.iprop_truths.specs.Truths.{Message}
-use Rattle.kdb_histories.specs.Sites.{Site, SiteEvent, Creates, Calls, Stops, Crashes, Ends, Looks, Polls, Dumps, EndsDump, HappensAt}
+use Rattle.kdb_histories.specs.Sites.{Site, SiteEvent, Creates, Calls, Stops, Crashes}
+use Rattle.kdb_histories.specs.Sites.{Ends, Looks, Polls, Dumps, EndsDump, HappensAt}
 use Rattle.kdb_histories.specs.Stages.{Stage, onto}
 use Rattle.kdb_worlds.specs.Lawful.{IsAmong, acknowledged_at, acknowledged_by, all_acknowledged}
 use Rattle.kdb_worlds.specs.Worlds.{AtPrimary, AtReplica, Event, Happens, Run, World}
@@ -23,11 +24,13 @@ created_among : (t : Stage) (up : Bool) (before : List Stage) → IsAmong (ackno
 created_among t true before = inl (refl, tt)
 created_among t false before = tt
 
-site_among : (event : SiteEvent) (old new : Site) (said : Option Message) (before : List Stage) → IsAmong before old.history
+site_among : (event : SiteEvent) (old new : Site) (said : Option Message) (before : List Stage)
+    → IsAmong before old.history
     → HappensAt event old new said
     → IsAmong (acknowledged_at event before) new.history
 site_among (Creates t up) old new said before h e =
-    subst (λ (x : Site). IsAmong (acknowledged_at (Creates t up) before) x.history) (sym e.is) (created_among t up before)
+    subst (λ (x : Site). IsAmong (acknowledged_at (Creates t up) before) x.history) (sym e.is)
+    (created_among t up before)
 site_among (Calls call answer made) old new said before h e =
     subst (λ (x : Site). IsAmong (onto made before) x.history) (sym e.is) (among_onto made before old.history h)
 site_among (Stops call answer made part) old new said before h e =
@@ -35,17 +38,22 @@ site_among (Stops call answer made part) old new said before h e =
 site_among Crashes old new said before h e = subst (λ (x : Site). IsAmong before x.history) (sym e.is) h
 site_among Ends old new said before h e = tt
 site_among Looks old new said before h e = subst (λ (x : Site). IsAmong before x.history) (sym e.is) h
-site_among (Polls client access asked) old new said before h e = subst (λ (x : Site). IsAmong before x.history) (sym e.is) h
+site_among (Polls client access asked) old new said before h e =
+    subst (λ (x : Site). IsAmong before x.history) (sym e.is) h
 site_among (Dumps client access) old new said before h e = subst (λ (x : Site). IsAmong before x.history) (sym e.is) h
 site_among EndsDump old new said before h e = subst (λ (x : Site). IsAmong before x.history) (sym e.is) h
 
-event_among : (event : Event) (old new : World) (before : List Stage) → IsAmong before old.site.history → Happens event old new
+event_among : (event : Event) (old new : World) (before : List Stage) → IsAmong before old.site.history
+    → Happens event old new
     → IsAmong (acknowledged_by event before) new.site.history
 event_among (AtPrimary event said) old new before h e =
-    subst (λ (x : World). IsAmong (acknowledged_at event before) x.site.history) (sym e.is) (site_among event old.site e.site said before h e.happens)
-event_among (AtReplica which event said) old new before h e = subst (λ (x : World). IsAmong before x.site.history) (sym e.is) h
+    subst (λ (x : World). IsAmong (acknowledged_at event before) x.site.history) (sym e.is)
+    (site_among event old.site e.site said before h e.happens)
+event_among (AtReplica which event said) old new before h e =
+    subst (λ (x : World). IsAmong before x.site.history) (sym e.is) h
 
-pub run_among : (events : List Event) (old new : World) (before : List Stage) → IsAmong before old.site.history → Run old events new
+pub run_among : (events : List Event) (old new : World) (before : List Stage) → IsAmong before old.site.history
+    → Run old events new
     → IsAmong (all_acknowledged events before) new.site.history
 run_among [] old new before h run = subst (λ (x : World). IsAmong before x.site.history) (sym run) h
 run_among (event ∷ events) old new before h run =

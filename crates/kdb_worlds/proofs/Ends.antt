@@ -47,8 +47,14 @@ replica_of w h i p is =
     let has = (copy_of w h i p is).has in
     let there = seen_at (story_of w.site) has.place has.there in
     let same : contents_of p ≡ contents_of there.at.place = has.is ∙ sym (ap contents_of there.is) in
-    let shown = All-contains ShowsOwn (all_seen (story_of w.site)) there.at (all_show (story_of w.site) h.site.story.folded) there.there in
-    record { at = there.at; there = there.there; same = same; shows = shows_same p there.at.place there.at.state same shown }
+    let shown = All-contains ShowsOwn (all_seen (story_of w.site)) there.at
+    (all_show (story_of w.site) h.site.story.folded) there.there in
+    record {
+      at = there.at;
+      there = there.there;
+      same = same;
+      shows = shows_same p there.at.place there.at.state same shown;
+    }
 
 pub lawful : (w : World) → HoldsIn w → IsLawful w
 lawful w h = record {
@@ -56,6 +62,7 @@ lawful w h = record {
   full = h.site.story.full;
   one = one_seen (all_seen (story_of w.site)) h.site.story.rising;
   replicas = replica_of w h;
-  whole = λ i p r is came code asked. takes_whole (places_of w.site) (w.replicas i).size p r (one_in w h) (h.replicas i).some (copy_of w h i p is)
+  whole = λ i p r is came code asked.
+      takes_whole (places_of w.site) (w.replicas i).size p r (one_in w h) (h.replicas i).some (copy_of w h i p is)
       (All-contains (IsTrueOf (places_of w.site)) w.sent (Reply r) h.site.told came) code asked;
 }

@@ -11,8 +11,12 @@ site_run [] old new sent run = (ap (λ (w : World). w.site) run, refl)
 site_run (AtPrimary event said ∷ events) old new sent run =
     let all = sent_by_primary events (also said sent) in
     let rest = site_run events run.0 new (also said sent) run.2 in
-    let site = ap (λ (w : World). w.site) run.1.is in
-    (run.1.site, said, run.1.happens, subst (λ (s : Site). SiteRun s (also said sent) (site_events events) new.site all) site rest)
+    let site = ap (λ (w : World). w.site) run.1.is in (
+      run.1.site,
+      said,
+      run.1.happens,
+      subst (λ (s : Site). SiteRun s (also said sent) (site_events events) new.site all) site rest,
+    )
 site_run (AtReplica which event said ∷ events) old new sent run =
     let all = sent_by_primary events sent in
     let rest = site_run events run.0 new sent run.2 in

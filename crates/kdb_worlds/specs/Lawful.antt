@@ -4,13 +4,15 @@ use Rattle.iprop_truths.specs.Polls.{PollReply, updates_here}
 use Rattle.iprop_truths.specs.Truths.{Reply}
 use Rattle.kdb_histories.specs.Histories.{IsFolded, IsHeldInFull, IsOneSeen, all_seen}
 use Rattle.kdb_histories.specs.Seen.{Seen}
-use Rattle.kdb_histories.specs.Sites.{SiteEvent, Creates, Calls, Stops, Crashes, Ends, Looks, Polls, Dumps, EndsDump, places_of, story_of}
+use Rattle.kdb_histories.specs.Sites.{SiteEvent, Creates, Calls, Stops, Crashes, Ends}
+use Rattle.kdb_histories.specs.Sites.{Looks, Polls, Dumps, EndsDump, places_of, story_of}
 use Rattle.kdb_histories.specs.Stages.{ShowsAt, Stage, onto}
 use Rattle.kdb_places.specs.Places.{Place, contents_of, point_of}
 use Rattle.replica_steps.specs.Wholes.{IsTakenWhole}
 use Rattle.kdb_worlds.specs.Worlds.{AtPrimary, AtReplica, Event, World}
 
--- The replica's place has the contents of a place of the primary, and its rows show what all deeds up to that one come to.
+-- The replica's place has the contents of a place of the primary, and its rows show what all deeds up to that one come
+-- to.
 pub record IsReplicaOf (w : World) (p : Place) : Type 0 where
   pub at : Seen
   pub there : Contains (all_seen (story_of w.site)) at
@@ -26,7 +28,8 @@ pub record IsLawful (w : World) : Type 0 where
   -- a replica with a database has the rows of the place at its point
   pub replicas : (i : ℕ) (p : Place) → (w.replicas i).place ≡ Some p → IsReplicaOf w p
   -- a reply with updates from a replica's own point is taken whole
-  pub whole : (i : ℕ) (p : Place) (r : PollReply) → (w.replicas i).place ≡ Some p → Contains w.sent (Reply r) → r.code ≡ updates_here
+  pub whole : (i : ℕ) (p : Place) (r : PollReply) → (w.replicas i).place ≡ Some p → Contains w.sent (Reply r)
+      → r.code ≡ updates_here
       → r.asked ≡ point_of p → IsTakenWhole (places_of w.site) (w.replicas i).size p r
 
 -- ---- what was acknowledged

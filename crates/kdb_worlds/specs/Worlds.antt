@@ -12,7 +12,8 @@ pub record World : Type 0 where
 abbrev pub no_world : World
 no_world = record { site = no_site; replicas = λ i. no_replica; sent = [] }
 
--- What happens at one of them, and what it sends. A message that never comes is an event that is missing; one may come again, and in any order.
+-- What happens at one of them, and what it sends. A message that never comes is an event that is missing; one may come
+-- again, and in any order.
 pub data Event : Type 0 where
   AtPrimary : (event : SiteEvent) (said : Option Message) → Event
   AtReplica : (which : ℕ) (event : ReplicaEvent) (said : Option Message) → Event
@@ -28,7 +29,11 @@ pub record PrimaryMoves (event : SiteEvent) (said : Option Message) (old new : W
 pub record ReplicaMoves (which : ℕ) (event : ReplicaEvent) (said : Option Message) (old new : World) : Type 0 where
   pub replica : Replica
   pub happens : HappensTo old.sent event (old.replicas which) replica said
-  pub is : new ≡ record { site = old.site; replicas = with_replica which replica old.replicas; sent = also said old.sent }
+  pub is : new ≡ record {
+    site = old.site;
+    replicas = with_replica which replica old.replicas;
+    sent = also said old.sent;
+  }
 
 abbrev pub Happens : Event → World → World → Type 0
 Happens (AtPrimary event said) old new = PrimaryMoves event said old new

@@ -1,5 +1,6 @@
 -- The latest of a list: it is in the list, and no other is later.
-use Rattle.std.proofs.Common.{◌≡◌, ℕ, zero, suc, ◌<◌, ◌≤◌, Bool, true, false, ◌&&◌, eqb, ltb, leb, List, [], ◌∷◌, Option, Some, None, refl, sym, ap, subst, ◌∙◌, arith, ◌⊎◌, inl, inr, eq-eqb}
+use Rattle.std.proofs.Common.{◌≡◌, ℕ, zero, suc, ◌<◌, ◌≤◌, Bool, true, false, ◌&&◌, eqb, ltb, leb, List, []}
+use Rattle.std.proofs.Common.{◌∷◌, Option, Some, None, refl, sym, ap, subst, ◌∙◌, arith, ◌⊎◌, inl, inr, eq-eqb}
 use Rattle.std.specs.Prelude.{Contains, option_map}
 use Rattle.std.specs.List.{AllByRecursion, fold}
 use Rattle.std.proofs.lemmas.Bool.{and_parts, cases_lt, eqb-true, leb-true, le-leb, lt-leb, lt-ltb, le-ltb, ltb-true}
@@ -127,36 +128,42 @@ no_latest (x ∷ xs) e = absurd (none-some (fold later x xs) (sym e))
 -- ---- among those that began
 
 -- the first, or one behind it
-first_or : (x m : Activation) (xs ys : List Activation) (P : Activation → Type 0) → P x → (Contains ys m → Contains xs m × P m) → Contains (x ∷ ys) m → Contains (x ∷ xs) m × P m
+first_or : (x m : Activation) (xs ys : List Activation) (P : Activation → Type 0) → P x
+    → (Contains ys m → Contains xs m × P m) → Contains (x ∷ ys) m → Contains (x ∷ xs) m × P m
 first_or x m xs ys P here others (zero, lt, is) = ((0, omega arith, is), subst P is here)
 first_or x m xs ys P here others (suc k, lt, is) = let f = others (k, omega arith, is) in (behind x m xs f.0, f.1)
 
-begun_in : (secs : ℕ) (xs : List Activation) (m : Activation) → Contains (begun secs xs) m → Contains xs m × (m.secs ≤ secs)
+begun_in : (secs : ℕ) (xs : List Activation) (m : Activation) → Contains (begun secs xs) m
+    → Contains xs m × (m.secs ≤ secs)
 unfolding begun
 begun_in secs [] m h = let lt = h.1 in absurd (omega arith)
 begun_in secs (x ∷ xs) m h =
     elim (truth (leb x.secs secs)) [
       | inl e ↦
           let kept : begun secs (x ∷ xs) ≡ x ∷ begun secs xs = rw e refl in
-          first_or x m xs (begun secs xs) (λ a. a.secs ≤ secs) (leb-true x.secs secs e) (λ f. begun_in secs xs m f) (subst (λ (zs : List Activation). Contains zs m) kept h)
+          first_or x m xs (begun secs xs) (λ a. a.secs ≤ secs) (leb-true x.secs secs e) (λ f. begun_in secs xs m f)
+          (subst (λ (zs : List Activation). Contains zs m) kept h)
       | inr e ↦
           let left : begun secs (x ∷ xs) ≡ begun secs xs = rw e refl in
           let others = begun_in secs xs m (subst (λ (zs : List Activation). Contains zs m) left h) in
           (behind x m xs others.0, others.1)
     ]
 
-begun_all : (P : Activation → Type 0) (secs : ℕ) (xs : List Activation) → AllByRecursion P (begun secs xs) → AllByRecursion (λ a. a.secs ≤ secs → P a) xs
+begun_all : (P : Activation → Type 0) (secs : ℕ) (xs : List Activation) → AllByRecursion P (begun secs xs)
+    → AllByRecursion (λ a. a.secs ≤ secs → P a) xs
 unfolding begun
 begun_all P secs [] h = tt
 begun_all P secs (x ∷ xs) h =
     elim (truth (leb x.secs secs)) [
       | inl e ↦
           let kept : begun secs (x ∷ xs) ≡ x ∷ begun secs xs = rw e refl in
-          let both : AllByRecursion P (x ∷ begun secs xs) = subst (λ (zs : List Activation). AllByRecursion P zs) kept h in
+          let both : AllByRecursion P (x ∷ begun secs xs) =
+          subst (λ (zs : List Activation). AllByRecursion P zs) kept h in
           (λ _. both.0, begun_all P secs xs both.1)
       | inr e ↦
           let left : begun secs (x ∷ xs) ≡ begun secs xs = rw e refl in
-          let others : AllByRecursion P (begun secs xs) = subst (λ (zs : List Activation). AllByRecursion P zs) left h in
+          let others : AllByRecursion P (begun secs xs) =
+          subst (λ (zs : List Activation). AllByRecursion P zs) left h in
           (λ le. let yes = le-leb x.secs secs le in absurd cc, begun_all P secs xs others)
     ]
 
@@ -177,7 +184,8 @@ none_begun secs (x ∷ xs) e =
 
 -- ---- the active version
 
-by_latest : (list : List Activation) (secs version : ℕ) (o : Option Activation) → latest (begun secs list) ≡ o → option_map (λ a. a.version) o ≡ Some version → IsActive list secs version
+by_latest : (list : List Activation) (secs version : ℕ) (o : Option Activation) → latest (begun secs list) ≡ o
+    → option_map (λ a. a.version) o ≡ Some version → IsActive list secs version
 by_latest list secs version None e is = absurd (none-some version is)
 by_latest list secs version (Some m) e is =
     let t = latest_is (begun secs list) m e in
@@ -187,15 +195,19 @@ by_latest list secs version (Some m) e is =
       at = m.secs;
       began = within.1;
       listed = within.0;
-      latest = All-from_recursion (λ (a : Activation). a.secs ≤ secs → IsBelow m a) list (begun_all (IsBelow m) secs list t.all);
+      latest = All-from_recursion (λ (a : Activation). a.secs ≤ secs → IsBelow m a) list
+          (begun_all (IsBelow m) secs list t.all);
     })
 
-pub active_some : (list : List Activation) (secs version : ℕ) → active list secs ≡ Some version → IsActive list secs version
+pub active_some : (list : List Activation) (secs version : ℕ) → active list secs ≡ Some version
+    → IsActive list secs version
 unfolding active
 active_some list secs version e = by_latest list secs version (latest (begun secs list)) refl e
 
-by_none : (list : List Activation) (secs : ℕ) (o : Option Activation) → latest (begun secs list) ≡ o → option_map (λ a. a.version) o ≡ None → NoneBegun list secs
-by_none list secs None e is = All-from_recursion (λ (a : Activation). secs < a.secs) list (none_begun secs list (no_latest (begun secs list) e))
+by_none : (list : List Activation) (secs : ℕ) (o : Option Activation) → latest (begun secs list) ≡ o
+    → option_map (λ a. a.version) o ≡ None → NoneBegun list secs
+by_none list secs None e is =
+    All-from_recursion (λ (a : Activation). secs < a.secs) list (none_begun secs list (no_latest (begun secs list) e))
 by_none list secs (Some m) e is = absurd (none-some m.version (sym is))
 
 pub active_none : (list : List Activation) (secs : ℕ) → active list secs ≡ None → NoneBegun list secs
@@ -206,14 +218,17 @@ active_none list secs e = by_none list secs (latest (begun secs list)) refl e
 
 apart : (list : List Activation) (secs version : ℕ) → IsActive list secs version → NoneBegun list secs → ⊥
 apart list secs version h none =
-    let after = All-contains (λ (a : Activation). secs < a.secs) list (record { version = version; secs = h.at }) none h.listed in
+    let after =
+    All-contains (λ (a : Activation). secs < a.secs) list (record { version = version; secs = h.at }) none h.listed in
     let began = h.began in
     omega arith
 
 one_version : (list : List Activation) (secs v w : ℕ) → IsActive list secs v → IsActive list secs w → v ≡ w
 one_version list secs v w g h =
-    let up = All-contains (λ (a : Activation). a.secs ≤ secs → IsUpTo g.at v a) list (record { version = w; secs = h.at }) g.latest h.listed h.began in
-    let down = All-contains (λ (a : Activation). a.secs ≤ secs → IsUpTo h.at w a) list (record { version = v; secs = g.at }) h.latest g.listed g.began in
+    let up = All-contains (λ (a : Activation). a.secs ≤ secs → IsUpTo g.at v a) list
+    (record { version = w; secs = h.at }) g.latest h.listed h.began in
+    let down = All-contains (λ (a : Activation). a.secs ≤ secs → IsUpTo h.at w a) list
+    (record { version = v; secs = g.at }) h.latest g.listed g.began in
     between g.at h.at up down
   where
     between : (a b : ℕ) → (b < a) ⊎ ((b ≡ a) × (w ≤ v)) → (a < b) ⊎ ((a ≡ b) × (v ≤ w)) → v ≡ w
@@ -222,14 +237,17 @@ one_version list secs v w g h =
     between a b (inr x) (inl y) = let same = x.0 in absurd (omega arith)
     between a b (inr x) (inr y) = let p = x.1 in let q = y.1 in omega arith
 
-by_answer : (list : List Activation) (secs version : ℕ) (o : Option ℕ) → active list secs ≡ o → IsActive list secs version → o ≡ Some version
+by_answer : (list : List Activation) (secs version : ℕ) (o : Option ℕ) → active list secs ≡ o
+    → IsActive list secs version → o ≡ Some version
 by_answer list secs version None e h = absurd (apart list secs version h (active_none list secs e))
 by_answer list secs version (Some w) e h = ap Some (one_version list secs w version (active_some list secs w e) h)
 
-pub is_active : (list : List Activation) (secs version : ℕ) → IsActive list secs version → active list secs ≡ Some version
+pub is_active : (list : List Activation) (secs version : ℕ) → IsActive list secs version
+    → active list secs ≡ Some version
 is_active list secs version h = by_answer list secs version (active list secs) refl h
 
-by_no_answer : (list : List Activation) (secs : ℕ) (o : Option ℕ) → active list secs ≡ o → NoneBegun list secs → o ≡ None
+by_no_answer : (list : List Activation) (secs : ℕ) (o : Option ℕ) → active list secs ≡ o
+    → NoneBegun list secs → o ≡ None
 by_no_answer list secs None e h = refl
 by_no_answer list secs (Some w) e h = absurd (apart list secs w (active_some list secs w e) h)
 
@@ -239,7 +257,10 @@ is_none list secs h = by_no_answer list secs (active list secs) refl h
 -- ---- later moments
 
 pub none_before : (list : List Activation) (early late : ℕ) → early ≤ late → NoneBegun list late → NoneBegun list early
-none_before list early late le h = All-weaker (λ (a : Activation). late < a.secs) (λ a. early < a.secs) (λ a lt. omega arith) list h
+none_before list early late le h =
+    All-weaker (λ (a : Activation). late < a.secs) (λ a. early < a.secs) (λ a lt. omega arith) list h
 
-pub still_some : (list : List Activation) (early late : ℕ) → early ≤ late → (active list early ≡ None → ⊥) → active list late ≡ None → ⊥
-still_some list early late le some none = some (is_none list early (none_before list early late le (active_none list late none)))
+pub still_some : (list : List Activation) (early late : ℕ) → early ≤ late → (active list early ≡ None → ⊥)
+    → active list late ≡ None → ⊥
+still_some list early late le some none =
+    some (is_none list early (none_before list early late le (active_none list late none)))

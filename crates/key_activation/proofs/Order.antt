@@ -1,5 +1,6 @@
 -- Activations by rising versions, and the lists that leave some out.
-use Rattle.std.proofs.Common.{◌≡◌, ℕ, ◌<◌, ◌≤◌, Bool, true, List, [], ◌∷◌, ◌++◌, map, refl, sym, subst, arith, inl, inr, eqb, ltb}
+use Rattle.std.proofs.Common.{◌≡◌, ℕ, ◌<◌, ◌≤◌, Bool, true, List, [], ◌∷◌, ◌++◌}
+use Rattle.std.proofs.Common.{map, refl, sym, subst, arith, inl, inr, eqb, ltb}
 use Rattle.std.specs.Prelude.{filter, not, ⊤}
 use Rattle.std.specs.List.{AllByRecursion}
 use Rattle.std.specs.List.Sorted.{IsStrictlySortedBy}
@@ -66,7 +67,8 @@ rises_filter p (x ∷ xs) h =
       | inr e ↦ rw e (rises_filter p xs h.1)
     ]
 
-passed : (P : Activation → Type 0) (p : Activation → Bool) → ((a : Activation) → p a ≡ true → P a) → (xs : List Activation) → AllByRecursion P (filter p xs)
+passed : (P : Activation → Type 0) (p : Activation → Bool) → ((a : Activation) → p a ≡ true → P a)
+    → (xs : List Activation) → AllByRecursion P (filter p xs)
 passed P p is [] = tt
 passed P p is (x ∷ xs) =
     elim (truth (p x)) [
@@ -84,11 +86,14 @@ above_joined : (n : ℕ) (xs ys : List Activation) → AreAbove n xs → AreAbov
 above_joined n [] ys f g = g
 above_joined n (x ∷ xs) ys f g = (f.0, above_joined n xs ys f.1 g)
 
-joined : (xs : List Activation) (y : Activation) (ys : List Activation) → Rises xs → AllByRecursion (λ a. a.version < y.version) xs → Rises (y ∷ ys) → Rises (xs ++ y ∷ ys)
+joined : (xs : List Activation) (y : Activation) (ys : List Activation) → Rises xs
+    → AllByRecursion (λ a. a.version < y.version) xs → Rises (y ∷ ys) → Rises (xs ++ y ∷ ys)
 joined [] y ys f below g = g
 joined (x ∷ xs) y ys f below g =
-    let lt = below.0 in
-    (above_joined x.version xs (y ∷ ys) f.0 (lt, farther x.version y.version ys (omega arith) g.0), joined xs y ys f.1 below.1 g)
+    let lt = below.0 in (
+      above_joined x.version xs (y ∷ ys) f.0 (lt, farther x.version y.version ys (omega arith) g.0),
+      joined xs y ys f.1 below.1 g,
+    )
 
 pub rises_with : (version secs : ℕ) (xs : List Activation) → Rises xs → Rises (with_activation version secs xs)
 unfolding with_activation
@@ -96,8 +101,10 @@ rises_with version secs xs h =
     let low : Activation → Bool = λ (a : Activation). ltb a.version version in
     let high : Activation → Bool = λ (a : Activation). ltb version a.version in
     joined (filter low xs) (record { version = version; secs = secs }) (filter high xs) (rises_filter low xs h)
-    (passed (λ (a : Activation). a.version < version) low (λ a e. ltb-true a.version version e) xs)
-    (passed (λ (a : Activation). version < a.version) high (λ a e. ltb-true version a.version e) xs, rises_filter high xs h)
+    (passed (λ (a : Activation). a.version < version) low (λ a e. ltb-true a.version version e) xs) (
+      passed (λ (a : Activation). version < a.version) high (λ a e. ltb-true version a.version e) xs,
+      rises_filter high xs h,
+    )
 
 -- ---- behind a version
 

@@ -1,7 +1,8 @@
 -- Which version of the master key is active at some seconds since 1970. The active version is that of the
 -- latest activation that is not after them (MIT's kdb5_util, use_mkey and list_mkeys); where two activations
 -- begin in the same second, the greater version is this project's own rule.
-use Rattle.std.specs.Prelude.{◌≡◌, ℕ, ◌<◌, ◌≤◌, ◌⊎◌, Bool, ◌&&◌, ◌||◌, not, if◌then◌else◌, nat_eq, nat_lt, nat_le, List, ◌∷◌, ◌++◌, Contains, Option, option_map, filter}
+use Rattle.std.specs.Prelude.{◌≡◌, ℕ, ◌<◌, ◌≤◌, ◌⊎◌, Bool, ◌&&◌, ◌||◌, not, if◌then◌else◌, nat_eq}
+use Rattle.std.specs.Prelude.{nat_lt, nat_le, List, ◌∷◌, ◌++◌, Contains, Option, option_map, filter}
 use Rattle.std.specs.List.{All, find, reduce}
 use Rattle.kdb_base.specs.declared.versions.Activation.{Activation}
 
@@ -52,7 +53,8 @@ activation_of version list = option_map (λ a. a.secs) (find (λ a. nat_eq a.ver
 
 -- those of lower versions, this one, and those of greater versions
 unfoldable pub with_activation : ℕ → ℕ → List Activation → List Activation
-with_activation version secs list = filter (λ a. nat_lt a.version version) list ++ record { version = version; secs = secs } ∷ filter (λ a. nat_lt version a.version) list
+with_activation version secs list = filter (λ a. nat_lt a.version version) list
+    ++ record { version = version; secs = secs } ∷ filter (λ a. nat_lt version a.version) list
 
 -- those of other versions
 unfoldable pub without_activation : ℕ → List Activation → List Activation

@@ -2,7 +2,8 @@
 
 ghost use Rattle.std.specs.Prelude.{◌≡◌, ◌≢◌, ◌≤◌, ℕ, None, OnErr, OnOk, Some, map};
 ghost use Rattle.kdb_base.specs.Versions.{AreRising};
-ghost use Rattle.key_activation.specs.Activations.{AreNumbered, IsActive, NoneBegun, activation_of, active, later, with_activation, without_activation};
+ghost use Rattle.key_activation.specs.Activations.{AreNumbered, IsActive, NoneBegun, activation_of};
+ghost use Rattle.key_activation.specs.Activations.{active, later, with_activation, without_activation};
 
 use kdb_base::{Activation, Activations, MemoryOut};
 use std::alloc::Global;

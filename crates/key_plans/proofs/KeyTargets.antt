@@ -21,17 +21,22 @@ module _ (g : Given) (name : NameParts) (text : List ℕ) (denied protected : Op
   here : found ≡ record_named (printed name) g.rows.now.princs
   here = found_is ∙ ap (λ (n : List ℕ). record_named n g.rows.now.princs) text_is
 
-  pub key_target_found : (p : Princ) → AreRows g.rows.now → first (denied ∷ protected ∷ []) ≡ None → found ≡ Some p → IsKeyTarget g name p
+  pub key_target_found : (p : Princ) → AreRows g.rows.now → first (denied ∷ protected ∷ []) ≡ None → found ≡ Some p
+      → IsKeyTarget g name p
   key_target_found p rows none is =
       let first_none = none_of denied (protected ∷ []) none in
       let second_none = none_of protected [] first_none.1 in
       record {
         allowed = sym denied_is ∙ first_none.0;
-        unprotected = when_not (list_any (is_protected g.realm.now) (name ∷ [])) Protected (sym protected_is ∙ second_none.0);
+        unprotected =
+            when_not (list_any (is_protected g.realm.now) (name ∷ [])) Protected (sym protected_is ∙ second_none.0);
         there = sym here ∙ is;
         rows = rows;
       }
 
-  pub key_target_missed : (why : Refusal) → first (first (denied ∷ protected ∷ []) ∷ when (is_none found) UnknownPrincipal ∷ []) ≡ Some why → key_target_refusal g name ≡ Some why
+  pub key_target_missed : (why : Refusal)
+      → first (first (denied ∷ protected ∷ []) ∷ when (is_none found) UnknownPrincipal ∷ []) ≡ Some why
+      → key_target_refusal g name ≡ Some why
   key_target_missed why e =
-      rw (← denied_is, ← protected_is, ← here) (sym (nested (denied ∷ protected ∷ []) (when (is_none found) UnknownPrincipal ∷ [])) ∙ e)
+      rw (← denied_is, ← protected_is, ← here)
+      (sym (nested (denied ∷ protected ∷ []) (when (is_none found) UnknownPrincipal ∷ [])) ∙ e)

@@ -16,23 +16,30 @@ use Rattle.princ_record.specs.declared.princs.Princ.{Princ}
 use Rattle.row_keys.specs.Shows.{ShowsItem, ShowsSet, ShowsUnder}
 
 -- what holds of a record holds of what is equal to it
-pub on_made : {E : Type 0} (r : Result Princ E) (F : Princ → Type 0) (h : Princ) → IfOk r (λ (x : Princ). x ≡ h) → F h → IfOk r F
+pub on_made : {E : Type 0} (r : Result Princ E) (F : Princ → Type 0) (h : Princ) → IfOk r (λ (x : Princ). x ≡ h)
+    → F h → IfOk r F
 on_made (Ok x) F h e f = subst F (sym e) f
 on_made (Err why) F h e f = tt
 
-module _ (w : With) (by : By) (c : ChangeKeys) (fresh : List Key) (q : PlainPrinc) (p made : Princ) (keys : List KeyItem) (old : List OldSet) (same : made ≡ p) where
+module _ (w : With) (by : By) (c : ChangeKeys) (fresh : List Key) (q : PlainPrinc) (p made : Princ)
+    (keys : List KeyItem) (old : List OldSet) (same : made ≡ p) where
   abbrev made_head : Princ
   made_head = rekeyed_head w.active.version w.numbers.max_life by (record made { keys = keys; old = old })
 
-  pub made_from : (random : List ℕ) → keys ≡ kept_items w.active.key random c fresh q → old ≡ kept_sets w.history w.numbers.history random c fresh q made.old → made_head ≡ kept_with w random by c fresh q p
+  pub made_from : (random : List ℕ) → keys ≡ kept_items w.active.key random c fresh q
+      → old ≡ kept_sets w.history w.numbers.history random c fresh q made.old
+      → made_head ≡ kept_with w random by c fresh q p
   unfolding rekeyed_head
   made_from random keys_are old_are = rw (keys_are, old_are, same) refl
 
-  pub made_shows : (master : Key) → ShowsUnder master w.history p q → AllZip (ShowsItem w.active.key) keys (next_items fresh q.keys ++ kept_keys c.keep_old q.keys)
-      → AllZip (ShowsSet w.history) old (plain_sets w.numbers.history c q) → ShowsUnder w.active.key w.history made_head (plain_with w by c fresh q)
+  pub made_shows : (master : Key) → ShowsUnder master w.history p q
+      → AllZip (ShowsItem w.active.key) keys (next_items fresh q.keys ++ kept_keys c.keep_old q.keys)
+      → AllZip (ShowsSet w.history) old (plain_sets w.numbers.history c q)
+      → ShowsUnder w.active.key w.history made_head (plain_with w by c fresh q)
   unfolding rekeyed_head
   made_shows master f items sets = record {
-    fields = ap (rekeyed_head w.active.version w.numbers.max_life by) (subst (λ (x : Princ). head x ≡ plain_head q) (sym same) f.fields);
+    fields = ap (rekeyed_head w.active.version w.numbers.max_life by)
+        (subst (λ (x : Princ). head x ≡ plain_head q) (sym same) f.fields);
     keys = items;
     old = sets;
   }

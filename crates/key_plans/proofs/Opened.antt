@@ -29,15 +29,20 @@ use Rattle.tagged_data.specs.Numbers.{IsVersion}
 
 -- what is opened of a record is the history key, where the record is that of kadmin/history
 abbrev pub OpensFirst : List Master → Princ → Key → Type 0
-OpensFirst masters p found = (master : Key) (plain : List PlainItem) (key : Key) → master_of masters p.mkvno ≡ Some master → AllZip (ShowsItem master) p.keys plain → first_key plain ≡ Some key → found ≡ key
+OpensFirst masters p found =
+    (master : Key) (plain : List PlainItem) (key : Key) → master_of masters p.mkvno ≡ Some master
+    → AllZip (ShowsItem master) p.keys plain → first_key plain ≡ Some key → found ≡ key
 
 some_princ : (a b : Princ) → ◌≡◌ {A = Option Princ} (Some a) (Some b) → a ≡ b
 some_princ a b e = cc
 
-pub history_found : (g : Given) (p : Princ) (key : Key) → record_named (history_name g.realm.now) g.rows.now.princs ≡ Some p → OpensFirst g.masters.now p key → IsHistoryKey g key
+pub history_found : (g : Given) (p : Princ) (key : Key)
+    → record_named (history_name g.realm.now) g.rows.now.princs ≡ Some p → OpensFirst g.masters.now p key
+    → IsHistoryKey g key
 history_found g p key there opens = λ history princs shown is.
     let h = history_entry g.realm.now princs history is in
-    let b = both_beside_left (ShowsPrinc g.masters.now history) (record_named (history_name g.realm.now) g.rows.now.princs) (princ_named (history_name g.realm.now) princs) h.entry
+    let b = both_beside_left (ShowsPrinc g.masters.now history)
+    (record_named (history_name g.realm.now) g.rows.now.princs) (princ_named (history_name g.realm.now) princs) h.entry
     (found_alike g.masters.now history g.rows.now.princs princs shown (history_name g.realm.now)) h.there in
     let same : b.other ≡ p = some_princ b.other p (sym b.there ∙ there) in
     let f = subst (λ (r : Princ). ShowsPrinc g.masters.now history r h.entry) same b.beside in
@@ -45,17 +50,22 @@ history_found g p key there opens = λ history princs shown is.
 
 -- ---- a principal
 
-pub opened_is : (masters : List Master) (history : Key) (p : Princ) (q other : PlainPrinc) → IsOpened masters history p q → ShowsPrinc masters history p other → q ≡ other
+pub opened_is : (masters : List Master) (history : Key) (p : Princ) (q other : PlainPrinc)
+    → IsOpened masters history p q → ShowsPrinc masters history p other → q ≡ other
 opened_is masters history p q other o f =
-    o.only other (subst (λ (m : Key). ShowsUnder m history p other) (same_key f.master o.master (sym f.named ∙ o.named)) f.under)
+    o.only other
+    (subst (λ (m : Key). ShowsUnder m history p other) (same_key f.master o.master (sym f.named ∙ o.named)) f.under)
 
 -- ---- the active version
 
-version_by : (o : Option ChainPart) (secs version : ℕ) → IsChainOr o → option_and_then (λ (part : ChainPart). active part.activations secs) o ≡ Some version → IsVersion version
+version_by : (o : Option ChainPart) (secs version : ℕ) → IsChainOr o
+    → option_and_then (λ (part : ChainPart). active part.activations secs) o ≡ Some version → IsVersion version
 version_by None secs version f e = absurd cc
-version_by (Some part) secs version f e = active_holds IsVersion part.activations secs version (λ i d lt. (f.activations.each i d lt).version) e
+version_by (Some part) secs version f e =
+    active_holds IsVersion part.activations secs version (λ i d lt. (f.activations.each i d lt).version) e
 
-version_of : (rows : List Princ) (entry : Option Princ) (secs version : ℕ) → ((p : Princ) → entry ≡ Some p → IsChainOr p.chain) → active_by entry secs ≡ Some version → IsVersion version
+version_of : (rows : List Princ) (entry : Option Princ) (secs version : ℕ)
+    → ((p : Princ) → entry ≡ Some p → IsChainOr p.chain) → active_by entry secs ≡ Some version → IsVersion version
 version_of rows None secs version f e = absurd cc
 version_of rows (Some p) secs version f e = version_by p.chain secs version (f p refl) e
 

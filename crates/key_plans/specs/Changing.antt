@@ -1,5 +1,6 @@
 -- Why keys are not changed, and the record that has them changed. All of it is over plain variables.
-use Rattle.std.specs.Prelude.{ℕ, ◌+◌, Bool, false, not, ◌&&◌, ◌||◌, nat_le, nat_lt, List, [], ◌∷◌, ◌++◌, drop, length, min, Option, None, option_and_then, if◌then◌else◌}
+use Rattle.std.specs.Prelude.{ℕ, ◌+◌, Bool, false, not, ◌&&◌, ◌||◌, nat_le, nat_lt, List, [], ◌∷◌}
+use Rattle.std.specs.Prelude.{◌++◌, drop, length, min, Option, None, option_and_then, if◌then◌else◌}
 use Rattle.command_plans.specs.KeptEntries.{is_drawn}
 use Rattle.kadm_commands.specs.declared.commands.ChangeKeys.{ChangeKeys}
 use Rattle.kdb_base.specs.Key.{Key}
@@ -27,18 +28,21 @@ use Rattle.row_keys.specs.Wraps.{rekeyed_items, taken_lens}
 -- the least life of keys that were set at this second is not over
 abbrev pub soon_after : ℕ → ℕ → ℕ → ℕ → Option Refusal
 soon_after secs life attributes changed =
-    when (not (has_bit needchange attributes) && nat_lt secs (changed + life)) (why.PassTooSoon (min (changed + life) 4294967295))
+    when (not (has_bit needchange attributes) && nat_lt secs (changed + life))
+    (why.PassTooSoon (min (changed + life) 4294967295))
 
 -- over a connection a principal does not change the own keys again before that
 abbrev pub soon_again : Bool → Bool → ℕ → ℕ → PlainPrinc → Option Refusal
-soon_again connected own secs life q = if connected then (if own then option_and_then (soon_after secs life q.attributes) q.pw_changed else None) else None
+soon_again connected own secs life q =
+    if connected then (if own then option_and_then (soon_after secs life q.attributes) q.pw_changed else None) else None
 
 -- no version is left for new keys, or there would be more than a principal may have
 abbrev pub lacks_room : ℕ → Bool → PlainPrinc → Bool
-lacks_room count keep q = nat_le greatest_kvno (newest_kvno q.keys) || nat_lt most_keys (count + length (kept_keys keep q.keys))
+lacks_room count keep q =
+    nat_le greatest_kvno (newest_kvno q.keys) || nat_lt most_keys (count + length (kept_keys keep q.keys))
 
--- Why the keys of this principal are not changed for these, one after the other: `connected` says that there is an access list, `own`
--- that the command is on the client's own name, and the numbers are those of the principal's policy.
+-- Why the keys of this principal are not changed for these, one after the other: `connected` says that there is an
+-- access list, `own` that the command is on the client's own name, and the numbers are those of the principal's policy.
 abbrev pub change_causes : Bool → Bool → ℕ → Numbers → ChangeKeys → List Key → PlainPrinc → List (Option Refusal)
 change_causes connected own secs numbers c fresh q =
     when (connected && has_bit lockdown_keys q.attributes && is_password c.keys) why.LockedDown
@@ -57,15 +61,18 @@ next_items fresh keys = items_of (newest_kvno keys + 1) fresh
 
 -- what new keys and those that stay leave of the block
 abbrev pub block_behind : List ℕ → ChangeKeys → List Key → PlainPrinc → List ℕ
-block_behind random c fresh q = drop (taken_lens false (kept_keys c.keep_old q.keys)) (drop (taken_lens (is_drawn c.keys) (next_items fresh q.keys)) random)
+block_behind random c fresh q = drop (taken_lens false (kept_keys c.keep_old q.keys))
+    (drop (taken_lens (is_drawn c.keys) (next_items fresh q.keys)) random)
 
 -- the keys, wrapped under the active master key
 abbrev pub kept_items : Key → List ℕ → ChangeKeys → List Key → PlainPrinc → List KeyItem
-kept_items master random c fresh q = rekeyed_items master (is_drawn c.keys) random (next_items fresh q.keys) (kept_keys c.keep_old q.keys)
+kept_items master random c fresh q =
+    rekeyed_items master (is_drawn c.keys) random (next_items fresh q.keys) (kept_keys c.keep_old q.keys)
 
 -- the remembered keys, wrapped under the history key; a random key leaves them as they are
 abbrev pub kept_sets : Key → ℕ → List ℕ → ChangeKeys → List Key → PlainPrinc → List OldSet → List OldSet
-kept_sets history count random c fresh q old = if is_password c.keys then remembered_sets history count (block_behind random c fresh q) q.keys old else old
+kept_sets history count random c fresh q old =
+    if is_password c.keys then remembered_sets history count (block_behind random c fresh q) q.keys old else old
 
 -- the record, of this principal, with new keys
 abbrev pub kept_with : With → List ℕ → By → ChangeKeys → List Key → PlainPrinc → Princ → Princ
@@ -81,4 +88,5 @@ plain_sets count c q = if is_password c.keys then remembered count q.keys q.old 
 -- the principal with new keys
 abbrev pub plain_with : With → By → ChangeKeys → List Key → PlainPrinc → PlainPrinc
 plain_with w by c fresh q =
-    plain_of (rekeyed_head w.active.version w.numbers.max_life by (plain_head q)) (next_items fresh q.keys ++ kept_keys c.keep_old q.keys) (plain_sets w.numbers.history c q)
+    plain_of (rekeyed_head w.active.version w.numbers.max_life by (plain_head q))
+    (next_items fresh q.keys ++ kept_keys c.keep_old q.keys) (plain_sets w.numbers.history c q)

@@ -16,7 +16,8 @@ use Rattle.row_keys.specs.Shows.{ShowsPrinc, ShowsUnder}
 -- the history key of whatever principals the rows show
 abbrev pub IsHistoryKey : Given → Key → Type 0
 IsHistoryKey g key =
-    (history : Key) (princs : List PlainPrinc) → AllZip (ShowsPrinc g.masters.now history) g.rows.now.princs princs → history_key g.realm.now princs ≡ Some history → key ≡ history
+    (history : Key) (princs : List PlainPrinc) → AllZip (ShowsPrinc g.masters.now history) g.rows.now.princs princs
+    → history_key g.realm.now princs ≡ Some history → key ≡ history
 
 -- under the master key of its version and this history key, the record is of this principal and of no other
 pub record IsOpened (masters : List Master) (history : Key) (p : Princ) (q : PlainPrinc) : Type 0 where
@@ -27,7 +28,8 @@ pub record IsOpened (masters : List Master) (history : Key) (p : Princ) (q : Pla
 
 -- the version of the master key that is active, by K/M's record
 abbrev pub active_by : Option Princ → ℕ → Option ℕ
-active_by entry secs = option_and_then (λ (part : ChainPart). active part.activations secs) (option_and_then (λ (p : Princ). p.chain) entry)
+active_by entry secs = option_and_then (λ (part : ChainPart). active part.activations secs)
+    (option_and_then (λ (p : Princ). p.chain) entry)
 
 -- the master key that is active at the moment, with its version
 pub record IsActiveMaster (g : Given) (m : Master) : Type 0 where

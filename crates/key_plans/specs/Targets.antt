@@ -14,7 +14,8 @@ use Rattle.row_keys.specs.Lookups.{record_named}
 
 -- the refusal of a change of keys by the access list; everybody may change the own ones
 abbrev pub change_denial : Given → NameParts → Option Refusal
-change_denial g name = denial_unless (same_name g.client.now name) (option_map (λ acl. acl.now) g.acl) g.client.now (asking changing name ∷ [])
+change_denial g name = denial_unless (same_name g.client.now name) (option_map (λ acl. acl.now) g.acl) g.client.now
+    (asking changing name ∷ [])
 
 -- the record of a principal other than K/M and kadmin/history, whose keys the client may change
 pub record IsKeyTarget (g : Given) (name : NameParts) (p : Princ) : Type 0 where

@@ -62,7 +62,8 @@ pub(crate) fn kept_keys(keep: bool, keys: &[PlainItem]) -> &[PlainItem]
 
 /// The keys are locked down, over a connection.
 fn lock(given: &Given, c: &ChangeKeys, plain: &PlainPrinc) -> Option<Refusal>
-    ensures { result ≡ when (is_some (option_map (λ acl. acl.now) given.now.acl) && has_bit lockdown_keys plain.now.attributes && is_password c.now.keys) Refusal.LockedDown }
+    ensures { result ≡ when (is_some (option_map (λ acl. acl.now) given.now.acl)
+        && has_bit lockdown_keys plain.now.attributes && is_password c.now.keys) Refusal.LockedDown }
 {
     let locked = given.acl.is_some() && has_bit(LOCKDOWN_KEYS, plain.attributes);
     when(locked && is_password(&c.keys), Refusal::LockedDown)
@@ -70,7 +71,8 @@ fn lock(given: &Given, c: &ChangeKeys, plain: &PlainPrinc) -> Option<Refusal>
 
 /// A key of the password was in use before.
 fn reused(c: &ChangeKeys, fresh: &[PlainKey], plain: &PlainPrinc) -> Option<Refusal>
-    ensures { result ≡ when (is_password c.now.keys && is_reused fresh.now plain.now.keys plain.now.old) Refusal.PassReused }
+    ensures { result
+        ≡ when (is_password c.now.keys && is_reused fresh.now plain.now.keys plain.now.old) Refusal.PassReused }
 {
     let reused = is_password(&c.keys)
         && is_reused(fresh, plain.keys.as_slice(), plain.old.as_slice());
@@ -93,7 +95,8 @@ fn soon_after(secs: u32, life: u32, attributes: u32, changed: u32) -> Option<Ref
 
 /// The own keys are changed again before the least life of the standing ones is over, over a connection.
 fn soon_again(given: &Given, own: bool, life: u32, plain: &PlainPrinc) -> Option<Refusal>
-    ensures { result ≡ soon_again (is_some (option_map (λ acl. acl.now) given.now.acl)) own given.now.moment.secs life plain.now }
+    ensures { result
+        ≡ soon_again (is_some (option_map (λ acl. acl.now) given.now.acl)) own given.now.moment.secs life plain.now }
 {
     if given.acl.is_none() || !own {
         return None;
@@ -123,7 +126,8 @@ pub(crate) fn cause(
     fresh: &[PlainKey],
     plain: &PlainPrinc,
 ) -> Option<Refusal>
-    ensures { result ≡ first (change_causes (is_some (option_map (λ acl. acl.now) given.now.acl)) own given.now.moment.secs numbers.now c.now fresh.now plain.now) }
+    ensures { result ≡ first (change_causes (is_some (option_map (λ acl. acl.now) given.now.acl)) own
+        given.now.moment.secs numbers.now c.now fresh.now plain.now) }
 {
     let password = password_of(&c.keys);
     let full = lacks_room(fresh.len(), c.keep_old, plain);

@@ -33,7 +33,9 @@ fn first_of(keys: &[PlainItem]) -> Result<PlainKey, MemoryOut>
 
 /// The first key of the record.
 fn first_opened(alloc: Global, given: &Given, princ: &Princ) -> Result<PlainKey, MemoryOut>
-    ensures { (master : Key) (plain : List PlainItem) (key : Key) → master_of given.now.masters.now princ.now.mkvno ≡ Some master → AllZip (ShowsItem master) princ.now.keys plain → first_key plain ≡ Some key → IfOk result (λ k. k ≡ key) }
+    ensures { (master : Key) (plain : List PlainItem) (key : Key)
+        → master_of given.now.masters.now princ.now.mkvno ≡ Some master → AllZip (ShowsItem master) princ.now.keys plain
+        → first_key plain ≡ Some key → IfOk result (λ k. k ≡ key) }
 {
     match master_of(given.masters, princ.mkvno) {
         Some(master) => {
@@ -94,7 +96,8 @@ fn active_of(entry: &Princ, secs: u32) -> Option<u16>
 
 /// The version of the master key that is active at the moment.
 fn active_version(alloc: Global, given: &Given) -> Result<Option<u16>, MemoryOut>
-    ensures { IfOk result (λ v. v ≡ active_by (record_named (master_name given.now.realm.now) given.now.rows.now.princs) given.now.moment.secs) }
+    ensures { IfOk result (λ v. v
+        ≡ active_by (record_named (master_name given.now.realm.now) given.now.rows.now.princs) given.now.moment.secs) }
 {
     let name = master_name(alloc, given.realm)?;
     match found(given, name.as_slice()) {

@@ -79,7 +79,8 @@ fn rekeyed_head(
     with: &With,
     mut head: Princ,
 ) -> Result<Princ, MemoryOut>
-    ensures head { IfOk result (λ h. h ≡ rekeyed_head with.now.active.version with.now.numbers.max_life (by_given given.now) head) }
+    ensures head { IfOk result
+        (λ h. h ≡ rekeyed_head with.now.active.version with.now.numbers.max_life (by_given given.now) head) }
     ensures by { IfOk result (λ h. IsBy (by_given given.now)) }
 {
     let secs = given.moment.secs();
@@ -112,9 +113,12 @@ fn kept_items(
     items: &[PlainItem],
     plain: &PlainPrinc,
 ) -> Result<Keys, MemoryOut>
-    requires { taken_lens (is_drawn c.now.keys) items.now + taken_lens false (kept_keys c.now.keep_old plain.now.keys) ≤ length random.now }
-    ensures keys { (fresh : List Key) → items.now ≡ next_items fresh plain.now.keys → IfOk result (λ keys. keys ≡ kept_items with.now.active.key random.now c.now fresh plain.now) }
-    ensures shows { IfOk result (λ keys. AllZip (ShowsItem with.now.active.key) keys (items.now ++ kept_keys c.now.keep_old plain.now.keys)) }
+    requires { taken_lens (is_drawn c.now.keys) items.now + taken_lens false (kept_keys c.now.keep_old plain.now.keys)
+        ≤ length random.now }
+    ensures keys { (fresh : List Key) → items.now ≡ next_items fresh plain.now.keys
+        → IfOk result (λ keys. keys ≡ kept_items with.now.active.key random.now c.now fresh plain.now) }
+    ensures shows { IfOk result
+        (λ keys. AllZip (ShowsItem with.now.active.key) keys (items.now ++ kept_keys c.now.keep_old plain.now.keys)) }
 {
     let master = MasterKey::new(&with.active.key);
     let kept = kept_keys(c.keep_old, plain.keys.as_slice());
@@ -133,9 +137,12 @@ fn kept_sets(
     plain: &PlainPrinc,
     old: OldSets,
 ) -> Result<OldSets, MemoryOut>
-    requires { taken_lens (is_drawn c.now.keys) items.now + taken_lens false (kept_keys c.now.keep_old plain.now.keys) + 16 * length (newest_keys plain.now.keys) ≤ length random.now }
-    ensures sets { (fresh : List Key) → items.now ≡ next_items fresh plain.now.keys → IfOk result (λ s. s ≡ kept_sets with.now.history with.now.numbers.history random.now c.now fresh plain.now old) }
-    ensures shows { AllZip (ShowsSet with.now.history) old plain.now.old → IfOk result (λ s. AllZip (ShowsSet with.now.history) s (plain_sets with.now.numbers.history c.now plain.now)) }
+    requires { taken_lens (is_drawn c.now.keys) items.now + taken_lens false (kept_keys c.now.keep_old plain.now.keys)
+        + 16 * length (newest_keys plain.now.keys) ≤ length random.now }
+    ensures sets { (fresh : List Key) → items.now ≡ next_items fresh plain.now.keys → IfOk result
+        (λ s. s ≡ kept_sets with.now.history with.now.numbers.history random.now c.now fresh plain.now old) }
+    ensures shows { AllZip (ShowsSet with.now.history) old plain.now.old → IfOk result
+        (λ s. AllZip (ShowsSet with.now.history) s (plain_sets with.now.numbers.history c.now plain.now)) }
 {
     if !is_password(&c.keys) {
         return Ok(old);
@@ -166,9 +173,13 @@ pub(crate) fn rekeyed(
 ) -> Result<Princ, MemoryOut>
     requires opened { IsOpened given.now.masters.now with.now.history princ.now plain.now }
     requires version { newest_kvno plain.now.keys < 65535 }
-    requires block { taken_lens (is_drawn c.now.keys) (next_items fresh.now plain.now.keys) + taken_lens false (kept_keys c.now.keep_old plain.now.keys) + 16 * length (newest_keys plain.now.keys) ≤ length given.now.random.now }
-    ensures princ { IfOk result (λ p. p ≡ kept_with with.now given.now.random.now (by_given given.now) c.now fresh.now plain.now princ.now) }
-    ensures shows { IfOk result (λ p. ShowsUnder with.now.active.key with.now.history p (plain_with with.now (by_given given.now) c.now fresh.now plain.now)) }
+    requires block { taken_lens (is_drawn c.now.keys) (next_items fresh.now plain.now.keys)
+        + taken_lens false (kept_keys c.now.keep_old plain.now.keys) + 16 * length (newest_keys plain.now.keys)
+        ≤ length given.now.random.now }
+    ensures princ { IfOk result
+        (λ p. p ≡ kept_with with.now given.now.random.now (by_given given.now) c.now fresh.now plain.now princ.now) }
+    ensures shows { IfOk result (λ p. ShowsUnder with.now.active.key with.now.history p
+        (plain_with with.now (by_given given.now) c.now fresh.now plain.now)) }
     ensures by { IfOk result (λ p. IsBy (by_given given.now)) }
 {
     let items = next_items(alloc, fresh, plain)?;

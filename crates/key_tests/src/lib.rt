@@ -1,5 +1,5 @@
-//! The keys of a database: wrapped, chained, remembered and rekeyed, in rows and in the plain state that they show, from
-//! its creation to its opening by a stash. The crate has no code of its own.
+//! The keys of a database: wrapped, chained, remembered and rekeyed, in rows and in the plain state that they show,
+//! from its creation to its opening by a stash. The crate has no code of its own.
 #![tactic(auto)]
 
 #[cfg(test)]

@@ -1,5 +1,6 @@
 -- The parts of a name are short.
-use Rattle.std.proofs.Common.{◌≡◌, ℕ, ◌+◌, ◌*◌, ◌^◌, ◌<◌, ◌≤◌, Bool, true, false, cond, List, [], ◌∷◌, length, refl, inl, inr, arith, ◌⊎◌}
+use Rattle.std.proofs.Common.{◌≡◌, ℕ, ◌+◌, ◌*◌, ◌^◌, ◌<◌, ◌≤◌, Bool, true, false, cond}
+use Rattle.std.proofs.Common.{List, [], ◌∷◌, length, refl, inl, inr, arith, ◌⊎◌}
 use Rattle.std.specs.Prelude.{nat_eq}
 use Rattle.std.specs.List.{All, AllByRecursion, flat_map}
 use Rattle.std.proofs.lemmas.List.{length-append}
@@ -29,9 +30,11 @@ some_printed b =
 text_longer : (text : List ℕ) → length text ≤ length (printed_text text)
 unfolding printed_text
 text_longer [] = omega arith
-text_longer (b ∷ text) = omega (arith, length-append (printed_byte b) (flat_map printed_byte text), some_printed b, text_longer text)
+text_longer (b ∷ text) =
+    omega (arith, length-append (printed_byte b) (flat_map printed_byte text), some_printed b, text_longer text)
 
-parts_shorter : (n : ℕ) (parts : List (List ℕ)) → length (printed_parts parts) ≤ n → AllByRecursion (λ part. length part ≤ n) parts
+parts_shorter : (n : ℕ) (parts : List (List ℕ)) → length (printed_parts parts) ≤ n
+    → AllByRecursion (λ part. length part ≤ n) parts
 unfolding printed_parts
 parts_shorter n [] le = tt
 parts_shorter n (part ∷ []) le = (let longer = text_longer part in omega arith, tt)
@@ -53,21 +56,30 @@ unfolding printed
 parts_short name is =
     let short = is.short in
     let whole = length-append (printed_parts name.parts) (64 ∷ printed_text name.realm) in
-    All-from_recursion (λ (part : List ℕ). length part < 2 ^ 16) name.parts (weaker name.parts (parts_shorter 255 name.parts (omega arith)))
+    All-from_recursion (λ (part : List ℕ). length part < 2 ^ 16) name.parts
+    (weaker name.parts (parts_shorter 255 name.parts (omega arith)))
   where
-    weaker : (parts : List (List ℕ)) → AllByRecursion (λ (part : List ℕ). length part ≤ 255) parts → AllByRecursion (λ (part : List ℕ). length part < 2 ^ 16) parts
+    weaker : (parts : List (List ℕ)) → AllByRecursion (λ (part : List ℕ). length part ≤ 255) parts
+        → AllByRecursion (λ (part : List ℕ). length part < 2 ^ 16) parts
     weaker [] h = tt
     weaker (part ∷ parts) h = (let le = h.0 in omega arith, weaker parts h.1)
 
 -- what the parts take, each behind its length
-counted_parts : (parts : List (List ℕ)) → length (flat_map counted parts) ≤ 2 * length parts + length (printed_parts parts)
+counted_parts : (parts : List (List ℕ))
+    → length (flat_map counted parts) ≤ 2 * length parts + length (printed_parts parts)
 unfolding printed_parts
 counted_parts [] = omega arith
-counted_parts (part ∷ []) = let longer = text_longer part in omega (arith, length-append (counted part) [], length-counted part)
+counted_parts (part ∷ []) = let longer =
+    text_longer part in omega (arith, length-append (counted part) [], length-counted part)
 counted_parts (part ∷ next ∷ parts) =
     let longer = text_longer part in
     let whole = length-append (printed_text part) (47 ∷ printed_parts (next ∷ parts)) in
-    omega (arith, length-append (counted part) (flat_map counted (next ∷ parts)), length-counted part, counted_parts (next ∷ parts))
+    omega (
+      arith,
+      length-append (counted part) (flat_map counted (next ∷ parts)),
+      length-counted part,
+      counted_parts (next ∷ parts),
+    )
 
 pub parts_room : (name : NameParts) → IsName name → length (flat_map counted name.parts) ≤ 287
 unfolding printed

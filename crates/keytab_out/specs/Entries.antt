@@ -5,7 +5,8 @@ use Rattle.kdb_format.specs.Spellings.{big}
 use Rattle.stash_file.specs.Keytabs.{has_key, with_version}
 use Rattle.stash_file.specs.Pieces.{Entry, IsHeld, Told, told_of}
 
--- what a keytab can hold: an entry and the bytes behind it, fewer than 2 ^ 31, with a key as long as keys of its type are
+-- what a keytab can hold: an entry and the bytes behind it, fewer than 2 ^ 31, with a key as long as keys of its type
+-- are
 pub record IsListed (t : Told) : Type 0 where
   pub front : Entry
   pub more : List ℕ

@@ -14,7 +14,8 @@ use Rattle.princ_name.specs.declared.faults.NameFault.TheVariants.{BadName}
 pub name_read : (word : List ℕ) (name : NameParts) → Spells word [] name → IsName name → whole_name_in word ≡ Ok name
 name_read word name (inl given) is = absurd (is.realm given.1)
 name_read word name (inr spelled) is =
-    ap (λ (n : NameParts). own_name_in word n.realm) (said_name word [] name (inr spelled)) ∙ reading_of_name word name.realm name (inr spelled) is refl
+    ap (λ (n : NameParts). own_name_in word n.realm) (said_name word [] name (inr spelled))
+    ∙ reading_of_name word name.realm name (inr spelled) is refl
 
 -- what spells no name spells none in its own realm
 none_own : (word : List ℕ) → ((name : NameParts) → Spells word [] name → IsName name → ⊥)
@@ -25,10 +26,13 @@ none_own word none name (inl given) is =
     let said : name_said word [] ≡ bare = said_name word [] bare (inl (given.0, refl)) in
     is.realm (given.1 ∙ ap (λ (n : NameParts). n.realm) said)
 
-pub fault_read : (word : List ℕ) (offset : ℕ) → ((name : NameParts) → Spells word [] name → IsName name → ⊥) → offset ≡ fault_place word → whole_name_in word ≡ Err offset
-fault_read word offset none place = reading_of_refusal word (name_said word []).realm offset (inl (record { none = none_own word none }, place))
+pub fault_read : (word : List ℕ) (offset : ℕ) → ((name : NameParts) → Spells word [] name → IsName name → ⊥)
+    → offset ≡ fault_place word → whole_name_in word ≡ Err offset
+fault_read word offset none place =
+    reading_of_refusal word (name_said word []).realm offset (inl (record { none = none_own word none }, place))
 
 -- a refusal answers no name
-pub no_answer : (name : NameParts) (fault : NameFault) (offset : ℕ) → fault ≡ BadName offset → AnswersName name (Err fault) → ⊥
+pub no_answer : (name : NameParts) (fault : NameFault) (offset : ℕ) → fault ≡ BadName offset
+    → AnswersName name (Err fault) → ⊥
 unfolding AnswersName
 no_answer name fault offset is h = let P : NameFault → Type 0 = λ f. AnswersName name (Err f) in subst P is h

@@ -1,5 +1,6 @@
 -- What the words behind `ktremove` and `ktadd` ask for.
-use Rattle.std.specs.Prelude.{ℕ, ◌≢◌, ◌≤◌, nat_le, List, [], ◌∷◌, codes, length, Option, Some, None, option_map, Result, Ok, Err, if◌then◌else◌}
+use Rattle.std.specs.Prelude.{ℕ, ◌≢◌, ◌≤◌, nat_le, List, [], ◌∷◌, codes, length, Option}
+use Rattle.std.specs.Prelude.{Some, None, option_map, Result, Ok, Err, if◌then◌else◌}
 use Rattle.std.specs.Str.{bytes_eq}
 use Rattle.kadm_options.specs.OptionValues.{number_within}
 use Rattle.kadm_options.specs.Options.{is_dashes, is_signed}
@@ -24,7 +25,8 @@ longest_word = 65536
 -- The words behind two dashes, or all of them. None, where an option stands first: there are none.
 unfoldable pub plain_words : List (List ℕ) → Option (List (List ℕ))
 plain_words [] = Some []
-plain_words (word ∷ words) = if is_dashes word then Some words else (if is_signed word then None else Some (word ∷ words))
+plain_words (word ∷ words) =
+    if is_dashes word then Some words else (if is_signed word then None else Some (word ∷ words))
 
 -- ---- `ktremove NAME all`, `ktremove NAME old`, `ktremove NAME KVNO`
 
@@ -45,13 +47,15 @@ removal_of (Ok name) None = Err (BadValue Kvno)
 removal_of (Ok name) (Some which) = Ok (Remove name which)
 
 abbrev pub removal_by : List ℕ → List ℕ → Result KeytabWords Refusal
-removal_by word which = if nat_le (length word) longest_word then removal_of (whole_name_in word) (which_in which) else Err BadLine
+removal_by word which = if nat_le (length word) longest_word then removal_of (whole_name_in word) (which_in which)
+    else Err BadLine
 
 unfoldable pub ktremove_by : List (List ℕ) → Result KeytabWords Refusal
 ktremove_by (word ∷ which ∷ []) = removal_by word which
 ktremove_by _ = Err BadLine
 
-abbrev pub unless_optioned : (List (List ℕ) → Result KeytabWords Refusal) → Option (List (List ℕ)) → Result KeytabWords Refusal
+abbrev pub unless_optioned : (List (List ℕ) → Result KeytabWords Refusal) → Option (List (List ℕ))
+    → Result KeytabWords Refusal
 unless_optioned by None = Err BadLine
 unless_optioned by (Some words) = by words
 

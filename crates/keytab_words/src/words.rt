@@ -2,7 +2,9 @@
 
 ghost use Rattle.std.specs.Prelude.{◌≡◌, IfOk, IfSome, Some, option_map};
 ghost use Rattle.kadm_values.specs.EtypeWords.{etypes_in};
-ghost use Rattle.keytab_words.specs.Words.{AreTypes, AreValid, addition_by, addition_of, default_etypes, ktadd_in, ktremove_by, ktremove_in, listed_in, plain_words, removal_by, removal_of, renewal_by, renewal_in, renewal_of, standing_in, which_in};
+ghost use Rattle.keytab_words.specs.Words.{AreTypes, AreValid, addition_by, addition_of, default_etypes, ktadd_in};
+ghost use Rattle.keytab_words.specs.Words.{ktremove_by, ktremove_in, listed_in, plain_words, removal_by};
+ghost use Rattle.keytab_words.specs.Words.{removal_of, renewal_by, renewal_in, renewal_of, standing_in, which_in};
 
 use crate::names::read_whole_name;
 use kadm_options::{is_dashes, is_signed, read_within};

@@ -14,7 +14,8 @@ cut_is (Waits m) e = absurd cc
 cut_is Broken e = absurd cc
 cut_is Spent e = absurd cc
 
-pub heard_is : (d : Due) (a : Arrival) (before : List ℕ) (after : Option (List ℕ)) → ArrivesOf d a fresh before after → heard a ≡ arrived (led d fresh before)
+pub heard_is : (d : Due) (a : Arrival) (before : List ℕ) (after : Option (List ℕ)) → ArrivesOf d a fresh before after
+    → heard a ≡ arrived (led d fresh before)
 heard_is d (arrival.Came m) before after is = sym (ap arrived is.0)
 heard_is d arrival.Cut before after is = cut_is (led d fresh before) is
 heard_is d arrival.Bad before after is = sym (ap arrived is)

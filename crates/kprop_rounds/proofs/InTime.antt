@@ -1,5 +1,6 @@
 -- A round that was done: what it received makes an end.
-use Rattle.std.proofs.Common.{◌≡◌, ℕ, ◌+◌, Bool, true, false, List, ◌++◌, length, take, drop, Option, Some, None, Ok, Err, inl, inr, refl, sym, ap, subst, ◌∙◌, arith}
+use Rattle.std.proofs.Common.{◌≡◌, ℕ, ◌+◌, Bool, true, false, List, ◌++◌, length, take, drop, Option}
+use Rattle.std.proofs.Common.{Some, None, Ok, Err, inl, inr, refl, sym, ap, subst, ◌∙◌, arith}
 use Rattle.std.specs.Prelude.{◌⊎◌, Result, OnOk, if◌then◌else◌}
 use Rattle.std.proofs.lemmas.List.{drop-append-le, length-append, length-take, take-append-drop}
 use Rattle.dump_text.specs.Judged.{judged as dump_judged}
@@ -64,7 +65,8 @@ dump_not size place (Ok dump) e = absurd cc
 dump_not size place (Err line) e = absurd cc
 
 -- of a dump that is awaited
-dump_going : (size : ℕ) (place : Option Place) (s : State) → (end_by_dump size place (then_dump (arrived s))).word ≡ word.Cut → is_going s ≡ true
+dump_going : (size : ℕ) (place : Option Place) (s : State)
+    → (end_by_dump size place (then_dump (arrived s))).word ≡ word.Cut → is_going s ≡ true
 dump_going size place (Going b h) cut = refl
 dump_going size place (Waits (message.Hello name)) cut = absurd cc
 dump_going size place (Waits (message.Poll asked)) cut = absurd cc
@@ -81,18 +83,22 @@ record AwaitsDump (size : ℕ) (place : Option Place) (s : State) (rest : List �
   asks : word_of (judged size place (told_reply reply)) ≡ None
   going : is_going (led due.Dump fresh rest) ≡ true
 
-by_word : (size : ℕ) (place : Option Place) (r : Reply) (rest : List ℕ) (o : Option RoundWord) → word_of (judged size place (told_reply r)) ≡ o → (end_by_word size place r rest o).word ≡ word.Cut
+by_word : (size : ℕ) (place : Option Place) (r : Reply) (rest : List ℕ) (o : Option RoundWord)
+    → word_of (judged size place (told_reply r)) ≡ o → (end_by_word size place r rest o).word ≡ word.Cut
     → AwaitsDump size place (Waits (message.Reply r)) rest
 by_word size place r rest (Some w) is cut = absurd (judged_not (judged size place (told_reply r)) (is ∙ ap Some cut))
-by_word size place r rest None is cut = record { reply = r; waits = refl; asks = is; going = dump_going size place (led due.Dump fresh rest) cut }
+by_word size place r rest None is cut =
+    record { reply = r; waits = refl; asks = is; going = dump_going size place (led due.Dump fresh rest) cut }
 
-reply_going : (size : ℕ) (place : Option Place) (s : State) (rest : List ℕ) → (end_by_reply size place rest (then_reply (arrived s))).word ≡ word.Cut
+reply_going : (size : ℕ) (place : Option Place) (s : State) (rest : List ℕ)
+    → (end_by_reply size place rest (then_reply (arrived s))).word ≡ word.Cut
     → (is_going s ≡ true) ⊎ AwaitsDump size place s rest
 reply_going size place (Going b h) rest cut = inl refl
 reply_going size place (Waits (message.Hello name)) rest cut = absurd cc
 reply_going size place (Waits (message.Poll asked)) rest cut = absurd cc
 reply_going size place (Waits message.Ask) rest cut = absurd cc
-reply_going size place (Waits (message.Reply r)) rest cut = inr (by_word size place r rest (word_of (judged size place (told_reply r))) refl cut)
+reply_going size place (Waits (message.Reply r)) rest cut =
+    inr (by_word size place r rest (word_of (judged size place (told_reply r))) refl cut)
 reply_going size place (Waits (message.DumpText text)) rest cut = absurd cc
 reply_going size place Broken rest cut = absurd cc
 reply_going size place Spent rest cut = absurd cc
@@ -100,14 +106,16 @@ reply_going size place Spent rest cut = absurd cc
 -- ---- of a front of the bytes, and of all
 
 -- a message that came in a front of them came in all, and what came behind it in the front begins what did
-module _ (given came left : List ℕ) (m : Message) (parts : came ++ left ≡ given) (waits : led due.Reply fresh came ≡ Waits m) where
+module _ (given came left : List ℕ) (m : Message) (parts : came ++ left ≡ given)
+    (waits : led due.Reply fresh came ≡ Waits m) where
   came_fed : fed fresh came ≡ Waits m
   came_fed = was_due due.Reply (fed fresh came) m waits
 
   all_waits : led due.Reply fresh given ≡ Waits m
   all_waits =
       ap (λ (t : List ℕ). led due.Reply fresh t) (sym parts)
-      ∙ ap (narrowed due.Reply) (fed_parts fresh came left ∙ ap (λ (s : State). fed s left) came_fed ∙ no_more_fed m left ∙ sym came_fed)
+      ∙ ap (narrowed due.Reply)
+      (fed_parts fresh came left ∙ ap (λ (s : State). fed s left) came_fed ∙ no_more_fed m left ∙ sym came_fed)
       ∙ waits
 
   same_taken : taken fresh given ≡ taken fresh came
@@ -142,12 +150,14 @@ module _ (size : ℕ) (place : Option Place) (given : List ℕ) (gives : GivesNo
 
   count : 4294967296 + length left ≡ length given
   count =
-      let both : length came + length left ≡ length given = sym (length-append came left) ∙ ap (λ (t : List ℕ). length t) parts in
+      let both : length came + length left ≡ length given =
+      sym (length-append came left) ∙ ap (λ (t : List ℕ). length t) parts in
       let long = gives.long in
       let front = length-take 4294967296 given in
       omega (arith, both, long, front)
 
-  by_end : (is_going (led due.Reply fresh came) ≡ true) ⊎ AwaitsDump size place (led due.Reply fresh came) (drop (taken fresh came) came)
+  by_end : (is_going (led due.Reply fresh came) ≡ true)
+      ⊎ AwaitsDump size place (led due.Reply fresh came) (drop (taken fresh came) came)
       → IsUnended due.Reply given (length given) ⊎ GivesNoDump size place given
   by_end (inl going) = inl (record { came = came; left = left; parts = sym parts; count = count; going = going })
   by_end (inr awaits) = inr (record {
@@ -179,10 +189,12 @@ err_not x e r one other = differ x e (sym one ∙ other)
 ok_is : (a b : Reply) → ◌≡◌ {A = Result Reply RoundWord} (Ok a) (Ok b) → a ≡ b
 ok_is a b e = cc
 
-module _ (size : ℕ) (place : Option Place) (given : List ℕ) (after : Option (List ℕ)) (a : Arrival) (arrives : ArrivesOf due.Reply a fresh given after)
+module _ (size : ℕ) (place : Option Place) (given : List ℕ) (after : Option (List ℕ)) (a : Arrival)
+    (arrives : ArrivesOf due.Reply a fresh given after)
     (ended : IsUnended due.Reply given (length given) → ⊥) where
   heard_as : (r : Reply) → led due.Reply fresh given ≡ Waits (message.Reply r) → then_reply (heard a) ≡ Ok r
-  heard_as r waits = ap then_reply (heard_is due.Reply a given after arrives) ∙ ap (λ (s : State). then_reply (arrived s)) waits
+  heard_as r waits =
+      ap then_reply (heard_is due.Reply a given after arrives) ∙ ap (λ (s : State). then_reply (arrived s)) waits
 
   -- no reply was taken
   pub unanswered : (w : RoundWord) → then_reply (heard a) ≡ Err w → GivesNoEnd size place given → ⊥
@@ -193,7 +205,8 @@ module _ (size : ℕ) (place : Option Place) (given : List ℕ) (after : Option 
       by_no_end (inr no_dump) = err_not no_dump.reply w (then_reply (heard a)) (heard_as no_dump.reply no_dump.waits) is
 
   -- one was, and what came behind it makes an end
-  answered_not : (r : Reply) → then_reply (heard a) ≡ Ok r → (NoEndBehind size place r (drop (taken fresh given) given) (length given) → ⊥) → GivesNoEnd size place given → ⊥
+  answered_not : (r : Reply) → then_reply (heard a) ≡ Ok r
+      → (NoEndBehind size place r (drop (taken fresh given) given) (length given) → ⊥) → GivesNoEnd size place given → ⊥
   answered_not r is behind gives = by_no_end (no_end_of size place given gives)
     where
       by_no_end : IsUnended due.Reply given (length given) ⊎ GivesNoDump size place given → ⊥
@@ -202,19 +215,24 @@ module _ (size : ℕ) (place : Option Place) (given : List ℕ) (after : Option 
           behind (subst (λ (x : Reply). NoEndBehind size place x (drop (taken fresh given) given) (length given))
           (ok_is no_dump.reply r (sym (heard_as no_dump.reply no_dump.waits) ∙ is)) no_dump.behind)
 
-  pub answered : (result : Result RoundWord RoundHalt) (r : Reply) → then_reply (heard a) ≡ Ok r → after ≡ Some (drop (taken fresh given) given)
-      → ((rest : List ℕ) (n : ℕ) → after ≡ Some rest → Some (length given) ≡ Some n → OnOk result (NoEndBehind size place r rest n → ⊥)) → OnOk result (GivesNoEnd size place given → ⊥)
-  answered result r is left_is behind = on_ok result (answered_not r is) (behind (drop (taken fresh given) given) (length given) left_is refl)
+  pub answered : (result : Result RoundWord RoundHalt) (r : Reply) → then_reply (heard a) ≡ Ok r
+      → after ≡ Some (drop (taken fresh given) given)
+      → ((rest : List ℕ) (n : ℕ) → after ≡ Some rest → Some (length given) ≡ Some n
+      → OnOk result (NoEndBehind size place r rest n → ⊥)) → OnOk result (GivesNoEnd size place given → ⊥)
+  answered result r is left_is behind =
+      on_ok result (answered_not r is) (behind (drop (taken fresh given) given) (length given) left_is refl)
 
 -- what is left behind a reply that came
-pub left_behind : (given : List ℕ) (after : Option (List ℕ)) (a : Arrival) (r : Reply) → ArrivesOf due.Reply a fresh given after → then_reply (heard a) ≡ Ok r
+pub left_behind : (given : List ℕ) (after : Option (List ℕ)) (a : Arrival) (r : Reply)
+    → ArrivesOf due.Reply a fresh given after → then_reply (heard a) ≡ Ok r
     → after ≡ Some (drop (taken fresh given) given)
 left_behind given after (arrival.Came m) r arrives is = arrives.1
 left_behind given after arrival.Cut r arrives is = absurd cc
 left_behind given after arrival.Bad r arrives is = absurd cc
 
 -- a dump was not asked for
-pub not_asked : (size : ℕ) (place : Option Place) (r : Reply) (rest : List ℕ) (n : ℕ) (w : RoundWord) (o : Option RoundWord) → Some w ≡ o → word_of (judged size place (told_reply r)) ≡ o
+pub not_asked : (size : ℕ) (place : Option Place) (r : Reply) (rest : List ℕ) (n : ℕ) (w : RoundWord)
+    (o : Option RoundWord) → Some w ≡ o → word_of (judged size place (told_reply r)) ≡ o
     → NoEndBehind size place r rest n → ⊥
 not_asked size place r rest n w o some is behind = differ (some ∙ sym is ∙ behind.asks)
   where

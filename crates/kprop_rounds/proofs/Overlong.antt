@@ -1,7 +1,9 @@
 -- A round that received too much: what it received makes no end.
-use Rattle.std.proofs.Common.{◌≡◌, ℕ, suc, ◌+◌, ◌≤◌, Bool, true, false, List, [], ◌∷◌, ◌++◌, length, take, drop, Option, Some, None, Ok, Err, refl, sym, ap, ◌∙◌, append_assoc, arith}
+use Rattle.std.proofs.Common.{◌≡◌, ℕ, suc, ◌+◌, ◌≤◌, Bool, true, false, List, [], ◌∷◌, ◌++◌, length, take}
+use Rattle.std.proofs.Common.{drop, Option, Some, None, Ok, Err, refl, sym, ap, ◌∙◌, append_assoc, arith}
 use Rattle.std.specs.Prelude.{Result, if◌then◌else◌}
-use Rattle.std.proofs.lemmas.List.{drop-append-le, drop_all, length-append, length-take, take-append-drop, take-append-le, take_all}
+use Rattle.std.proofs.lemmas.List.{drop-append-le, drop_all, length-append, length-take}
+use Rattle.std.proofs.lemmas.List.{take-append-drop, take-append-le, take_all}
 use Rattle.iprop_links.specs.Arriving.{ArrivesOf, IsUnended, led}
 use Rattle.iprop_links.specs.declared.halts.LinkHalt.{LinkHalt}
 use Rattle.iprop_links.specs.declared.halts.LinkHalt.TheVariants as link
@@ -17,7 +19,8 @@ use Rattle.iprop_wire.proofs.Reading.{fed_parts, taken_parts}
 use Rattle.kdb_places.specs.Places.{Place}
 use Rattle.kprop_rounds.proofs.Heard.{cut_is}
 use Rattle.kprop_rounds.specs.Hearing.{arrived, heard, then_dump, then_reply}
-use Rattle.kprop_rounds.specs.Rounds.{GivesNoEnd, NoEndBehind, end_by_dump, end_by_reply, end_by_word, end_of_asking, end_of_reply, round_end}
+use Rattle.kprop_rounds.specs.Rounds.{GivesNoEnd, NoEndBehind, end_by_dump, end_by_reply}
+use Rattle.kprop_rounds.specs.Rounds.{end_by_word, end_of_asking, end_of_reply, round_end}
 use Rattle.kprop_rounds.specs.Words.{link_as_round, word_of}
 use Rattle.kprop_rounds.specs.declared.words.RoundHalt.{RoundHalt}
 use Rattle.kprop_rounds.specs.declared.words.RoundHalt.TheVariants as round
@@ -86,35 +89,48 @@ was_due d s m is = by (is_due d s) is
 
 -- ---- the bytes that came
 
-front_of : (came left bytes : List ℕ) → bytes ≡ came ++ left → 4294967296 + length left ≡ length bytes → (take 4294967296 bytes ≡ came) × (4294967296 ≤ length bytes)
+front_of : (came left bytes : List ℕ) → bytes ≡ came ++ left → 4294967296 + length left ≡ length bytes
+    → (take 4294967296 bytes ≡ came) × (4294967296 ≤ length bytes)
 front_of came left bytes parts count =
-    let long : length bytes ≡ length came + length left = ap (λ (t : List ℕ). length t) parts ∙ length-append came left in (
-      ap (λ (t : List ℕ). take 4294967296 t) parts ∙ take-append-le 4294967296 came left (omega (arith, long, count)) ∙ take_all 4294967296 came (omega (arith, long, count)),
+    let long : length bytes ≡ length came + length left =
+    ap (λ (t : List ℕ). length t) parts ∙ length-append came left in (
+      ap (λ (t : List ℕ). take 4294967296 t) parts ∙ take-append-le 4294967296 came left (omega (arith, long, count))
+          ∙ take_all 4294967296 came (omega (arith, long, count)),
       omega (arith, count),
     )
 
-no_end : (size : ℕ) (place : Option Place) (came left bytes : List ℕ) → bytes ≡ came ++ left → 4294967296 + length left ≡ length bytes → (round_end size place came).word ≡ word.Cut
+no_end : (size : ℕ) (place : Option Place) (came left bytes : List ℕ) → bytes ≡ came ++ left
+    → 4294967296 + length left ≡ length bytes → (round_end size place came).word ≡ word.Cut
     → GivesNoEnd size place bytes
 no_end size place came left bytes parts count cut =
     let front = front_of came left bytes parts count in
     record { long = front.1; cut = ap (λ (t : List ℕ). (round_end size place t).word) front.0 ∙ cut }
 
 -- no reply came
-pub no_reply : (size : ℕ) (place : Option Place) (given : List ℕ) → IsUnended due.Reply given (length given) → GivesNoEnd size place given
+pub no_reply : (size : ℕ) (place : Option Place) (given : List ℕ) → IsUnended due.Reply given (length given)
+    → GivesNoEnd size place given
 no_reply size place given is =
     no_end size place is.came is.left given is.parts is.count
-    (ap (λ (r : Result Message RoundWord). (end_by_reply size place (drop (taken fresh is.came) is.came) (then_reply r)).word) (sym (cut_is (led due.Reply fresh is.came) is.going)))
+    (ap (λ (r : Result Message RoundWord).
+    (end_by_reply size place (drop (taken fresh is.came) is.came) (then_reply r)).word)
+    (sym (cut_is (led due.Reply fresh is.came) is.going)))
 
 -- of a dump that a reply asked for
-word_of_asking : (size : ℕ) (place : Option Place) (rest : List ℕ) → is_going (led due.Dump fresh rest) ≡ true → (end_of_asking size place rest).word ≡ word.Cut
-word_of_asking size place rest going = ap (λ (r : Result Message RoundWord). (end_by_dump size place (then_dump r)).word) (sym (cut_is (led due.Dump fresh rest) going))
+word_of_asking : (size : ℕ) (place : Option Place) (rest : List ℕ) → is_going (led due.Dump fresh rest) ≡ true
+    → (end_of_asking size place rest).word ≡ word.Cut
+word_of_asking size place rest going =
+    ap (λ (r : Result Message RoundWord). (end_by_dump size place (then_dump r)).word)
+    (sym (cut_is (led due.Dump fresh rest) going))
 
-word_of_reply : (size : ℕ) (place : Option Place) (r : Reply) (rest : List ℕ) → word_of (judged size place (told_reply r)) ≡ None → is_going (led due.Dump fresh rest) ≡ true
+word_of_reply : (size : ℕ) (place : Option Place) (r : Reply) (rest : List ℕ)
+    → word_of (judged size place (told_reply r)) ≡ None → is_going (led due.Dump fresh rest) ≡ true
     → (end_of_reply size place rest r).word ≡ word.Cut
-word_of_reply size place r rest asks going = ap (λ (o : Option RoundWord). (end_by_word size place r rest o).word) asks ∙ word_of_asking size place rest going
+word_of_reply size place r rest asks going =
+    ap (λ (o : Option RoundWord). (end_by_word size place r rest o).word) asks ∙ word_of_asking size place rest going
 
 -- a message that came, and these bytes behind it
-module _ (given came left : List ℕ) (m : Message) (is : fed fresh given ≡ Waits m) (parts : drop (taken fresh given) given ≡ came ++ left) where
+module _ (given came left : List ℕ) (m : Message) (is : fed fresh given ≡ Waits m)
+    (parts : drop (taken fresh given) given ≡ came ++ left) where
   abbrev text : List ℕ
   text = take (taken fresh given) given
 
@@ -144,23 +160,30 @@ module _ (given came left : List ℕ) (m : Message) (is : fed fresh given ≡ Wa
       ∙ ap (λ (t : List ℕ). t ++ came) (drop_all (taken fresh given) text (omega (arith, text_long)))
 
   front_parts : given ≡ (text ++ came) ++ left
-  front_parts = sym (take-append-drop (taken fresh given) given) ∙ ap (λ (t : List ℕ). text ++ t) parts ∙ sym (append_assoc text came left)
+  front_parts = sym (take-append-drop (taken fresh given) given) ∙ ap (λ (t : List ℕ). text ++ t) parts
+      ∙ sym (append_assoc text came left)
 
-no_dump_in : (size : ℕ) (place : Option Place) (given : List ℕ) (r : Reply) (m : Message) → led due.Reply fresh given ≡ Waits m → then_reply (Ok m) ≡ Ok r
+no_dump_in : (size : ℕ) (place : Option Place) (given : List ℕ) (r : Reply) (m : Message)
+    → led due.Reply fresh given ≡ Waits m → then_reply (Ok m) ≡ Ok r
     → NoEndBehind size place r (drop (taken fresh given) given) (length given) → GivesNoEnd size place given
 no_dump_in size place given r m came is behind =
     let u = behind.unended in
     let fed_is = was_due due.Reply (fed fresh given) m came in
     let due_is : led due.Reply fresh (text given u.came u.left m fed_is u.parts ++ u.came) ≡ Waits m =
     ap (narrowed due.Reply) (front_fed given u.came u.left m fed_is u.parts ∙ sym fed_is) ∙ came in
-    no_end size place (text given u.came u.left m fed_is u.parts ++ u.came) u.left given (front_parts given u.came u.left m fed_is u.parts) u.count
-    (ap (λ (rest : List ℕ). (end_by_reply size place rest (then_reply (arrived (led due.Reply fresh (text given u.came u.left m fed_is u.parts ++ u.came))))).word)
+    no_end size place (text given u.came u.left m fed_is u.parts ++ u.came) u.left given
+    (front_parts given u.came u.left m fed_is u.parts) u.count
+    (ap (λ (rest : List ℕ). (end_by_reply size place rest
+    (then_reply (arrived (led due.Reply fresh (text given u.came u.left m fed_is u.parts ++ u.came))))).word)
     (front_left given u.came u.left m fed_is u.parts)
-    ∙ ap (λ (x : Result Reply RoundWord). (end_by_reply size place u.came x).word) (ap (λ (s : State). then_reply (arrived s)) due_is ∙ is)
+    ∙ ap (λ (x : Result Reply RoundWord). (end_by_reply size place u.came x).word)
+    (ap (λ (s : State). then_reply (arrived s)) due_is ∙ is)
     ∙ word_of_reply size place r u.came behind.asks u.going)
 
-pub no_dump : (size : ℕ) (place : Option Place) (given : List ℕ) (after : Option (List ℕ)) (a : Arrival) (r : Reply) → ArrivesOf due.Reply a fresh given after → then_reply (heard a) ≡ Ok r
-    → ((rest : List ℕ) (n : ℕ) → after ≡ Some rest → Some (length given) ≡ Some n → NoEndBehind size place r rest n) → GivesNoEnd size place given
+pub no_dump : (size : ℕ) (place : Option Place) (given : List ℕ) (after : Option (List ℕ)) (a : Arrival) (r : Reply)
+    → ArrivesOf due.Reply a fresh given after → then_reply (heard a) ≡ Ok r
+    → ((rest : List ℕ) (n : ℕ) → after ≡ Some rest → Some (length given) ≡ Some n → NoEndBehind size place r rest n)
+    → GivesNoEnd size place given
 no_dump size place given after (arrival.Came m) r came is behind =
     no_dump_in size place given r m came.0 is (behind (drop (taken fresh given) given) (length given) came.1 refl)
 no_dump size place given after arrival.Cut r came is behind = absurd cc

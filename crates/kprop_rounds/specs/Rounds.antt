@@ -1,5 +1,6 @@
 -- What a round comes to, by what its connection gives.
-use Rattle.std.specs.Prelude.{ℕ, ◌≡◌, ◌≤◌, ◌⊎◌, Bool, true, false, List, [], ◌∷◌, ◌++◌, drop, length, take, Option, Some, None, Result, Ok, Err, IfOk, OnErr, OnOk}
+use Rattle.std.specs.Prelude.{ℕ, ◌≡◌, ◌≤◌, ◌⊎◌, Bool, true, false, List, [], ◌∷◌, ◌++◌, drop}
+use Rattle.std.specs.Prelude.{length, take, Option, Some, None, Result, Ok, Err, IfOk, OnErr, OnOk}
 use Rattle.dump_text.specs.Judged.{judged as dump_judged}
 use Rattle.dump_text.specs.declared.dumps.Dump.{Dump}
 use Rattle.dump_text.specs.declared.stops.DumpStop.{DumpStop}
@@ -38,7 +39,8 @@ abbrev pub ended : Bool → RoundWord → RoundEnd
 ended asks w = record { word = w; asks = asks; made = [] }
 
 abbrev pub end_of_dump : ℕ → Option Place → Result Dump ℕ → RoundEnd
-end_of_dump size place (Ok dump) = record { word = word.Loaded; asks = true; made = task_makes size place (Install (told_dump dump)) }
+end_of_dump size place (Ok dump) =
+    record { word = word.Loaded; asks = true; made = task_makes size place (Install (told_dump dump)) }
 end_of_dump size place (Err line) = ended true (word.DumpBad line)
 
 abbrev pub end_by_dump : ℕ → Option Place → Result (List ℕ) RoundWord → RoundEnd
@@ -50,7 +52,8 @@ abbrev pub end_of_asking : ℕ → Option Place → List ℕ → RoundEnd
 end_of_asking size place rest = end_by_dump size place (then_dump (arrived (led due.Dump fresh rest)))
 
 abbrev pub end_by_word : ℕ → Option Place → Reply → List ℕ → Option RoundWord → RoundEnd
-end_by_word size place r rest (Some w) = record { word = w; asks = false; made = task_makes size place (Take (told_reply r)) }
+end_by_word size place r rest (Some w) =
+    record { word = w; asks = false; made = task_makes size place (Take (told_reply r)) }
 end_by_word size place r rest None = end_of_asking size place rest
 
 -- behind a reply, where these bytes are still to come
@@ -63,7 +66,8 @@ end_by_reply size place rest (Err w) = ended false w
 
 -- the end of a round of a replica whose connection gives these bytes
 abbrev pub round_end : ℕ → Option Place → List ℕ → RoundEnd
-round_end size place given = end_by_reply size place (drop (taken fresh given) given) (then_reply (arrived (led due.Reply fresh given)))
+round_end size place given =
+    end_by_reply size place (drop (taken fresh given) given) (then_reply (arrived (led due.Reply fresh given)))
 
 -- ---- where too much comes
 
@@ -104,7 +108,8 @@ pub record EndsAs (result : Result RoundWord RoundHalt) (end : RoundEnd) (old ne
   pub part : OnErr result (MayBePart old end.made new)
 
 -- A round of a replica by this name, over a link that told these connections before: with this end, to this place.
-pub record IsRoundOf (result : Result RoundWord RoundHalt) (name : List ℕ) (end : RoundEnd) (before : Wire) (old new : Option Place) (after : Option Wire) : Type 0 where
+pub record IsRoundOf (result : Result RoundWord RoundHalt) (name : List ℕ) (end : RoundEnd) (before : Wire)
+    (old new : Option Place) (after : Option Wire) : Type 0 where
   pub ends : EndsAs result end old new
   -- what was sent on the new connection is the text of the end, or a front of it where the round was stopped
   pub said : OnOk result (sent_in after ≡ Some (round_text name old end ∷ before.sent))
@@ -113,7 +118,8 @@ pub record IsRoundOf (result : Result RoundWord RoundHalt) (name : List ℕ) (en
 
 -- the end is the one of the bytes that the next connection gives
 abbrev pub IsRound : Result RoundWord RoundHalt → List ℕ → ℕ → Wire → Option Place → Option Place → Option Wire → Type 0
-IsRound result name size before old new after = IsRoundOf result name (round_end size old (first_of before.to_come)) before old new after
+IsRound result name size before old new after =
+    IsRoundOf result name (round_end size old (first_of before.to_come)) before old new after
 
 -- the files stand for what there was, or for a place that a reply or a dump makes
 pub record LeavesSome (size : ℕ) (place : Option Place) (files : Files) : Type 0 where

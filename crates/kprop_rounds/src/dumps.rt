@@ -36,8 +36,10 @@ pub fn install<D: Disk>(
 ) -> Result<RoundWord, RoundHalt>
     requires on { D.tells → IsHeldOn replica.old.database (D.view disk.old) }
     requires whole { is_broken replica.old.database replica.old.failed ≡ false }
-    ensures ends { EndsAs result (end_of_dump replica.old.size (place_of replica.old) (dump_judged text.now)) (place_of replica.old) (place_of replica.new) }
-    ensures crash { IsCrashSafe D.Disk disk.old disk.new (LeavesMade (place_of replica.old) (end_of_dump replica.old.size (place_of replica.old) (dump_judged text.now)).made) }
+    ensures ends { EndsAs result (end_of_dump replica.old.size (place_of replica.old) (dump_judged text.now))
+        (place_of replica.old) (place_of replica.new) }
+    ensures crash { IsCrashSafe D.Disk disk.old disk.new (LeavesMade (place_of replica.old)
+        (end_of_dump replica.old.size (place_of replica.old) (dump_judged text.now)).made) }
     ensures some { IsCrashSafe D.Disk disk.old disk.new (LeavesSome replica.old.size (place_of replica.old)) }
     ensures on { D.tells → OnOk result (IsHeldOn replica.new.database (D.view disk.new)) }
     ensures whole { OnOk result (is_broken replica.new.database replica.new.failed ≡ false) }

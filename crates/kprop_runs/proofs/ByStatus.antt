@@ -89,7 +89,8 @@ no_read (Err run.InputTooLong) e = absurd cc
 -- ---- all of it
 
 module _ (s : Status) (r : Result Bool RunHalt) (is : s ≡ status_after r) where
-  pub run_by : (o : Opening) (found : Result Place Refusal) (w : Wire) (taken : Option (List ℕ)) (old now : View) (told : Option Wire) (out : Option (List ℕ))
+  pub run_by : (o : Opening) (found : Result Place Refusal) (w : Wire) (taken : Option (List ℕ)) (old now : View)
+      (told : Option Wire) (out : Option (List ℕ))
       → HasRun o found w taken old now told out r → IsRun o found w taken old now told out s
   run_by o found w taken old now told out has =
       subst (λ (x : Status). IsRun o found w taken old now told out x) (sym is) (record {
@@ -101,20 +102,24 @@ module _ (s : Status) (r : Result Bool RunHalt) (is : s ≡ status_after r) wher
   pub ends_by : (P : Type 0) → OnOk r P → OnEnd s (λ refused. P)
   ends_by P p = subst (λ (x : Status). OnEnd x (λ refused. P)) (sym is) (on_done r P p)
 
-  pub refusal_by : (text : List ℕ) (taken out : Option (List ℕ)) → HasRefusal text taken out r → IsRefusal text taken out s
+  pub refusal_by : (text : List ℕ) (taken out : Option (List ℕ)) → HasRefusal text taken out r
+      → IsRefusal text taken out s
   refusal_by text taken out has =
       subst (λ (x : Status). IsRefusal text taken out x) (sym is) (record {
         ended = on_end r (λ refused. (refused ≡ true) × (out ≡ after_told taken text)) has.ended;
         stopped = on_stop r (SaidPart text taken out) has.stopped;
       })
 
-  pub call_by : {D : Type 0} (g : Ghosts D) (old new : D) → IsCall g old new (r ≡ Err run.DiskFault) → IsCall g old new (s ≡ status.DiskFault)
-  call_by g old new call = record { same = call.same; later = call.later; cause = λ e. call.cause (for_disk r (sym is ∙ e)) }
+  pub call_by : {D : Type 0} (g : Ghosts D) (old new : D) → IsCall g old new (r ≡ Err run.DiskFault)
+      → IsCall g old new (s ≡ status.DiskFault)
+  call_by g old new call =
+      record { same = call.same; later = call.later; cause = λ e. call.cause (for_disk r (sym is ∙ e)) }
 
   pub links_by : (before now : ℕ) → Counts before now (r ≡ Err run.LinkFault) → Counts before now (s ≡ status.LinkFault)
   links_by before now counts = record { later = counts.later; cause = λ e. counts.cause (for_link r (sym is ∙ e)) }
 
-  pub writes_by : (before now : ℕ) → Counts before now (r ≡ Err run.WriteFault) → Counts before now (s ≡ status.WriteFault)
+  pub writes_by : (before now : ℕ) → Counts before now (r ≡ Err run.WriteFault)
+      → Counts before now (s ≡ status.WriteFault)
   writes_by before now counts = record { later = counts.later; cause = λ e. counts.cause (for_write r (sym is ∙ e)) }
 
   pub never_read : s ≢ status.ReadFault

@@ -1,5 +1,6 @@
 -- A round that received too much, among those of a run.
-use Rattle.std.proofs.Common.{◌≡◌, ◌≤◌, ℕ, zero, suc, Bool, true, false, List, [], ◌∷◌, length, Option, Some, None, Ok, Err, refl, sym, ap, subst, ◌∙◌, arith}
+use Rattle.std.proofs.Common.{◌≡◌, ◌≤◌, ℕ, zero, suc, Bool, true, false, List, [], ◌∷◌, length}
+use Rattle.std.proofs.Common.{Option, Some, None, Ok, Err, refl, sym, ap, subst, ◌∙◌, arith}
 use Rattle.std.specs.Prelude.{Result, IfErr}
 use Rattle.iprop_links.specs.Asking.{later_in}
 use Rattle.kdb_base.specs.declared.outcomes.Status.{Status}
@@ -21,9 +22,11 @@ first_long (text ∷ more) long = record { text = text; among = (0, omega arith,
 
 behind_long : (to_come : List (List ℕ)) → GivesTooMuch (behind_first to_come) → GivesTooMuch to_come
 behind_long [] one = one
-behind_long (text ∷ more) one = record { text = one.text; among = (suc one.among.0, omega (arith, one.among.1), one.among.2); long = one.long }
+behind_long (text ∷ more) one =
+    record { text = one.text; among = (suc one.among.0, omega (arith, one.among.1), one.among.2); long = one.long }
 
-rounds_long : (name : List ℕ) (size n : ℕ) (s : Stage) → GivesTooMuch (after_rounds name size n s).to_come → GivesTooMuch s.to_come
+rounds_long : (name : List ℕ) (size n : ℕ) (s : Stage) → GivesTooMuch (after_rounds name size n s).to_come
+    → GivesTooMuch s.to_come
 unfolding after_rounds
 rounds_long name size zero s one = one
 rounds_long name size (suc n) s one = rounds_long name size n s (behind_long (after_rounds name size n s).to_come one)
@@ -32,11 +35,13 @@ some_is : {A : Type 0} (a b : A) → Some a ≡ Some b → a ≡ b
 some_is a b e = cc
 
 -- behind so many rounds
-pub long_behind : (name : List ℕ) (size n : ℕ) (s : Stage) (told : Option Wire) (w : Wire) → told ≡ Some w → later_in told ≡ Some (after_rounds name size n s).to_come
+pub long_behind : (name : List ℕ) (size n : ℕ) (s : Stage) (told : Option Wire) (w : Wire) → told ≡ Some w
+    → later_in told ≡ Some (after_rounds name size n s).to_come
     → 4294967296 ≤ length (first_of w.to_come) → GivesTooMuch s.to_come
 long_behind name size n s told w is later_is long =
     rounds_long name size n s
-    (subst GivesTooMuch (some_is w.to_come (after_rounds name size n s).to_come (sym (ap later_in is) ∙ later_is)) (first_long w.to_come long))
+    (subst GivesTooMuch (some_is w.to_come (after_rounds name size n s).to_come (sym (ap later_in is) ∙ later_is))
+    (first_long w.to_come long))
 
 -- ---- which result it comes from
 

@@ -42,10 +42,13 @@ no_link (Err run.DiskFault) says e = says
 no_link (Err run.LinkFault) says e = says
 no_link (Err run.InputTooLong) says e = says
 
-pub call_said : {D P : Type 0} (g : Ghosts D) (old new : D) (r : Result Bool RunHalt) → IsCall g old new P → IfErr r IsSayHalt → IsCall g old new (r ≡ Err run.DiskFault)
-call_said g old new r call says = record { same = call.same; later = call.later; cause = λ e. absurd (no_disk r says e) }
+pub call_said : {D P : Type 0} (g : Ghosts D) (old new : D) (r : Result Bool RunHalt) → IsCall g old new P
+    → IfErr r IsSayHalt → IsCall g old new (r ≡ Err run.DiskFault)
+call_said g old new r call says =
+    record { same = call.same; later = call.later; cause = λ e. absurd (no_disk r says e) }
 
-pub links_said : {P : Type 0} (before now : ℕ) (r : Result Bool RunHalt) → Counts before now P → IfErr r IsSayHalt → Counts before now (r ≡ Err run.LinkFault)
+pub links_said : {P : Type 0} (before now : ℕ) (r : Result Bool RunHalt) → Counts before now P → IfErr r IsSayHalt
+    → Counts before now (r ≡ Err run.LinkFault)
 links_said before now r counts says = record { later = counts.later; cause = λ e. absurd (no_link r says e) }
 
 -- ---- where a round was stopped
@@ -71,7 +74,8 @@ no_write round.DiskFault e = absurd cc
 no_write round.LinkFault e = absurd cc
 no_write round.InputTooLong e = absurd cc
 
-module _ {A : Type 0} (r : Result A RoundHalt) (halt : RoundHalt) (is : r ≡ Err halt) (made : RunHalt) (made_is : made ≡ round_as_run halt) where
+module _ {A : Type 0} (r : Result A RoundHalt) (halt : RoundHalt) (is : r ≡ Err halt) (made : RunHalt)
+    (made_is : made ≡ round_as_run halt) where
   pub call_halted : {B D : Type 0} (g : Ghosts D) (old new : D) → IsCall g old new (r ≡ Err round.DiskFault)
       → IsCall g old new (◌≡◌ {A = Result B RunHalt} (Err made) (Err run.DiskFault))
   call_halted g old new call = record {

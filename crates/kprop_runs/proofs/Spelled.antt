@@ -5,7 +5,8 @@ use Rattle.kadm_options.proofs.OptionValueLemmas.{number_spelled, spelled_number
 use Rattle.kadm_options.specs.OptionValues.{number_within}
 use Rattle.keytab_words.proofs.WholeNames.{name_read}
 use Rattle.keytab_words.specs.Words.{whole_name_in}
-use Rattle.kprop_runs.specs.Words.{AskFor, asked_by, asked_in, asks, client_in, least_size, most_rounds, most_size, named_by}
+use Rattle.kprop_runs.specs.Words.{AskFor, asked_by, asked_in, asks, client_in}
+use Rattle.kprop_runs.specs.Words.{least_size, most_rounds, most_size, named_by}
 use Rattle.kprop_runs.specs.declared.words.Asked.{Asked}
 use Rattle.princ_name.proofs.OwnNames.{name_of_reading, said_name}
 use Rattle.princ_name.specs.Names.{IsName, NameParts, printed}
@@ -25,14 +26,17 @@ record Names (word text : List ℕ) : Type 0 where
   text_is : text ≡ printed client
 
 -- a word that names no realm says none, and each name has one
-names : (word text : List ℕ) (client : NameParts) → Spells word (name_said word []).realm client → IsName client → text ≡ printed client → Names word text
-names word text client (inr spelled) is text_is = record { client = client; spelled = spelled; is_name = is; text_is = text_is }
+names : (word text : List ℕ) (client : NameParts) → Spells word (name_said word []).realm client → IsName client
+    → text ≡ printed client → Names word text
+names word text client (inr spelled) is text_is =
+    record { client = client; spelled = spelled; is_name = is; text_is = text_is }
 names word text client (inl given) is text_is =
     let bare : NameParts = record { parts = client.parts; realm = [] } in
     let said : name_said word [] ≡ bare = said_name word [] bare (inl (given.0, refl)) in
     absurd (is.realm (given.1 ∙ ap (λ (n : NameParts). n.realm) said))
 
-named : (word text : List ℕ) (r : Result NameParts ℕ) → whole_name_in word ≡ r → option_map printed (named_by r) ≡ Some text → Names word text
+named : (word text : List ℕ) (r : Result NameParts ℕ) → whole_name_in word ≡ r
+    → option_map printed (named_by r) ≡ Some text → Names word text
 named word text (Err place) is e = absurd cc
 named word text (Ok client) is e =
     let spelled = name_of_reading word (name_said word []).realm client is in
@@ -40,8 +44,10 @@ named word text (Ok client) is e =
 
 -- ---- the words
 
-asked_spelled : (name rounds size : List ℕ) (r s : Option ℕ) (c : Option (List ℕ)) (a : Asked) → number_within 0 most_rounds rounds ≡ r
-    → number_within least_size most_size size ≡ s → client_in name ≡ c → asked_by r s c ≡ Some a → AskFor (name ∷ rounds ∷ size ∷ []) a
+asked_spelled : (name rounds size : List ℕ) (r s : Option ℕ) (c : Option (List ℕ)) (a : Asked)
+    → number_within 0 most_rounds rounds ≡ r
+    → number_within least_size most_size size ≡ s → client_in name ≡ c → asked_by r s c ≡ Some a
+    → AskFor (name ∷ rounds ∷ size ∷ []) a
 asked_spelled name rounds size None s c a ri si ci e = absurd cc
 asked_spelled name rounds size (Some r) None c a ri si ci e = absurd cc
 asked_spelled name rounds size (Some r) (Some s) None a ri si ci e = absurd cc
@@ -67,14 +73,18 @@ spelled [] a e = absurd cc
 spelled (name ∷ []) a e = absurd cc
 spelled (name ∷ rounds ∷ []) a e = absurd cc
 spelled (name ∷ rounds ∷ size ∷ []) a e =
-    asked_spelled name rounds size (number_within 0 most_rounds rounds) (number_within least_size most_size size) (client_in name) a refl refl refl e
+    asked_spelled name rounds size (number_within 0 most_rounds rounds) (number_within least_size most_size size)
+    (client_in name) a refl refl refl e
 spelled (name ∷ rounds ∷ size ∷ more ∷ words) a e = absurd cc
 
 pub read : (words : List (List ℕ)) (a : Asked) → AskFor words a → asked_in words ≡ Some a
 unfolding asked_in
 read words a f =
     ap asked_in f.words_are
-    ∙ ap (λ (r : Option ℕ). asked_by r (number_within least_size most_size f.size) (client_in f.name)) (spelled_number 0 most_rounds f.rounds a.rounds f.rounds_are)
-    ∙ ap (λ (s : Option ℕ). asked_by (Some a.rounds) s (client_in f.name)) (spelled_number least_size most_size f.size a.size f.size_is)
-    ∙ ap (λ (r : Result NameParts ℕ). asked_by (Some a.rounds) (Some a.size) (option_map printed (named_by r))) (name_read f.name f.client (inr f.spelled) f.is_name)
+    ∙ ap (λ (r : Option ℕ). asked_by r (number_within least_size most_size f.size) (client_in f.name))
+    (spelled_number 0 most_rounds f.rounds a.rounds f.rounds_are)
+    ∙ ap (λ (s : Option ℕ). asked_by (Some a.rounds) s (client_in f.name))
+    (spelled_number least_size most_size f.size a.size f.size_is)
+    ∙ ap (λ (r : Result NameParts ℕ). asked_by (Some a.rounds) (Some a.size) (option_map printed (named_by r)))
+    (name_read f.name f.client (inr f.spelled) f.is_name)
     ∙ ap (λ (n : List ℕ). Some (asks a.rounds a.size n)) (sym f.name_is)

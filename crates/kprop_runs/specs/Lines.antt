@@ -35,7 +35,8 @@ is_refused word.BadFrame = true
 
 -- a round's number, its word, and the replica's point after it
 unfoldable pub round_told : ℕ → RoundWord → Point → List ℕ
-round_told number w point = codes "round " ++ (decimal number ++ (codes " " ++ (word_text w ++ (codes " " ++ point_text point))))
+round_told number w point =
+    codes "round " ++ (decimal number ++ (codes " " ++ (word_text w ++ (codes " " ++ point_text point))))
 
 abbrev pub round_line : ℕ → RoundWord → Point → List ℕ
 round_line number w point = data_line (round_told number w point)

@@ -32,7 +32,8 @@ RunStopsLong (Opens a place) w taken sent = StopsLongIn a.name a.size a.rounds (
 
 -- what each of so many rounds received of its connection makes an end
 abbrev pub AllEnd : List ℕ → ℕ → ℕ → Stage → Type 0
-AllEnd name size count s = (done : ℕ) → done < count → GivesNoEnd size (after_rounds name size done s).place (first_of (after_rounds name size done s).to_come) → ⊥
+AllEnd name size count s = (done : ℕ) → done < count
+    → GivesNoEnd size (after_rounds name size done s).place (first_of (after_rounds name size done s).to_come) → ⊥
 
 -- of a run from its opening on
 abbrev pub RunRoundsEnd : Opening → Wire → Option (List ℕ) → Type 0

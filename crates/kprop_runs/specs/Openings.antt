@@ -9,12 +9,14 @@ use Rattle.kprop_runs.specs.declared.words.Asked.{Asked}
 use Rattle.replica_steps.specs.Replicas.{place_after, reopened}
 use Rattle.store_files.specs.Found.{recovers}
 
--- a refusal of the words or of the files, or the rounds that are asked for, from the place at which the replica is opened
+-- a refusal of the words or of the files, or the rounds that are asked for, from the place at which the replica is
+-- opened
 pub data Opening : Type 0 where
   Refuses : (why : Refusal) → Opening
   Opens : (asked : Asked) (place : Option Place) → Opening
 
--- Files with no control slot open are a replica without a database; of a database another log size, or format 1, begins the log anew.
+-- Files with no control slot open are a replica without a database; of a database another log size, or format 1, begins
+-- the log anew.
 abbrev pub opens_with : Asked → Result Place Refusal → Opening
 opens_with a (Ok p) = Opens a (place_after (Some p) (reopened a.size (Some p)))
 opens_with a (Err NotADatabase) = Opens a None

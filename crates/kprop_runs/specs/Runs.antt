@@ -81,31 +81,37 @@ RunStops o w taken sent out = ((sent ≡ Some w.sent) × (out ≡ taken)) ⊎ St
 -- what an image of before stood for, a place of the opening, by what the files stood for, or one of a round
 abbrev pub RunLeaves : Opening → Result Place Refusal → Wire → Option (List ℕ) → View → Files → Type 0
 RunLeaves (Refuses why) found w taken old files = IsLike old files
-RunLeaves (Opens a place) found w taken old files = MayOpen old a.size found files ⊎ LeavesRounds a.name a.size a.rounds (first_stage w taken place) files
+RunLeaves (Opens a place) found w taken old files =
+    MayOpen old a.size found files ⊎ LeavesRounds a.name a.size a.rounds (first_stage w taken place) files
 
 -- where nothing is told of what comes
 abbrev pub RunLeavesSome : Opening → Result Place Refusal → View → Files → Type 0
 RunLeavesSome (Refuses why) found old files = IsLike old files
-RunLeavesSome (Opens a place) found old files = MayOpen old a.size found files ⊎ LeavesUntold a.size a.rounds place files
+RunLeavesSome (Opens a place) found old files =
+    MayOpen old a.size found files ⊎ LeavesUntold a.size a.rounds place files
 
 -- ---- all of it
 
 -- The rounds and the last line behind an opening.
-pub record HasRounds (result : Result Bool RunHalt) (a : Asked) (s : Stage) (told : Option Wire) (out : Option (List ℕ)) : Type 0 where
+pub record HasRounds (result : Result Bool RunHalt) (a : Asked) (s : Stage) (told : Option Wire)
+    (out : Option (List ℕ)) : Type 0 where
   pub ended : IfOk result (λ refused. EndsAs (end_behind (last_stage a s)) told out refused)
   pub stopped : OnErr result (StopsRounds a s (sent_in told) out)
 
 -- A run from its opening on: it went through, and says whether a refusal was written, or it was stopped.
-pub record HasRun (o : Opening) (found : Result Place Refusal) (w : Wire) (taken : Option (List ℕ)) (old now : View) (told : Option Wire)
+pub record HasRun (o : Opening) (found : Result Place Refusal) (w : Wire) (taken : Option (List ℕ)) (old now : View)
+    (told : Option Wire)
     (out : Option (List ℕ)) (result : Result Bool RunHalt) : Type 0 where
   pub ended : IfOk result (λ refused. EndsAs (run_end o w taken) told out refused × Stands o w taken old now)
   pub stopped : OnErr result (RunStops o w taken (sent_in told) out)
   pub moments : LeavesOnly old now (RunLeaves o found w taken old)
 
 -- the same by its status
-pub record IsRun (o : Opening) (found : Result Place Refusal) (w : Wire) (taken : Option (List ℕ)) (old now : View) (told : Option Wire)
+pub record IsRun (o : Opening) (found : Result Place Refusal) (w : Wire) (taken : Option (List ℕ)) (old now : View)
+    (told : Option Wire)
     (out : Option (List ℕ)) (result : Status) : Type 0 where
-  -- where nothing stopped it: the bytes that were sent and written, whether a refusal is among them, and what then stands
+  -- where nothing stopped it: the bytes that were sent and written, whether a refusal is among them, and what then
+  -- stands
   pub ended : OnEnd result (λ refused. EndsAs (run_end o w taken) told out refused × Stands o w taken old now)
   -- where it was stopped: a front of these bytes
   pub stopped : OnStop result (RunStops o w taken (sent_in told) out)

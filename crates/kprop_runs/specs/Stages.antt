@@ -14,8 +14,8 @@ use Rattle.replica_steps.specs.Bridges.{MayBePart}
 use Rattle.replica_steps.specs.Judging.{point_in}
 use Rattle.replica_steps.specs.Replicas.{Task, place_after, task_makes}
 
--- The replica's place, what was sent on each connection, the newest first, what those of later dials give, what was written, as far as it is
--- told, and whether a round was refused.
+-- The replica's place, what was sent on each connection, the newest first, what those of later dials give, what was
+-- written, as far as it is told, and whether a round was refused.
 pub record Stage : Type 0 where
   pub place : Option Place
   pub sent : List (List ℕ)
@@ -25,10 +25,12 @@ pub record Stage : Type 0 where
 
 -- of a link that tells this, a sink that tells so much, and a replica at this place
 abbrev pub stage_of : Wire → Option (List ℕ) → Option Place → Bool → Stage
-stage_of w taken place refused = record { place = place; sent = w.sent; to_come = w.to_come; out = taken; refused = refused }
+stage_of w taken place refused =
+    record { place = place; sent = w.sent; to_come = w.to_come; out = taken; refused = refused }
 
 -- what is told is the stage
-pub record StandsAt (s : Stage) (told : Option Wire) (taken : Option (List ℕ)) (place : Option Place) (refused : Bool) : Type 0 where
+pub record StandsAt (s : Stage) (told : Option Wire) (taken : Option (List ℕ)) (place : Option Place)
+    (refused : Bool) : Type 0 where
   pub place_is : place ≡ s.place
   pub sent_is : sent_in told ≡ Some s.sent
   pub later_is : later_in told ≡ Some s.to_come
@@ -60,8 +62,8 @@ stage_behind name number end s = record {
 abbrev pub after_round : List ℕ → ℕ → ℕ → Stage → Stage
 after_round name size number s = stage_behind name number (end_at size s) s
 
--- It was stopped in a round with this end: nothing of its line was written, and a front of what it says was sent, or no connection was made; or
--- all of that was sent, and a front of its line was written.
+-- It was stopped in a round with this end: nothing of its line was written, and a front of what it says was sent, or no
+-- connection was made; or all of that was sent, and a front of its line was written.
 abbrev pub StopsRound : List ℕ → ℕ → RoundEnd → Stage → Option (List (List ℕ)) → Option (List ℕ) → Type 0
 StopsRound name number end s sent out =
     (MaySay (round_text name s.place end) s.sent sent × (out ≡ s.out))
@@ -74,10 +76,12 @@ after_rounds name size zero s = s
 after_rounds name size (suc n) s = after_round name size (suc n) (after_rounds name size n s)
 
 -- it was stopped in one of so many rounds, and those before it were done
-pub record StopsIn (name : List ℕ) (size count : ℕ) (s : Stage) (sent : Option (List (List ℕ))) (out : Option (List ℕ)) : Type 0 where
+pub record StopsIn (name : List ℕ) (size count : ℕ) (s : Stage) (sent : Option (List (List ℕ)))
+    (out : Option (List ℕ)) : Type 0 where
   pub done : ℕ
   pub few : done < count
-  pub stops : StopsRound name (suc done) (end_at size (after_rounds name size done s)) (after_rounds name size done s) sent out
+  pub stops : StopsRound name (suc done) (end_at size (after_rounds name size done s))
+      (after_rounds name size done s) sent out
 
 -- or in the last line, with all of them done
 abbrev pub StopsBehind : Stage → Option (List (List ℕ)) → Option (List ℕ) → Type 0

@@ -36,7 +36,8 @@ asked_by (Some rounds) (Some size) name = option_map (asks rounds size) name
 
 -- the name, the number of rounds and the size; none where other words stand there
 unfoldable pub asked_in : List (List ℕ) → Option Asked
-asked_in (name ∷ rounds ∷ size ∷ []) = asked_by (number_within 0 most_rounds rounds) (number_within least_size most_size size) (client_in name)
+asked_in (name ∷ rounds ∷ size ∷ []) =
+    asked_by (number_within 0 most_rounds rounds) (number_within least_size most_size size) (client_in name)
 asked_in _ = None
 
 -- ---- as a relation

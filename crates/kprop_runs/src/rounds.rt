@@ -7,7 +7,8 @@ ghost use Rattle.kdb_disk.specs.Frames.{IsCall, IsCrashSafe};
 ghost use Rattle.kdb_ports.specs.Links.{Wire, first_of};
 ghost use Rattle.kprop_rounds.specs.Rounds.{GivesNoEnd, LeavesSome, round_end};
 ghost use Rattle.kprop_runs.specs.Longs.{AllEnd, GivesTooMuch, StopsLong, StopsLongIn};
-ghost use Rattle.kprop_runs.specs.Stages.{LeavesRounds, LeavesUntold, MayCome, MayLead, StandsAt, StopsIn, StopsRound, after_round, after_rounds, end_at, stage_of};
+ghost use Rattle.kprop_runs.specs.Stages.{LeavesRounds, LeavesUntold, MayCome, MayLead, StandsAt, StopsIn};
+ghost use Rattle.kprop_runs.specs.Stages.{StopsRound, after_round, after_rounds, end_at, stage_of};
 ghost use Rattle.replica_core.specs.Opened.{IsHeldOn, LeavesMade, is_broken, place_of};
 
 use crate::halts::RunHalt;
@@ -32,20 +33,28 @@ fn turn<L: Link, K: Sink, D: Disk>(
     requires whole { is_broken replica.old.database replica.old.failed ≡ false }
     requires name { length name.now ≤ most_behind }
     ensures done { (w : Wire) (refused : Bool) → L.wire link.old ≡ Some w
-        → IfOk result (λ bad. StandsAt (after_round name.now replica.old.size number (stage_of w (K.taken sink.old) (place_of replica.old) refused)) (L.wire link.new) (K.taken sink.new) (place_of replica.new) (refused || bad)) }
+        → IfOk result (λ bad. StandsAt
+        (after_round name.now replica.old.size number (stage_of w (K.taken sink.old) (place_of replica.old) refused))
+        (L.wire link.new) (K.taken sink.new) (place_of replica.new) (refused || bad)) }
     ensures stopped { (w : Wire) (refused : Bool) → L.wire link.old ≡ Some w
-        → OnErr result (StopsRound name.now number (round_end replica.old.size (place_of replica.old) (first_of w.to_come)) (stage_of w (K.taken sink.old) (place_of replica.old) refused) (sent_in (L.wire link.new)) (K.taken sink.new)) }
+        → OnErr result
+        (StopsRound name.now number (round_end replica.old.size (place_of replica.old) (first_of w.to_come))
+        (stage_of w (K.taken sink.old) (place_of replica.old) refused) (sent_in (L.wire link.new)) (K.taken sink.new)) }
     ensures crash { (w : Wire) → L.wire link.old ≡ Some w
-        → IsCrashSafe D.Disk disk.old disk.new (LeavesMade (place_of replica.old) (round_end replica.old.size (place_of replica.old) (first_of w.to_come)).made) }
+        → IsCrashSafe D.Disk disk.old disk.new (LeavesMade (place_of replica.old)
+        (round_end replica.old.size (place_of replica.old) (first_of w.to_come)).made) }
     ensures some { IsCrashSafe D.Disk disk.old disk.new (LeavesSome replica.old.size (place_of replica.old)) }
     ensures comes { D.tells → OnOk result (MayCome replica.old.size (place_of replica.old) (place_of replica.new)) }
     ensures on { D.tells → OnOk result (IsHeldOn replica.new.database (D.view disk.new)) }
     ensures whole { OnOk result (is_broken replica.new.database replica.new.failed ≡ false) }
     ensures size { replica.new.size ≡ replica.old.size }
-    ensures too_long { (w : Wire) → L.wire link.old ≡ Some w → result ≡ Err RunHalt.InputTooLong → 4294967296 ≤ length (first_of w.to_come) }
+    ensures too_long { (w : Wire) → L.wire link.old ≡ Some w → result ≡ Err RunHalt.InputTooLong
+        → 4294967296 ≤ length (first_of w.to_come) }
     ensures long { (w : Wire) (refused : Bool) → L.wire link.old ≡ Some w → result ≡ Err RunHalt.InputTooLong
-        → StopsLong name.now replica.old.size (stage_of w (K.taken sink.old) (place_of replica.old) refused) (sent_in (L.wire link.new)) }
-    ensures in_time { (w : Wire) → L.wire link.old ≡ Some w → OnOk result (GivesNoEnd replica.old.size (place_of replica.old) (first_of w.to_come) → ⊥) }
+        → StopsLong name.now replica.old.size (stage_of w (K.taken sink.old) (place_of replica.old) refused)
+        (sent_in (L.wire link.new)) }
+    ensures in_time { (w : Wire) → L.wire link.old ≡ Some w
+        → OnOk result (GivesNoEnd replica.old.size (place_of replica.old) (first_of w.to_come) → ⊥) }
     ensures call { IsCall D.Disk disk.old disk.new (result ≡ Err RunHalt.DiskFault) }
     ensures links { Counts (L.faults link.old) (L.faults link.new) (result ≡ Err RunHalt.LinkFault) }
     ensures writes { Counts (K.faults sink.old) (K.faults sink.new) (result ≡ Err RunHalt.WriteFault) }
@@ -80,19 +89,26 @@ pub(crate) fn all_rounds<L: Link, K: Sink, D: Disk>(
     requires whole { is_broken replica.old.database replica.old.failed ≡ false }
     requires name { length name.now ≤ most_behind }
     ensures done { (w : Wire) → L.wire link.old ≡ Some w
-        → IfOk result (λ refused. StandsAt (after_rounds name.now replica.old.size count (stage_of w (K.taken sink.old) (place_of replica.old) false)) (L.wire link.new) (K.taken sink.new) (place_of replica.new) refused) }
+        → IfOk result (λ refused. StandsAt
+        (after_rounds name.now replica.old.size count (stage_of w (K.taken sink.old) (place_of replica.old) false))
+        (L.wire link.new) (K.taken sink.new) (place_of replica.new) refused) }
     ensures stopped { (w : Wire) → L.wire link.old ≡ Some w
-        → OnErr result (StopsIn name.now replica.old.size count (stage_of w (K.taken sink.old) (place_of replica.old) false) (sent_in (L.wire link.new)) (K.taken sink.new)) }
+        → OnErr result (StopsIn name.now replica.old.size count
+        (stage_of w (K.taken sink.old) (place_of replica.old) false) (sent_in (L.wire link.new)) (K.taken sink.new)) }
     ensures crash { (w : Wire) → L.wire link.old ≡ Some w
-        → IsCrashSafe D.Disk disk.old disk.new (LeavesRounds name.now replica.old.size count (stage_of w (K.taken sink.old) (place_of replica.old) false)) }
+        → IsCrashSafe D.Disk disk.old disk.new
+        (LeavesRounds name.now replica.old.size count (stage_of w (K.taken sink.old) (place_of replica.old) false)) }
     // Of a link that tells nothing.
     ensures some { IsCrashSafe D.Disk disk.old disk.new (LeavesUntold replica.old.size count (place_of replica.old)) }
     ensures on { D.tells → OnOk result (IsHeldOn replica.new.database (D.view disk.new)) }
-    ensures too_long { (w : Wire) → L.wire link.old ≡ Some w → result ≡ Err RunHalt.InputTooLong → GivesTooMuch w.to_come }
+    ensures too_long { (w : Wire) → L.wire link.old ≡ Some w → result ≡ Err RunHalt.InputTooLong
+        → GivesTooMuch w.to_come }
     ensures long { (w : Wire) → L.wire link.old ≡ Some w → result ≡ Err RunHalt.InputTooLong
-        → StopsLongIn name.now replica.old.size count (stage_of w (K.taken sink.old) (place_of replica.old) false) (sent_in (L.wire link.new)) }
+        → StopsLongIn name.now replica.old.size count (stage_of w (K.taken sink.old) (place_of replica.old) false)
+        (sent_in (L.wire link.new)) }
     ensures in_time { (w : Wire) → L.wire link.old ≡ Some w
-        → OnOk result (AllEnd name.now replica.old.size count (stage_of w (K.taken sink.old) (place_of replica.old) false)) }
+        → OnOk result
+        (AllEnd name.now replica.old.size count (stage_of w (K.taken sink.old) (place_of replica.old) false)) }
     ensures call { IsCall D.Disk disk.old disk.new (result ≡ Err RunHalt.DiskFault) }
     ensures links { Counts (L.faults link.old) (L.faults link.new) (result ≡ Err RunHalt.LinkFault) }
     ensures writes { Counts (K.faults sink.old) (K.faults sink.new) (result ≡ Err RunHalt.WriteFault) }

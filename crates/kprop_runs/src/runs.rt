@@ -9,7 +9,8 @@ ghost use Rattle.kdb_ports.specs.Links.{Wire};
 ghost use Rattle.kprop_runs.specs.Halts.{OnEnd};
 ghost use Rattle.kprop_runs.specs.Longs.{AllEnd, GivesTooMuch, RunRoundsEnd, RunStopsLong, StopsLongIn};
 ghost use Rattle.kprop_runs.specs.Openings.{opening, opening_by, opens_with};
-ghost use Rattle.kprop_runs.specs.Runs.{HasRefusal, HasRounds, HasRun, IsRefusal, IsRun, RunLeavesSome, StandsFor, first_stage, last_stage};
+ghost use Rattle.kprop_runs.specs.Runs.{HasRefusal, HasRounds, HasRun, IsRefusal, IsRun};
+ghost use Rattle.kprop_runs.specs.Runs.{RunLeavesSome, StandsFor, first_stage, last_stage};
 ghost use Rattle.kprop_runs.specs.Stages.{LeavesRounds, LeavesUntold};
 ghost use Rattle.kprop_runs.specs.Words.{IsAsked, asked_in};
 ghost use Rattle.replica_core.specs.Opened.{IsHeldOn, is_broken, place_of};
@@ -39,17 +40,24 @@ fn run_rounds<L: Link, K: Sink, D: Disk>(
     requires asked { IsAsked asked.now }
     requires size { replica.old.size ≡ asked.now.size }
     ensures rounds { (w : Wire) → L.wire link.old ≡ Some w
-        → HasRounds result asked.now (first_stage w (K.taken sink.old) (place_of replica.old)) (L.wire link.new) (K.taken sink.new) }
+        → HasRounds result asked.now (first_stage w (K.taken sink.old) (place_of replica.old)) (L.wire link.new)
+        (K.taken sink.new) }
     ensures stands { D.tells → (w : Wire) → L.wire link.old ≡ Some w
-        → OnOk result (StandsFor (last_stage asked.now (first_stage w (K.taken sink.old) (place_of replica.old))).place (D.view disk.new)) }
+        → OnOk result (StandsFor (last_stage asked.now (first_stage w (K.taken sink.old) (place_of replica.old))).place
+        (D.view disk.new)) }
     ensures crash { (w : Wire) → L.wire link.old ≡ Some w
-        → IsCrashSafe D.Disk disk.old disk.new (LeavesRounds asked.now.name asked.now.size asked.now.rounds (first_stage w (K.taken sink.old) (place_of replica.old))) }
-    ensures some { IsCrashSafe D.Disk disk.old disk.new (LeavesUntold asked.now.size asked.now.rounds (place_of replica.old)) }
-    ensures too_long { (w : Wire) → L.wire link.old ≡ Some w → result ≡ Err RunHalt.InputTooLong → GivesTooMuch w.to_come }
+        → IsCrashSafe D.Disk disk.old disk.new (LeavesRounds asked.now.name asked.now.size asked.now.rounds
+        (first_stage w (K.taken sink.old) (place_of replica.old))) }
+    ensures some { IsCrashSafe D.Disk disk.old disk.new
+        (LeavesUntold asked.now.size asked.now.rounds (place_of replica.old)) }
+    ensures too_long { (w : Wire) → L.wire link.old ≡ Some w → result ≡ Err RunHalt.InputTooLong
+        → GivesTooMuch w.to_come }
     ensures long { (w : Wire) → L.wire link.old ≡ Some w → result ≡ Err RunHalt.InputTooLong
-        → StopsLongIn asked.now.name asked.now.size asked.now.rounds (first_stage w (K.taken sink.old) (place_of replica.old)) (sent_in (L.wire link.new)) }
+        → StopsLongIn asked.now.name asked.now.size asked.now.rounds
+        (first_stage w (K.taken sink.old) (place_of replica.old)) (sent_in (L.wire link.new)) }
     ensures in_time { (w : Wire) → L.wire link.old ≡ Some w
-        → OnOk result (AllEnd asked.now.name asked.now.size asked.now.rounds (first_stage w (K.taken sink.old) (place_of replica.old))) }
+        → OnOk result (AllEnd asked.now.name asked.now.size asked.now.rounds
+        (first_stage w (K.taken sink.old) (place_of replica.old))) }
     ensures call { IsCall D.Disk disk.old disk.new (result ≡ Err RunHalt.DiskFault) }
     ensures links { Counts (L.faults link.old) (L.faults link.new) (result ≡ Err RunHalt.LinkFault) }
     ensures writes { Counts (K.faults sink.old) (K.faults sink.new) (result ≡ Err RunHalt.WriteFault) }
@@ -71,12 +79,17 @@ fn open_and_run<L: Link, K: Sink, D: Disk>(
 ) -> Result<bool, RunHalt>
     requires { IsAsked asked.now }
     ensures run { D.tells → (w : Wire) → L.wire link.old ≡ Some w
-        → HasRun (opens_with asked.now (recovers (D.view disk.old).seen)) (recovers (D.view disk.old).seen) w (K.taken sink.old) (D.view disk.old) (D.view disk.new) (L.wire link.new) (K.taken sink.new) result }
-    ensures some { D.tells → LeavesOnly (D.view disk.old) (D.view disk.new) (RunLeavesSome (opens_with asked.now (recovers (D.view disk.old).seen)) (recovers (D.view disk.old).seen) (D.view disk.old)) }
-    ensures too_long { (w : Wire) → L.wire link.old ≡ Some w → result ≡ Err RunHalt.InputTooLong → GivesTooMuch w.to_come }
+        → HasRun (opens_with asked.now (recovers (D.view disk.old).seen)) (recovers (D.view disk.old).seen) w
+        (K.taken sink.old) (D.view disk.old) (D.view disk.new) (L.wire link.new) (K.taken sink.new) result }
+    ensures some { D.tells → LeavesOnly (D.view disk.old) (D.view disk.new) (RunLeavesSome
+        (opens_with asked.now (recovers (D.view disk.old).seen)) (recovers (D.view disk.old).seen) (D.view disk.old)) }
+    ensures too_long { (w : Wire) → L.wire link.old ≡ Some w → result ≡ Err RunHalt.InputTooLong
+        → GivesTooMuch w.to_come }
     ensures long { D.tells → (w : Wire) → L.wire link.old ≡ Some w → result ≡ Err RunHalt.InputTooLong
-        → RunStopsLong (opens_with asked.now (recovers (D.view disk.old).seen)) w (K.taken sink.old) (sent_in (L.wire link.new)) }
-    ensures in_time { D.tells → (w : Wire) → L.wire link.old ≡ Some w → OnOk result (RunRoundsEnd (opens_with asked.now (recovers (D.view disk.old).seen)) w (K.taken sink.old)) }
+        → RunStopsLong (opens_with asked.now (recovers (D.view disk.old).seen)) w (K.taken sink.old)
+        (sent_in (L.wire link.new)) }
+    ensures in_time { D.tells → (w : Wire) → L.wire link.old ≡ Some w
+        → OnOk result (RunRoundsEnd (opens_with asked.now (recovers (D.view disk.old).seen)) w (K.taken sink.old)) }
     ensures call { IsCall D.Disk disk.old disk.new (result ≡ Err RunHalt.DiskFault) }
     ensures links { Counts (L.faults link.old) (L.faults link.new) (result ≡ Err RunHalt.LinkFault) }
     ensures writes { Counts (K.faults sink.old) (K.faults sink.new) (result ≡ Err RunHalt.WriteFault) }
@@ -101,15 +114,21 @@ fn run_asked<L: Link, K: Sink, D: Disk>(
 ) -> Result<bool, RunHalt>
     requires { IfSome asked.now IsAsked }
     ensures run { D.tells → (w : Wire) → L.wire link.old ≡ Some w
-        → HasRun (opening_by asked.now (recovers (D.view disk.old).seen)) (recovers (D.view disk.old).seen) w (K.taken sink.old) (D.view disk.old) (D.view disk.new) (L.wire link.new) (K.taken sink.new) result }
-    ensures some { D.tells → LeavesOnly (D.view disk.old) (D.view disk.new) (RunLeavesSome (opening_by asked.now (recovers (D.view disk.old).seen)) (recovers (D.view disk.old).seen) (D.view disk.old)) }
-    ensures other { asked.now ≡ None → HasRefusal (refusal_text Refusal.BadLine) (K.taken sink.old) (K.taken sink.new) result }
+        → HasRun (opening_by asked.now (recovers (D.view disk.old).seen)) (recovers (D.view disk.old).seen) w
+        (K.taken sink.old) (D.view disk.old) (D.view disk.new) (L.wire link.new) (K.taken sink.new) result }
+    ensures some { D.tells → LeavesOnly (D.view disk.old) (D.view disk.new) (RunLeavesSome
+        (opening_by asked.now (recovers (D.view disk.old).seen)) (recovers (D.view disk.old).seen) (D.view disk.old)) }
+    ensures other { asked.now ≡ None
+        → HasRefusal (refusal_text Refusal.BadLine) (K.taken sink.old) (K.taken sink.new) result }
     ensures no_disk { asked.now ≡ None → disk.new ≡ disk.old }
     ensures no_link { asked.now ≡ None → link.new ≡ link.old }
-    ensures too_long { (w : Wire) → L.wire link.old ≡ Some w → result ≡ Err RunHalt.InputTooLong → GivesTooMuch w.to_come }
+    ensures too_long { (w : Wire) → L.wire link.old ≡ Some w → result ≡ Err RunHalt.InputTooLong
+        → GivesTooMuch w.to_come }
     ensures long { D.tells → (w : Wire) → L.wire link.old ≡ Some w → result ≡ Err RunHalt.InputTooLong
-        → RunStopsLong (opening_by asked.now (recovers (D.view disk.old).seen)) w (K.taken sink.old) (sent_in (L.wire link.new)) }
-    ensures in_time { D.tells → (w : Wire) → L.wire link.old ≡ Some w → OnOk result (RunRoundsEnd (opening_by asked.now (recovers (D.view disk.old).seen)) w (K.taken sink.old)) }
+        → RunStopsLong (opening_by asked.now (recovers (D.view disk.old).seen)) w (K.taken sink.old)
+        (sent_in (L.wire link.new)) }
+    ensures in_time { D.tells → (w : Wire) → L.wire link.old ≡ Some w
+        → OnOk result (RunRoundsEnd (opening_by asked.now (recovers (D.view disk.old).seen)) w (K.taken sink.old)) }
     ensures call { IsCall D.Disk disk.old disk.new (result ≡ Err RunHalt.DiskFault) }
     ensures links { Counts (L.faults link.old) (L.faults link.new) (result ≡ Err RunHalt.LinkFault) }
     ensures writes { Counts (K.faults sink.old) (K.faults sink.new) (result ≡ Err RunHalt.WriteFault) }
@@ -129,9 +148,9 @@ fn run_asked<L: Link, K: Sink, D: Disk>(
 /// name on a new connection, polls at its own point, and asks for a dump where the reply wants that; its line has the
 /// round's number, its word, and the replica's point after it. The last line is `ok` and the point.
 ///
-/// The status is `Done` where all rounds were done and none was refused, `Refused` where a refusal was written. Where it
-/// was stopped, a front of the bytes was sent and written. A crash at any moment leaves a place of the opening, or one
-/// that a round begins at or makes.
+/// The status is `Done` where all rounds were done and none was refused, `Refused` where a refusal was written. Where
+/// it was stopped, a front of the bytes was sent and written. A crash at any moment leaves a place of the opening, or
+/// one that a round begins at or makes.
 pub fn run_replica<L: Link, K: Sink, D: Disk>(
     alloc: Global,
     words: &[Vec<u8>],
@@ -141,22 +160,28 @@ pub fn run_replica<L: Link, K: Sink, D: Disk>(
 ) -> Status
     // By the words, by what the files stand for, and by the bytes that the link's connections give.
     ensures run { D.tells → (w : Wire) → L.wire link.old ≡ Some w
-        → IsRun (opening (map (λ word. word.items) words.now) (D.view disk.old).seen) (recovers (D.view disk.old).seen) w (K.taken sink.old) (D.view disk.old) (D.view disk.new) (L.wire link.new) (K.taken sink.new) result }
+        → IsRun (opening (map (λ word. word.items) words.now) (D.view disk.old).seen) (recovers (D.view disk.old).seen)
+        w (K.taken sink.old) (D.view disk.old) (D.view disk.new) (L.wire link.new) (K.taken sink.new) result }
 
     // Of any link: what some replies and dumps make.
-    ensures some { D.tells → LeavesOnly (D.view disk.old) (D.view disk.new) (RunLeavesSome (opening (map (λ word. word.items) words.now) (D.view disk.old).seen) (recovers (D.view disk.old).seen) (D.view disk.old)) }
+    ensures some { D.tells → LeavesOnly (D.view disk.old) (D.view disk.new)
+        (RunLeavesSome (opening (map (λ word. word.items) words.now) (D.view disk.old).seen)
+        (recovers (D.view disk.old).seen) (D.view disk.old)) }
 
     // Other words are refused, whatever is told: no file is touched, and no connection made.
-    ensures other { asked_in (map (λ word. word.items) words.now) ≡ None → IsRefusal (refusal_text Refusal.BadLine) (K.taken sink.old) (K.taken sink.new) result }
+    ensures other { asked_in (map (λ word. word.items) words.now) ≡ None
+        → IsRefusal (refusal_text Refusal.BadLine) (K.taken sink.old) (K.taken sink.new) result }
     ensures no_disk { asked_in (map (λ word. word.items) words.now) ≡ None → disk.new ≡ disk.old }
     ensures no_link { asked_in (map (λ word. word.items) words.now) ≡ None → link.new ≡ link.old }
 
     // The causes.
     ensures too_long { (w : Wire) → L.wire link.old ≡ Some w → result ≡ Status.InputTooLong → GivesTooMuch w.to_come }
     ensures long { D.tells → (w : Wire) → L.wire link.old ≡ Some w → result ≡ Status.InputTooLong
-        → RunStopsLong (opening (map (λ word. word.items) words.now) (D.view disk.old).seen) w (K.taken sink.old) (sent_in (L.wire link.new)) }
+        → RunStopsLong (opening (map (λ word. word.items) words.now) (D.view disk.old).seen) w (K.taken sink.old)
+        (sent_in (L.wire link.new)) }
     ensures in_time { D.tells → (w : Wire) → L.wire link.old ≡ Some w
-        → OnEnd result (λ refused. RunRoundsEnd (opening (map (λ word. word.items) words.now) (D.view disk.old).seen) w (K.taken sink.old)) }
+        → OnEnd result (λ refused.
+        RunRoundsEnd (opening (map (λ word. word.items) words.now) (D.view disk.old).seen) w (K.taken sink.old)) }
     ensures call { IsCall D.Disk disk.old disk.new (result ≡ Status.DiskFault) }
     ensures links { Counts (L.faults link.old) (L.faults link.new) (result ≡ Status.LinkFault) }
     ensures writes { Counts (K.faults sink.old) (K.faults sink.new) (result ≡ Status.WriteFault) }

@@ -2,7 +2,8 @@
 ghost use Rattle.std.specs.Prelude.{◌≡◌, ◌≤◌, IfOk, IfSome, length, map, option_map};
 ghost use Rattle.kadm_options.specs.OptionValues.{number_within};
 ghost use Rattle.keytab_words.specs.Words.{whole_name_in};
-ghost use Rattle.kprop_runs.specs.Words.{IsAsked, asked_by, asked_in, asks, client_in, least_size, most_rounds, most_size, named_by};
+ghost use Rattle.kprop_runs.specs.Words.{IsAsked, asked_by, asked_in, asks, client_in};
+ghost use Rattle.kprop_runs.specs.Words.{least_size, most_rounds, most_size, named_by};
 ghost use Rattle.princ_name.specs.Names.{IsName, printed};
 
 use kadm_options::read_within;
@@ -79,7 +80,8 @@ fn asked_by(
     size: &[u8],
     name: &[u8],
 ) -> Result<Option<Asked>, MemoryOut>
-    ensures value { IfOk result (λ found. found ≡ asked_by (number_within 0 most_rounds rounds.now) (number_within least_size most_size size.now) (client_in name.now)) }
+    ensures value { IfOk result (λ found. found ≡ asked_by (number_within 0 most_rounds rounds.now)
+        (number_within least_size most_size size.now) (client_in name.now)) }
     ensures sized { IfOk result (λ found. IfSome found IsAsked) }
 {
     match read_within(0, u32::MAX, rounds) {

@@ -1,8 +1,10 @@
 -- Lemmas on the rounds and the blocks of PBKDF2.
-use Rattle.std.proofs.Common.{◌≡◌, ℕ, suc, ◌+◌, ◌-◌, ◌*◌, ◌<◌, ◌≤◌, inl, inr, List, [], ◌++◌, ◌∙◌, ap, sym, refl, take, drop, length, min, arith}
+use Rattle.std.proofs.Common.{◌≡◌, ℕ, suc, ◌+◌, ◌-◌, ◌*◌, ◌<◌, ◌≤◌, inl, inr, List, []}
+use Rattle.std.proofs.Common.{◌++◌, ◌∙◌, ap, sym, refl, take, drop, length, min, arith}
 use Rattle.std.proofs.lemmas.Bool.{cases_lt}
 use Rattle.std.proofs.lemmas.Grind.{div_ceil_times}
-use Rattle.std.proofs.lemmas.List.{append-nil, length-append, length-take, length-take-le, take-take, take_all, take_at, take-append-le}
+use Rattle.std.proofs.lemmas.List.{append-nil, length-append, length-take, length-take-le}
+use Rattle.std.proofs.lemmas.List.{take-take, take_all, take_at, take-append-le}
 use Rattle.std.proofs.lemmas.List.Folds.{concat-append}
 use Rattle.std.proofs.lemmas.List.FromFn.{map-range_with_len_more}
 use Rattle.std.proofs.Math.Seq.{take-append-add}
@@ -47,9 +49,11 @@ blocks-more keyed salt count many number next =
     rw (map-range_with_len_more (block keyed salt count) 1 many number next, concat-append, append-nil) refl
 
 -- a block written behind `start` bytes, as much of it as there is room for
-pub one_more_piece : (into before piece : List ℕ) (start size len : ℕ) → start < len → length into ≡ len → length piece ≡ size →
+pub one_more_piece : (into before piece : List ℕ) (start size len : ℕ) → start < len → length into ≡ len
+    → length piece ≡ size →
     length before ≡ start → take start into ≡ before →
-    take (start + size) (take start into ++ take (len - start) (piece ++ drop size (drop start into))) ≡ take len (before ++ piece)
+    take (start + size) (take start into ++ take (len - start) (piece ++ drop size (drop start into)))
+    ≡ take len (before ++ piece)
 one_more_piece into before piece start size len inside long piece_len before_len same =
     let rest = take (len - start) (piece ++ drop size (drop start into)) in
     let left : take (start + size) (before ++ rest) ≡ before ++ take size rest =
@@ -57,7 +61,8 @@ one_more_piece into before piece start size len inside long piece_len before_len
     let total : start + (len - start) ≡ len = omega arith in
     let right : take len (before ++ piece) ≡ before ++ take (len - start) piece =
     rw total at (behind before piece start (len - start) before_len) in
-    rw same (left ∙ ap (λ (t : List ℕ). before ++ t) (front_of_piece piece (drop size (drop start into)) size (len - start) piece_len) ∙ sym right)
+    rw same (left ∙ ap (λ (t : List ℕ). before ++ t)
+    (front_of_piece piece (drop size (drop start into)) size (len - start) piece_len) ∙ sym right)
   where
     behind : (xs ys : List ℕ) (start more : ℕ) → length xs ≡ start → take (start + more) (xs ++ ys) ≡ xs ++ take more ys
     behind xs ys start more long = rw (← long) (take-append-add xs ys more)
@@ -100,11 +105,14 @@ unfolding blocks
 no_block keyed salt into count len = sym (take_all len [] (omega arith))
 
 -- one block more, as much of it as there is room for
-pub next_piece : (keyed : List ℕ → List ℕ) (salt into new piece : List ℕ) (count number start size len : ℕ) → start < len →
+pub next_piece : (keyed : List ℕ → List ℕ) (salt into new piece : List ℕ) (count number start size len : ℕ)
+    → start < len →
     length into ≡ len → length piece ≡ size → start ≡ number * size → piece ≡ block keyed salt count (number + 1) →
-    take start into ≡ take len (blocks keyed salt count number) → new ≡ take start into ++ take (length into - start) (piece ++ drop size (drop start into)) →
+    take start into ≡ take len (blocks keyed salt count number)
+    → new ≡ take start into ++ take (length into - start) (piece ++ drop size (drop start into)) →
     length new ≡ len → take (start + size) new ≡ take (length new) (blocks keyed salt count (number + 1))
-next_piece keyed salt into new piece count number start size len inside long piece_len made is_block so_far written new_len =
+next_piece keyed salt into new piece count number start size len inside long piece_len made is_block so_far
+    written new_len =
     let all = blocks keyed salt count number in
     let next : 1 + number ≡ number + 1 = omega arith in
     let front_len : length (take start into) ≡ start = length-take-le start into (omega (arith, long)) in
@@ -112,17 +120,22 @@ next_piece keyed salt into new piece count number start size len inside long pie
     let few : length all ≤ len = omega (arith, counted) in
     let all_len : length all ≡ start = omega (arith, counted) in
     let same : take start into ≡ all = so_far ∙ take_all len all few in
-    let wrote : new ≡ take start into ++ take (len - start) (piece ++ drop size (drop start into)) = rw long at written in
-    let more : blocks keyed salt count (number + 1) ≡ all ++ piece = rw is_block (blocks-more keyed salt count number (number + 1) next) in
+    let wrote : new ≡ take start into ++ take (len - start) (piece ++ drop size (drop start into)) =
+    rw long at written in
+    let more : blocks keyed salt count (number + 1) ≡ all ++ piece =
+    rw is_block (blocks-more keyed salt count number (number + 1) next) in
     ap (take (start + size)) wrote ∙ one_more_piece into all piece start size len inside long piece_len all_len same
     ∙ rw (new_len, more) refl
 
 -- with the last block, the text is the derived key
-pub all_pieces : (prf : List ℕ → List ℕ → List ℕ) (password salt into : List ℕ) (count number size len start : ℕ) → 1 ≤ size →
+pub all_pieces : (prf : List ℕ → List ℕ → List ℕ) (password salt into : List ℕ) (count number size len start : ℕ)
+    → 1 ≤ size →
     length into ≡ len → start ≡ number * size → len ≤ start → start < len + size →
-    take start into ≡ take len (blocks (prf password) salt count number) → into ≡ pbkdf2_by prf size password salt count len
+    take start into ≡ take len (blocks (prf password) salt count number)
+    → into ≡ pbkdf2_by prf size password salt count len
 unfolding pbkdf2_by
 all_pieces prf password salt into count number size len start some long made enough few written =
     let many = count_is number size len start some made enough few in
-    let all : into ≡ take len (blocks (prf password) salt count number) = rw (take_all start into (omega (arith, long))) at written in
+    let all : into ≡ take len (blocks (prf password) salt count number) =
+    rw (take_all start into (omega (arith, long))) at written in
     rw (← many) all

@@ -1,5 +1,6 @@
 -- Lemmas on a key as one block.
-use Rattle.std.proofs.Common.{◌≡◌, ℕ, ◌+◌, ◌-◌, ◌≤◌, true, false, List, ◌++◌, ◌∙◌, ap, refl, length, take, drop, replicate, nat_lt, arith}
+use Rattle.std.proofs.Common.{◌≡◌, ℕ, ◌+◌, ◌-◌, ◌≤◌, true, false, List, ◌++◌, ◌∙◌, ap}
+use Rattle.std.proofs.Common.{refl, length, take, drop, replicate, nat_lt, arith}
 use Rattle.std.proofs.lemmas.List.{drop-replicate, take-replicate}
 use Rattle.std.proofs.Math.Seq.{take-append-add}
 use Rattle.krb_hmac.specs.Hmac.{key_block, short_key}
@@ -10,7 +11,8 @@ pub over_zeros : (written text : List ℕ) (len room : ℕ) → written ≡ text
 over_zeros written text len room same fits short =
     let total : length text + (len - length text) ≡ len = omega arith in
     let zeros : take (len - length text) (drop (length text) (replicate room 0)) ≡ replicate (len - length text) 0 =
-    ap (take (len - length text)) (drop-replicate (length text) room 0) ∙ take-replicate (len - length text) (room - length text) 0 (omega arith) in
+    ap (take (len - length text)) (drop-replicate (length text) room 0)
+    ∙ take-replicate (len - length text) (room - length text) 0 (omega arith) in
     ap (λ (front : List ℕ). take len (front ++ drop (length text) (replicate room 0))) same
     ∙ rw total at (take-append-add text (drop (length text) (replicate room 0)) (len - length text))
     ∙ ap (λ (back : List ℕ). text ++ back) zeros

@@ -44,7 +44,8 @@ impl<H: BlockHash<N>, const N: usize> Keyed<H, N> {
 
     /// HMAC of a text in three pieces.
     pub fn tag(&self, first: &[u8], second: &[u8], third: &[u8]) -> [u8; N]
-        ensures { (key : List ℕ) → IsKeyed H.holds H.hash H.block self.now key → result ≡ hmac_by H.hash H.block key (first.now ++ (second.now ++ third.now)) }
+        ensures { (key : List ℕ) → IsKeyed H.holds H.hash H.block self.now key
+            → result ≡ hmac_by H.hash H.block key (first.now ++ (second.now ++ third.now)) }
     {
         let mut inner = self.inner.copied();
         inner.add(first);

@@ -19,7 +19,8 @@ pub fn pbkdf2_by<H: BlockHash<N>, const N: usize>(
 )
     requires counted { 1 ≤ count }
     requires short { length into.old ≤ 64 }
-    ensures { (password : List ℕ) → IsKeyed H.holds H.hash H.block keyed.now password → into.new ≡ derived_key (hmac_by H.hash H.block) N password (prefix.now ++ salt.now) count (length into.old) }
+    ensures { (password : List ℕ) → IsKeyed H.holds H.hash H.block keyed.now password
+        → into.new ≡ derived_key (hmac_by H.hash H.block) N password (prefix.now ++ salt.now) count (length into.old) }
 {
     // It says that a digest has a byte.
     let _block = H::block_len();
@@ -36,7 +37,8 @@ pub fn pbkdf2_by<H: BlockHash<N>, const N: usize>(
 /// Writes a block over what stands behind `start` bytes, or as much of it as there is room for.
 fn put_behind(text: &mut [u8], start: usize, block: &[u8])
     requires { start ≤ length text.old }
-    ensures { text.new ≡ take start text.old ++ take (length text.old - start) (block.now ++ drop (length block.now) (drop start text.old)) }
+    ensures { text.new ≡ take start text.old
+        ++ take (length text.old - start) (block.now ++ drop (length block.now) (drop start text.old)) }
 {
     let (_, rest) = text.split_at_mut(start);
     let len = block.len().min(rest.len());
@@ -52,7 +54,8 @@ fn block_at<H: BlockHash<N>, const N: usize>(
     number: u32,
 ) -> [u8; N]
     requires { 1 ≤ count }
-    ensures { (password : List ℕ) → IsKeyed H.holds H.hash H.block keyed.now password → result ≡ block (hmac_by H.hash H.block password) (prefix.now ++ salt.now) count number }
+    ensures { (password : List ℕ) → IsKeyed H.holds H.hash H.block keyed.now password
+        → result ≡ block (hmac_by H.hash H.block password) (prefix.now ++ salt.now) count number }
 {
     let mut last = keyed.tag(prefix, salt, &number.to_be_bytes());
     let mut sum = last;

@@ -1,5 +1,6 @@
 -- Lemmas on the number of some bits.
-use Rattle.std.proofs.Common.{◌≡◌, ℕ, zero, suc, ◌+◌, ◌-◌, ◌*◌, ◌/◌, ◌%◌, ◌^◌, ◌<◌, ◌∙◌, ap, refl, add-one, add-zero, lit<, arith}
+use Rattle.std.proofs.Common.{◌≡◌, ℕ, zero, suc, ◌+◌, ◌-◌, ◌*◌, ◌/◌, ◌%◌, ◌^◌}
+use Rattle.std.proofs.Common.{◌<◌, ◌∙◌, ap, refl, add-one, add-zero, lit<, arith}
 use Rattle.std.specs.Int.{bit_at}
 use Rattle.std.proofs.Math.Nat.{pow-suc, add-suc}
 use Rattle.std.proofs.lemmas.Nat.{mod-pow-add}
@@ -7,7 +8,8 @@ use Rattle.std.proofs.lemmas.Nat.Bits.{bit_at-suc, bit_at_lowest}
 use Rattle.krb_profile.specs.NFold.{number_of}
 
 -- equal bits give equal numbers
-pub number_of-same : (f g : ℕ → ℕ) (i j n : ℕ) → ((e : ℕ) → e < n → f (i + e) ≡ g (j + e)) → number_of f i n ≡ number_of g j n
+pub number_of-same : (f g : ℕ → ℕ) (i j n : ℕ) → ((e : ℕ) → e < n → f (i + e) ≡ g (j + e))
+    → number_of f i n ≡ number_of g j n
 unfolding number_of
 number_of-same f g i j zero same = refl
 number_of-same f g i j (suc n) same =
@@ -16,7 +18,8 @@ number_of-same f g i j (suc n) same =
     rw (front, last) refl
 
 -- the lowest n bits of a number
-pub number_of-bit_at : (f : ℕ → ℕ) (v i n : ℕ) → ((e : ℕ) → e < n → f (i + e) ≡ bit_at v (n - 1 - e)) → number_of f i n ≡ v % 2 ^ n
+pub number_of-bit_at : (f : ℕ → ℕ) (v i n : ℕ) → ((e : ℕ) → e < n → f (i + e) ≡ bit_at v (n - 1 - e))
+    → number_of f i n ≡ v % 2 ^ n
 unfolding number_of
 number_of-bit_at f v i zero same = omega arith
 number_of-bit_at f v i (suc n) same =
@@ -37,7 +40,8 @@ number_of-split f i a (suc b) =
     let front = number_of-split f i a b in
     let place : i + (a + b) ≡ i + a + b = omega arith in
     let last = ap f place in
-    let whole : number_of f i (a + suc b) ≡ 2 * number_of f i (a + b) + f (i + (a + b)) = ap (number_of f i) (add-suc a b) in
+    let whole : number_of f i (a + suc b) ≡ 2 * number_of f i (a + b) + f (i + (a + b)) =
+    ap (number_of f i) (add-suc a b) in
     rw (pow-suc 2 b) (omega (arith, whole, front, last))
 
 -- n bits make a number below 2^n

@@ -1,5 +1,6 @@
 -- Lemmas on a text that is read over and over.
-use Rattle.std.proofs.Common.{◌≡◌, ℕ, ◌+◌, ◌-◌, ◌*◌, ◌/◌, ◌%◌, ◌^◌, ◌<◌, ◌≤◌, ◌∙◌, ap, sym, refl, List, inl, inr, length, arith}
+use Rattle.std.proofs.Common.{◌≡◌, ℕ, ◌+◌, ◌-◌, ◌*◌, ◌/◌, ◌%◌, ◌^◌, ◌<◌, ◌≤◌}
+use Rattle.std.proofs.Common.{◌∙◌, ap, sym, refl, List, inl, inr, length, arith}
 use Rattle.std.specs.Prelude.{slice_index}
 use Rattle.std.specs.Int.{bit_at}
 use Rattle.std.proofs.Math.Nat.{div-add-mod, mul-add-mod_self_left, div-div-eq-div-mul, mod-eq_of_lt}
@@ -58,7 +59,8 @@ byte_of_pair text first high low inside byte is_high is_low =
     let u = first / 8 in
     let r = first % 8 in
     let bit_below : r < 8 = omega arith in
-    let same : (e : ℕ) → e < 8 → cyclic_bit text (first + e) ≡ bit_at ((high * 256 + low) / 2 ^ (8 - r)) (7 - e) = λ e below.
+    let same : (e : ℕ) → e < 8 → cyclic_bit text (first + e) ≡ bit_at ((high * 256 + low) / 2 ^ (8 - r)) (7 - e) =
+    λ e below.
     elim (cases_lt (r + e) 8) [
       | inl before ↦
           let place : first + e ≡ 8 * u + (r + e) = omega arith in

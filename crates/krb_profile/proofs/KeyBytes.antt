@@ -25,14 +25,17 @@ use Rattle.krb_profile.proofs.Parts.{long_key}
 digest_256 : (h : List ℕ) (n : ℕ) → AreBytes (digest_bytes_256 h n)
 unfolding digest_bytes_256
 digest_256 h zero = tt
-digest_256 h (suc n) = AreBytes-append _ _ (digest_256 h n) (omega arith, (omega arith, (omega arith, (omega arith, tt))))
+digest_256 h (suc n) =
+    AreBytes-append _ _ (digest_256 h n) (omega arith, (omega arith, (omega arith, (omega arith, tt))))
 
 digest_512 : (h : List ℕ) (n : ℕ) → AreBytes (digest_bytes_512 h n)
 unfolding digest_bytes_512
 digest_512 h zero = tt
 digest_512 h (suc n) =
-    AreBytes-append _ _ (digest_512 h n)
-    (omega arith, (omega arith, (omega arith, (omega arith, (omega arith, (omega arith, (omega arith, (omega arith, tt))))))))
+    AreBytes-append _ _ (digest_512 h n) (
+      omega arith,
+      (omega arith, (omega arith, (omega arith, (omega arith, (omega arith, (omega arith, (omega arith, tt))))))),
+    )
 
 bytes-hmac : (etype : Etype) (key text : List ℕ) → is_sha2 etype ≡ true → AreBytes (hmac_of etype key text)
 unfolding hmac_by sha256 sha384
@@ -48,12 +51,14 @@ key_inside Aes128Sha2 is = omega arith
 key_inside Aes256Sha2 is = omega arith
 
 -- a key that KDF-HMAC-SHA2 gives
-pub kdf_long : (etype : Etype) (key label : List ℕ) → is_sha2 etype ≡ true → IsKeyLong (kdf etype key label (key_len etype))
+pub kdf_long : (etype : Etype) (key label : List ℕ) → is_sha2 etype ≡ true
+    → IsKeyLong (kdf etype key label (key_len etype))
 unfolding kdf
 kdf_long etype key label is =
     long_key etype _ (length-take-le (key_len etype) _ (omega (arith, length-hmac_of etype key, key_inside etype is)))
 
-pub kdf_bytes : (etype : Etype) (key label : List ℕ) (len : ℕ) → is_sha2 etype ≡ true → AreBytes (kdf etype key label len)
+pub kdf_bytes : (etype : Etype) (key label : List ℕ) (len : ℕ) → is_sha2 etype ≡ true
+    → AreBytes (kdf etype key label len)
 unfolding kdf
 kdf_bytes etype key label len is = AreBytes-take len _ (bytes-hmac etype key _ is)
 
@@ -71,20 +76,29 @@ folded_long : (constant : List ℕ) → length (n_folded constant 16) ≡ 16
 unfolding n_folded
 folded_long constant = refl
 
-pub derived_long : (key : Key) (constant : List ℕ) → length key.bytes ≡ key_len key.etype → IsKeyLong (derived key constant)
+pub derived_long : (key : Key) (constant : List ℕ) → length key.bytes ≡ key_len key.etype
+    → IsKeyLong (derived key constant)
 unfolding derived stream
 derived_long key constant long =
     let is_long = long_key key.etype key.bytes long in
     let first = cipher key.bytes (n_folded constant 16) in
     let whole : length (first ++ cipher key.bytes first) ≡ 32 =
-    omega (arith, length-append first (cipher key.bytes first), length-cipher_at key.bytes (n_folded constant 16) is_long, length-cipher_at key.bytes first is_long) in
-    long_key key.etype _ (length-take-le (key_len key.etype) (first ++ cipher key.bytes first) (omega (arith, whole, key_fits key.etype)))
+    omega (
+      arith,
+      length-append first (cipher key.bytes first),
+      length-cipher_at key.bytes (n_folded constant 16) is_long,
+      length-cipher_at key.bytes first is_long,
+    ) in
+    long_key key.etype _
+    (length-take-le (key_len key.etype) (first ++ cipher key.bytes first) (omega (arith, whole, key_fits key.etype)))
 
-pub derived_bytes : (key : Key) (constant : List ℕ) → length key.bytes ≡ key_len key.etype → AreBytes key.bytes → AreBytes (derived key constant)
+pub derived_bytes : (key : Key) (constant : List ℕ) → length key.bytes ≡ key_len key.etype → AreBytes key.bytes
+    → AreBytes (derived key constant)
 unfolding derived stream
 derived_bytes key constant long bytes =
     let is_long = long_key key.etype key.bytes long in
     let folded = n_folded constant 16 in
     let first = bytes_of_block key.bytes is_long bytes folded (folded_long constant) (folded_bytes constant) in
-    let second = bytes_of_block key.bytes is_long bytes (cipher key.bytes folded) (length-cipher_at key.bytes folded is_long) first in
+    let second = bytes_of_block key.bytes is_long bytes (cipher key.bytes folded)
+    (length-cipher_at key.bytes folded is_long) first in
     AreBytes-take (key_len key.etype) _ (AreBytes-append _ _ first second)

@@ -1,5 +1,6 @@
 -- Lemmas on the least common multiple.
-use Rattle.std.proofs.Common.{◌≡◌, ◌≢◌, ℕ, zero, suc, ◌+◌, ◌-◌, ◌*◌, ◌%◌, ◌<◌, ◌≤◌, ◌∙◌, ap, sym, refl, inl, inr, add-one, arith}
+use Rattle.std.proofs.Common.{◌≡◌, ◌≢◌, ℕ, zero, suc, ◌+◌, ◌-◌, ◌*◌, ◌%◌, ◌<◌}
+use Rattle.std.proofs.Common.{◌≤◌, ◌∙◌, ap, sym, refl, inl, inr, add-one, arith}
 use Rattle.std.proofs.lemmas.Bool.{cases_lt, ne_eqb}
 use Rattle.std.specs.Prelude.{◌==◌, false}
 use Rattle.std.proofs.Math.Nat.{mul-mod_right}
@@ -26,7 +27,8 @@ not_last a n k within other = elim (cases_lt k a) [
       absurd (other (rw same (mul-mod_right a n)))
 ]
 
-pub first_common-later : (a n k : ℕ) → k < a → k * n % a ≢ 0 → first_common a n k (a - k) ≡ first_common a n (k + 1) (a - (k + 1))
+pub first_common-later : (a n k : ℕ) → k < a → k * n % a ≢ 0
+    → first_common a n k (a - k) ≡ first_common a n (k + 1) (a - (k + 1))
 first_common-later a n k before other =
     let more : a - k ≡ suc (a - (k + 1)) = omega arith in
     ap (first_common a n k) more ∙ first_common-next a n k (a - (k + 1)) other

@@ -1,9 +1,11 @@
 -- Lemmas on bytes as a number.
-use Rattle.std.proofs.Common.{◌≡◌, ℕ, zero, suc, ◌+◌, ◌-◌, ◌*◌, ◌/◌, ◌%◌, ◌^◌, ◌<◌, ◌≤◌, ◌∙◌, ap, sym, refl, List, [], ◌∷◌, length, get_or, set, take, drop, replicate, lit<, arith}
+use Rattle.std.proofs.Common.{◌≡◌, ℕ, zero, suc, ◌+◌, ◌-◌, ◌*◌, ◌/◌, ◌%◌, ◌^◌, ◌<◌, ◌≤◌, ◌∙◌, ap, sym, refl}
+use Rattle.std.proofs.Common.{List, [], ◌∷◌, length, get_or, set, take, drop, replicate, lit<, arith}
 use Rattle.std.specs.Int.{bytes_high_first, byte_at}
 use Rattle.std.proofs.Math.Nat.{pow-suc, mul-le-mul_right}
 use Rattle.std.proofs.lemmas.Nat.{pow-add, div-mul-add, mod-mul-add}
-use Rattle.std.proofs.lemmas.List.{drop_more, drop-set-lt, length-drop, length-set, get_or-set_same, get_or-take, drop_all}
+use Rattle.std.proofs.lemmas.List.{drop_more, drop-set-lt, length-drop, length-set}
+use Rattle.std.proofs.lemmas.List.{get_or-set_same, get_or-take, drop_all}
 use Rattle.krb_profile.specs.Bytes.{number}
 use Rattle.krb_profile.specs.NFold.{number_of}
 use Rattle.krb_profile.proofs.Bits.{number_of-split}
@@ -43,7 +45,8 @@ number-bits f (x ∷ xs) start bytes =
     let first : x ≡ number_of f (8 * start) 8 = bytes 0 (omega arith) ∙ ap (λ (p : ℕ). number_of f (8 * p) 8) here in
     let many : 8 * suc (length xs) ≡ 8 + 8 * length xs = omega arith in
     let after : 8 * suc start ≡ 8 * start + 8 = omega arith in
-    let tail : number xs ≡ number_of f (8 * start + 8) (8 * length xs) = rest ∙ ap (λ (p : ℕ). number_of f p (8 * length xs)) after in
+    let tail : number xs ≡ number_of f (8 * start + 8) (8 * length xs) =
+    rest ∙ ap (λ (p : ℕ). number_of f p (8 * length xs)) after in
     rw (many, number_of-split f (8 * start) 8 (8 * length xs), ← first, ← tail) refl
 
 -- the place of a byte by its weight
@@ -68,7 +71,8 @@ bytes_high_first-number (x ∷ xs) above bytes =
     rw (whole, first, bytes_high_first-number xs (above * 256 + x) tail_bytes) refl
 
 -- one byte of a sum, with the carry from behind it
-pub one_byte_added : (p x y c q r v old addend carried : ℕ) → x + y + c ≡ 256 * q + r → v + p * c ≡ old + addend + carried →
+pub one_byte_added : (p x y c q r v old addend carried : ℕ) → x + y + c ≡ 256 * q + r
+    → v + p * c ≡ old + addend + carried →
     r * p + v + p * 256 * q ≡ (x * p + old) + (y * p + addend) + carried
 one_byte_added p x y c q r v old addend carried total so_far =
     let scaled = ap (λ (z : ℕ). p * z) total in
@@ -113,10 +117,12 @@ one_more_added sum old addend i x y carry carried same_sum same_addend some insi
     let before : length written - j ≡ suc m = omega (arith, length-set sum j r) in
     let weight : 2 ^ (8 * (length written - j)) ≡ 2 ^ (8 * m) * 256 = rw before (weight-suc m) in
     let behind : length sum - i ≡ m = omega arith in
-    let known : number (drop i sum) + 2 ^ (8 * m) * carry ≡ number (drop i old) + number (drop i addend) + carried = rw behind at so_far in
+    let known : number (drop i sum) + 2 ^ (8 * m) * carry ≡ number (drop i old) + number (drop i addend) + carried =
+    rw behind at so_far in
     let total : x + y + carry ≡ 256 * q + r = omega arith in
     rw (of_sum, of_old, of_addend, weight)
-    (one_byte_added (2 ^ (8 * m)) x y carry q r (number (drop i sum)) (number (drop i old)) (number (drop i addend)) carried total known)
+    (one_byte_added (2 ^ (8 * m)) x y carry q r (number (drop i sum)) (number (drop i old))
+    (number (drop i addend)) carried total known)
 
 -- at the end of two lists there is nothing but the carry
 pub nothing_added : (sum addend : List ℕ) (carried : ℕ) → length addend ≡ length sum →

@@ -1,5 +1,6 @@
 -- Lemmas on the sum of the pieces.
-use Rattle.std.proofs.Common.{◌≡◌, ℕ, zero, suc, ◌+◌, ◌-◌, ◌*◌, ◌/◌, ◌^◌, ◌<◌, ◌≤◌, sym, inl, inr, List, length, get_or, add-one, arith}
+use Rattle.std.proofs.Common.{◌≡◌, ℕ, zero, suc, ◌+◌, ◌-◌, ◌*◌, ◌/◌, ◌^◌, ◌<◌, ◌≤◌}
+use Rattle.std.proofs.Common.{sym, inl, inr, List, length, get_or, add-one, arith}
 use Rattle.std.specs.Int.{bytes_high_first}
 use Rattle.std.proofs.lemmas.Bool.{cases_lt}
 use Rattle.std.proofs.lemmas.Nat.{pow_pos}
@@ -29,7 +30,8 @@ one_more_piece text old new piece n many carry result some new_len new_bytes is_
     let large = weight-large n some in
     let m = 2 ^ (8 * n) - 1 in
     let new_below : number new < 2 ^ (8 * n) = rw new_len at (number-lt new new_bytes) in
-    let piece_below : number piece < 2 ^ (8 * n) = rw is_piece (number_of-lt (copied_bit text) (8 * (many * n)) (8 * n) (copied_bit-lt text)) in
+    let piece_below : number piece < 2 ^ (8 * n) =
+    rw is_piece (number_of-lt (copied_bit text) (8 * (many * n)) (8 * n) (copied_bit-lt text)) in
     let carried : number new + (m + 1) * result ≡ residue m (sum_of_pieces text n many) + number piece =
     let all : m + 1 ≡ 2 ^ (8 * n) = omega arith in
     rw all (omega (arith, so_far, total)) in
@@ -38,7 +40,8 @@ one_more_piece text old new piece n many carry result some new_len new_bytes is_
     rw (add-one many, ← is_piece) added
 
 -- with nothing more to add, the bytes are the n-fold
-pub last_carry : (text old new : List ℕ) (n many carry result : ℕ) → 1 ≤ n → length new ≡ n → ((k : ℕ) → get_or new k 0 < 256) →
+pub last_carry : (text old new : List ℕ) (n many carry result : ℕ) → 1 ≤ n → length new ≡ n
+    → ((k : ℕ) → get_or new k 0 < 256) →
     many ≡ least_common_multiple (length text) n / n → result ≤ 1 →
     number old + carry ≡ residue (2 ^ (8 * n) - 1) (sum_of_pieces text n many) →
     number new + 2 ^ (8 * n) * result ≡ number old + 0 + carry →
@@ -58,5 +61,6 @@ last_carry text old new n many carry result some new_len new_bytes all small so_
           absurd (omega (arith, same, so_far, few, large))
     ] in
     let alone : 0 * 2 ^ (8 * length new) + number new ≡ number new = omega arith in
-    let bytes : bytes_high_first (length new) (number new) ≡ new = rw alone at (bytes_high_first-number new 0 new_bytes) in
+    let bytes : bytes_high_first (length new) (number new) ≡ new =
+    rw alone at (bytes_high_first-number new 0 new_bytes) in
     rw (← all, ← folded) (sym (rw new_len at bytes))

@@ -14,7 +14,8 @@ residue-unique m (suc s) v q some few split =
     rw rest (omega arith)
 
 -- a number from 1 on by its residue
-pub residue-split : (m s : ℕ) → 1 ≤ m → (suc s ≡ m * (s / m) + residue m (suc s)) × (1 ≤ residue m (suc s)) × (residue m (suc s) ≤ m)
+pub residue-split : (m s : ℕ) → 1 ≤ m
+    → (suc s ≡ m * (s / m) + residue m (suc s)) × (1 ≤ residue m (suc s)) × (residue m (suc s) ≤ m)
 unfolding residue
 residue-split m s some =
     let whole = div-add-mod s m in
@@ -39,7 +40,8 @@ residue-add_to_zero m (suc p) w c few carried total =
       | inr one ↦ let c_one : c ≡ 1 = omega arith in let same = rw c_one at total in absurd (omega (arith, same))
     ]
 
-residue-add_to_more : (m s r q p w c : ℕ) → 1 ≤ r → r ≤ m → p ≤ m → w ≤ m → c ≤ 1 → s ≡ m * q + r → w + (m + 1) * c ≡ r + p →
+residue-add_to_more : (m s r q p w c : ℕ) → 1 ≤ r → r ≤ m → p ≤ m → w ≤ m → c ≤ 1 → s ≡ m * q + r
+    → w + (m + 1) * c ≡ r + p →
     w + c ≡ residue m (s + p)
 residue-add_to_more m s r q p w c given most few below carried split total =
     elim (cases_lt c 1) [
@@ -50,10 +52,14 @@ residue-add_to_more m s r q p w c given most few below carried split total =
       | inr one ↦
           let c_one : c ≡ 1 = omega arith in
           let same = rw c_one at total in
-          sym (residue-unique m (s + p) (w + c) (q + 1) (omega (arith, same)) (omega (arith, same)) (omega (arith, same)))
+          sym (residue-unique m (s + p) (w + c) (q + 1) (omega (arith, same)) (omega (arith, same)) (omega (
+            arith,
+            same,
+          )))
     ]
 
-pub residue-add : (m s p w c : ℕ) → 1 ≤ m → p ≤ m → w ≤ m → c ≤ 1 → w + (m + 1) * c ≡ residue m s + p → w + c ≡ residue m (s + p)
+pub residue-add : (m s p w c : ℕ) → 1 ≤ m → p ≤ m → w ≤ m → c ≤ 1 → w + (m + 1) * c ≡ residue m s + p
+    → w + c ≡ residue m (s + p)
 unfolding residue
 residue-add m zero p w c some few below carried total =
     let none : 0 + p ≡ p = omega arith in

@@ -10,7 +10,8 @@ use Rattle.sha2_profile.specs.declared.faults.UnsealFault.{UnsealFault}
 use Rattle.sha2_profile.specs.declared.faults.UnsealFault.TheVariants as fault
 use Rattle.krb_profile.specs.Profile.{sealed, IsSealed, IsMistagged}
 use Rattle.krb_profile.specs.Sha1 as Sha1
-use Rattle.krb_profile.proofs.Cases.{sealed_sha1, sealed_sha2, to_sha1, to_sha2, from_sha1, from_sha2, mistagged_sha1, mistagged_sha2}
+use Rattle.krb_profile.proofs.Cases.{sealed_sha1, sealed_sha2, to_sha1, to_sha2, from_sha1}
+use Rattle.krb_profile.proofs.Cases.{from_sha2, mistagged_sha1, mistagged_sha2}
 
 map_ok : {X E : Type 0} {P Q : X → Type 0} (result : Result X E) → ((x : X) → P x → Q x) → IfOk result P → IfOk result Q
 map_ok (Ok x) f h = f x h
@@ -21,8 +22,10 @@ pub record Seals (u : KeyUse) (confounder plain : List ℕ) (result : Result (Li
   pub bytes : IfOk result (λ blob. blob ≡ sealed u.key u.usage confounder plain)
   pub sealed : IfOk result (λ blob. IsSealed u.key u.usage blob plain)
 
-pub seals_1 : (u v : KeyUse) (confounder plain : List ℕ) (result : Result (List ℕ) MemoryOut) → is_sha2 u.key.etype ≡ false → u ≡ v →
-    IfOk result (λ blob. blob ≡ Sha1.sealed u.key u.usage confounder plain) → IfOk result (λ blob. Sha1.IsSealed u.key u.usage blob plain) →
+pub seals_1 : (u v : KeyUse) (confounder plain : List ℕ) (result : Result (List ℕ) MemoryOut)
+    → is_sha2 u.key.etype ≡ false → u ≡ v →
+    IfOk result (λ blob. blob ≡ Sha1.sealed u.key u.usage confounder plain)
+    → IfOk result (λ blob. Sha1.IsSealed u.key u.usage blob plain) →
     Seals v confounder plain result
 seals_1 u v confounder plain result other same bytes is =
     subst (λ (w : KeyUse). Seals w confounder plain result) same (record {
@@ -30,8 +33,10 @@ seals_1 u v confounder plain result other same bytes is =
       sealed = map_ok result (λ blob h. from_sha1 u.key u.usage blob plain other h) is;
     })
 
-pub seals_2 : (u v : KeyUse) (confounder plain : List ℕ) (result : Result (List ℕ) MemoryOut) → is_sha2 u.key.etype ≡ true → u ≡ v →
-    IfOk result (λ blob. blob ≡ Sha2.sealed u.key u.usage confounder plain) → IfOk result (λ blob. Sha2.IsSealed u.key u.usage blob plain) →
+pub seals_2 : (u v : KeyUse) (confounder plain : List ℕ) (result : Result (List ℕ) MemoryOut)
+    → is_sha2 u.key.etype ≡ true → u ≡ v →
+    IfOk result (λ blob. blob ≡ Sha2.sealed u.key u.usage confounder plain)
+    → IfOk result (λ blob. Sha2.IsSealed u.key u.usage blob plain) →
     Seals v confounder plain result
 seals_2 u v confounder plain result kind same bytes is =
     subst (λ (w : KeyUse). Seals w confounder plain result) same (record {
@@ -44,14 +49,18 @@ pub record Unseals (u : KeyUse) (blob : List ℕ) (result : Result (List ℕ) Un
   pub ok : IfOk result (λ plain. IsSealed u.key u.usage blob plain)
   pub short : (result ≡ Err fault.Short) ↔ (length blob < 16 + tag_len u.key.etype)
   pub bad_tag : result ≡ Err fault.BadTag → IsMistagged u.key u.usage blob
-  pub after_seal : (plain : List ℕ) → IsSealed u.key u.usage blob plain → MatchResult result (λ text. text ≡ plain) (λ f. f ≡ fault.MemoryOut)
+  pub after_seal : (plain : List ℕ) → IsSealed u.key u.usage blob plain
+      → MatchResult result (λ text. text ≡ plain) (λ f. f ≡ fault.MemoryOut)
   pub wrong_tag : IsMistagged u.key u.usage blob → MatchResult result (λ _. ⊥) (λ f. f ≢ fault.Short)
   pub bad_tag_sha2 : is_sha2 u.key.etype ≡ true → IsMistagged u.key u.usage blob → result ≡ Err fault.BadTag
 
-pub unseals_1 : (u v : KeyUse) (blob : List ℕ) (result : Result (List ℕ) UnsealFault) → is_sha2 u.key.etype ≡ false → u ≡ v →
-    IfOk result (λ plain. Sha1.IsSealed u.key u.usage blob plain) → (result ≡ Err fault.Short) ↔ (length blob < 16 + tag_len u.key.etype) →
+pub unseals_1 : (u v : KeyUse) (blob : List ℕ) (result : Result (List ℕ) UnsealFault)
+    → is_sha2 u.key.etype ≡ false → u ≡ v →
+    IfOk result (λ plain. Sha1.IsSealed u.key u.usage blob plain)
+    → (result ≡ Err fault.Short) ↔ (length blob < 16 + tag_len u.key.etype) →
     (result ≡ Err fault.BadTag → Sha1.IsMistagged u.key u.usage blob) →
-    ((plain : List ℕ) → Sha1.IsSealed u.key u.usage blob plain → MatchResult result (λ text. text ≡ plain) (λ f. f ≡ fault.MemoryOut)) →
+    ((plain : List ℕ) → Sha1.IsSealed u.key u.usage blob plain
+    → MatchResult result (λ text. text ≡ plain) (λ f. f ≡ fault.MemoryOut)) →
     (Sha1.IsMistagged u.key u.usage blob → MatchResult result (λ _. ⊥) (λ f. f ≢ fault.Short)) → Unseals v blob result
 unseals_1 u v blob result other same ok short bad_tag after_seal wrong_tag =
     subst (λ (w : KeyUse). Unseals w blob result) same (record {
@@ -63,13 +72,18 @@ unseals_1 u v blob result other same ok short bad_tag after_seal wrong_tag =
       bad_tag_sha2 = λ kind m. absurd cc;
     })
 
-not_short : (result : Result (List ℕ) UnsealFault) → result ≡ Err fault.BadTag → MatchResult result (λ _. ⊥) (λ f. f ≢ fault.Short)
-not_short result e = subst (λ (r : Result (List ℕ) UnsealFault). MatchResult r (λ _. ⊥) (λ f. f ≢ fault.Short)) (sym e) (λ same. absurd cc)
+not_short : (result : Result (List ℕ) UnsealFault) → result ≡ Err fault.BadTag
+    → MatchResult result (λ _. ⊥) (λ f. f ≢ fault.Short)
+not_short result e = subst (λ (r : Result (List ℕ) UnsealFault). MatchResult r (λ _. ⊥) (λ f. f ≢ fault.Short)) (sym e)
+    (λ same. absurd cc)
 
-pub unseals_2 : (u v : KeyUse) (blob : List ℕ) (result : Result (List ℕ) UnsealFault) → is_sha2 u.key.etype ≡ true → u ≡ v →
-    IfOk result (λ plain. Sha2.IsSealed u.key u.usage blob plain) → (result ≡ Err fault.Short) ↔ (length blob < 16 + tag_len u.key.etype) →
+pub unseals_2 : (u v : KeyUse) (blob : List ℕ) (result : Result (List ℕ) UnsealFault)
+    → is_sha2 u.key.etype ≡ true → u ≡ v →
+    IfOk result (λ plain. Sha2.IsSealed u.key u.usage blob plain)
+    → (result ≡ Err fault.Short) ↔ (length blob < 16 + tag_len u.key.etype) →
     (result ≡ Err fault.BadTag) ↔ Sha2.IsMistagged u.key u.usage blob →
-    ((plain : List ℕ) → Sha2.IsSealed u.key u.usage blob plain → MatchResult result (λ text. text ≡ plain) (λ f. f ≡ fault.MemoryOut)) →
+    ((plain : List ℕ) → Sha2.IsSealed u.key u.usage blob plain
+    → MatchResult result (λ text. text ≡ plain) (λ f. f ≡ fault.MemoryOut)) →
     Unseals v blob result
 unseals_2 u v blob result kind same ok short bad_tag after_seal =
     subst (λ (w : KeyUse). Unseals w blob result) same (record {

@@ -12,22 +12,27 @@ use Rattle.sha2_profile.proofs.Parts.{begins, ends, joined_is}
 use Rattle.krb_profile.specs.Sha1.{encryption_key, integrity_key, tag, sealed, IsSealed}
 use Rattle.krb_profile.proofs.Parts.{tag_is_twelve}
 
-pub length-tag : (key : Key) (usage : ℕ) (text : List ℕ) → is_sha2 key.etype ≡ false → length (tag key usage text) ≡ tag_len key.etype
+pub length-tag : (key : Key) (usage : ℕ) (text : List ℕ) → is_sha2 key.etype ≡ false
+    → length (tag key usage text) ≡ tag_len key.etype
 unfolding tag
 length-tag key usage text other =
     let digest = length-hmac (integrity_key key usage) text in
-    length-take-le (tag_len key.etype) (hmac (integrity_key key usage) text) (omega (arith, digest, tag_is_twelve key.etype other))
+    length-take-le (tag_len key.etype) (hmac (integrity_key key usage) text)
+    (omega (arith, digest, tag_is_twelve key.etype other))
 
 -- the two parts that are written
-pub sealed_in_parts : (key : Key) (usage n : ℕ) (confounder plain text cipher found : List ℕ) → text ≡ confounder ++ plain →
-    cipher ≡ cts (encryption_key key usage) text → n ≡ tag_len key.etype → take (tag_len key.etype) found ≡ tag key usage text →
+pub sealed_in_parts : (key : Key) (usage n : ℕ) (confounder plain text cipher found : List ℕ)
+    → text ≡ confounder ++ plain →
+    cipher ≡ cts (encryption_key key usage) text → n ≡ tag_len key.etype
+    → take (tag_len key.etype) found ≡ tag key usage text →
     cipher ++ take n found ≡ sealed key usage confounder plain
 unfolding sealed
 sealed_in_parts key usage n confounder plain text cipher found is enciphered len tagged =
     rw (enciphered, len, tagged, is) refl
 
 -- what a sealed blob begins with
-pub sealed_holds : (key : Key) (usage : ℕ) (blob plain : List ℕ) → is_sha2 key.etype ≡ false → (s : IsSealed key usage blob plain) →
+pub sealed_holds : (key : Key) (usage : ℕ) (blob plain : List ℕ) → is_sha2 key.etype ≡ false
+    → (s : IsSealed key usage blob plain) →
     cts (encryption_key key usage) (s.confounder ++ plain) ≡ take (length blob - tag_len key.etype) blob
 unfolding sealed
 sealed_holds key usage blob plain other s =
@@ -35,7 +40,8 @@ sealed_holds key usage blob plain other s =
     (λ text. length-tag key usage text other) (s.confounder ++ plain) blob s.is
 
 -- and what it ends with
-pub sealed_tag : (key : Key) (usage : ℕ) (blob plain : List ℕ) → is_sha2 key.etype ≡ false → (s : IsSealed key usage blob plain) →
+pub sealed_tag : (key : Key) (usage : ℕ) (blob plain : List ℕ) → is_sha2 key.etype ≡ false
+    → (s : IsSealed key usage blob plain) →
     tag key usage (s.confounder ++ plain) ≡ drop (length blob - tag_len key.etype) blob
 unfolding sealed
 sealed_tag key usage blob plain other s =
@@ -43,8 +49,10 @@ sealed_tag key usage blob plain other s =
     (λ text. length-tag key usage text other) (s.confounder ++ plain) blob s.is
 
 -- a text that was decrypted and has its tag
-pub sealed_told : (key : Key) (usage : ℕ) (blob text : List ℕ) → is_sha2 key.etype ≡ false → 16 + tag_len key.etype ≤ length blob → AreBytes text →
-    length text ≡ length blob - tag_len key.etype → cts (encryption_key key usage) text ≡ take (length blob - tag_len key.etype) blob →
+pub sealed_told : (key : Key) (usage : ℕ) (blob text : List ℕ) → is_sha2 key.etype ≡ false
+    → 16 + tag_len key.etype ≤ length blob → AreBytes text →
+    length text ≡ length blob - tag_len key.etype
+    → cts (encryption_key key usage) text ≡ take (length blob - tag_len key.etype) blob →
     tag key usage text ≡ drop (length blob - tag_len key.etype) blob → IsSealed key usage blob (drop 16 text)
 unfolding sealed
 sealed_told key usage blob text other long bytes same holds tagged = record {

@@ -1,6 +1,7 @@
 -- n-fold (RFC 3961, section 5.1), by numbers. The bits of a text are counted from 0 at the highest bit of its first
 -- byte.
-use Rattle.std.specs.Prelude.{ℕ, zero, suc, ◌+◌, ◌-◌, ◌*◌, ◌/◌, ◌%◌, ◌^◌, ◌==◌, if◌then◌else◌, List, length, slice_index}
+use Rattle.std.specs.Prelude.{ℕ, zero, suc, ◌+◌, ◌-◌, ◌*◌, ◌/◌, ◌%◌, ◌^◌}
+use Rattle.std.specs.Prelude.{◌==◌, if◌then◌else◌, List, length, slice_index}
 use Rattle.std.specs.Int.{bit_at, bytes_high_first}
 
 -- bit i of a text
@@ -26,7 +27,8 @@ unfoldable pub first_common : ℕ → ℕ → ℕ → ℕ → ℕ
 first_common a n k zero = k * n
 first_common a n k (suc tries) = if k * n % a == 0 then k * n else first_common a n (suc k) tries
 
--- the least common multiple of two numbers from 1 on: the first multiple of n that a divides, which a n is at the latest
+-- the least common multiple of two numbers from 1 on: the first multiple of n that a divides, which a n is at the
+-- latest
 unfoldable pub least_common_multiple : ℕ → ℕ → ℕ
 least_common_multiple a n = first_common a n 1 (a - 1)
 

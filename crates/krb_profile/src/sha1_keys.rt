@@ -1,11 +1,13 @@
 //! The keys of a usage under the encryption types of RFC 3962 (RFC 3961, section 5.3).
 
-ghost use Rattle.std.specs.Prelude.{◌≡◌, ◌≢◌, ℕ, ◌+◌, ◌<◌, ◌≤◌, ◌↔◌, false, List, ◌++◌, length, take, IfOk, IsTrue, MatchResult};
+ghost use Rattle.std.specs.Prelude.{◌≡◌, ◌≢◌, ℕ, ◌+◌, ◌<◌, ◌≤◌, ◌↔◌, false, List};
+ghost use Rattle.std.specs.Prelude.{◌++◌, length, take, IfOk, IsTrue, MatchResult};
 ghost use Rattle.aes_cts.specs.BlockKeys.{AreBytes, bytes_of};
 ghost use Rattle.aes_cts.specs.Stealing.{cts};
 ghost use Rattle.kdb_base.specs.Etypes.{tag_len};
 ghost use Rattle.krb_hmac.specs.States.{IsKeyed};
-ghost use Rattle.krb_profile.specs.Sha1.{IsMistagged, IsSealed, encryption_key, integrity_key, sealed, tag as tag_of, usage_key as usage_key_of};
+ghost use Rattle.krb_profile.specs.Sha1.{IsMistagged, IsSealed, encryption_key, integrity_key};
+ghost use Rattle.krb_profile.specs.Sha1.{sealed, tag as tag_of, usage_key as usage_key_of};
 ghost use Rattle.sha1.specs.Sha1.{Holds, sha1};
 ghost use Rattle.sha2_profile.specs.Sha2.{is_sha2};
 
@@ -85,8 +87,10 @@ impl Sha1Keys {
         ensures ok { IfOk result (λ plain. IsSealed self.now.key self.now.usage blob.now plain) }
         ensures short { (result ≡ Err UnsealFault.Short) ↔ (length blob.now < 16 + tag_len self.now.key.etype) }
         ensures bad_tag { result ≡ Err UnsealFault.BadTag → IsMistagged self.now.key self.now.usage blob.now }
-        ensures after_seal { (plain : List ℕ) → IsSealed self.now.key self.now.usage blob.now plain → MatchResult result (λ text. text ≡ plain) (λ fault. fault ≡ UnsealFault.MemoryOut) }
-        ensures wrong_tag { IsMistagged self.now.key self.now.usage blob.now → MatchResult result (λ _. ⊥) (λ fault. fault ≢ UnsealFault.Short) }
+        ensures after_seal { (plain : List ℕ) → IsSealed self.now.key self.now.usage blob.now plain
+            → MatchResult result (λ text. text ≡ plain) (λ fault. fault ≡ UnsealFault.MemoryOut) }
+        ensures wrong_tag { IsMistagged self.now.key self.now.usage blob.now
+            → MatchResult result (λ _. ⊥) (λ fault. fault ≢ UnsealFault.Short) }
     {
         let tag_len = self.tag_len();
         if blob.len() < CONFOUNDER_LEN + tag_len {
@@ -127,7 +131,8 @@ impl Sha1Keys {
     fn opened(&self, alloc: Global, front: &[u8]) -> Result<Vec<u8>, MemoryOut>
         requires { 16 ≤ length front.now }
         ensures holds { IfOk result (λ text. cts (encryption_key self.now.key self.now.usage) text.items ≡ front.now) }
-        ensures only { IfOk result (λ text. (t : List ℕ) → AreBytes t → cts (encryption_key self.now.key self.now.usage) t ≡ front.now → t ≡ text.items) }
+        ensures only { IfOk result (λ text. (t : List ℕ) → AreBytes t
+            → cts (encryption_key self.now.key self.now.usage) t ≡ front.now → t ≡ text.items) }
         ensures bytes { IfOk result (λ text. AreBytes text.items) }
         ensures len { IfOk result (λ text. length text.items ≡ length front.now) }
     {

@@ -81,8 +81,10 @@ impl UsageKeys {
         ensures bad_tag { result ≡ Err UnsealFault.BadTag → IsMistagged self.now.key self.now.usage blob.now }
 
         // What was sealed is given back, and what has a wrong tag is not.
-        ensures after_seal { (plain : List ℕ) → IsSealed self.now.key self.now.usage blob.now plain → MatchResult result (λ text. text ≡ plain) (λ fault. fault ≡ UnsealFault.MemoryOut) }
-        ensures wrong_tag { IsMistagged self.now.key self.now.usage blob.now → MatchResult result (λ _. ⊥) (λ fault. fault ≢ UnsealFault.Short) }
+        ensures after_seal { (plain : List ℕ) → IsSealed self.now.key self.now.usage blob.now plain
+            → MatchResult result (λ text. text ≡ plain) (λ fault. fault ≡ UnsealFault.MemoryOut) }
+        ensures wrong_tag { IsMistagged self.now.key self.now.usage blob.now
+            → MatchResult result (λ _. ⊥) (λ fault. fault ≢ UnsealFault.Short) }
         // Under the types 19 and 20 the tag is judged before memory is asked for.
         ensures bad_tag_sha2 { is_sha2 self.now.key.etype ≡ true → IsMistagged self.now.key self.now.usage blob.now
             → result ≡ Err UnsealFault.BadTag }
@@ -125,10 +127,13 @@ pub fn unseal(alloc: Global, key: &PlainKey, usage: u32, blob: &[u8]) -> Result<
     ensures bad_tag { result ≡ Err UnsealFault.BadTag → IsMistagged key.now usage blob.now }
 
     // What was sealed is given back, and what has a wrong tag is not.
-    ensures after_seal { (plain : List ℕ) → IsSealed key.now usage blob.now plain → MatchResult result (λ text. text ≡ plain) (λ fault. fault ≡ UnsealFault.MemoryOut) }
-    ensures wrong_tag { IsMistagged key.now usage blob.now → MatchResult result (λ _. ⊥) (λ fault. fault ≢ UnsealFault.Short) }
+    ensures after_seal { (plain : List ℕ) → IsSealed key.now usage blob.now plain
+        → MatchResult result (λ text. text ≡ plain) (λ fault. fault ≡ UnsealFault.MemoryOut) }
+    ensures wrong_tag { IsMistagged key.now usage blob.now
+        → MatchResult result (λ _. ⊥) (λ fault. fault ≢ UnsealFault.Short) }
     // Under the types 19 and 20 the tag is judged before memory is asked for.
-    ensures bad_tag_sha2 { is_sha2 key.now.etype ≡ true → IsMistagged key.now usage blob.now → result ≡ Err UnsealFault.BadTag }
+    ensures bad_tag_sha2 { is_sha2 key.now.etype ≡ true → IsMistagged key.now usage blob.now
+        → result ≡ Err UnsealFault.BadTag }
 {
     UsageKeys::new(key, usage).unseal(alloc, blob)
 }

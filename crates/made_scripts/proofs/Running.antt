@@ -17,15 +17,20 @@ use Rattle.made_scripts.specs.declared.summaries.Summary.{Summary}
 use Rattle.made_scripts.specs.declared.words.Script.{Script}
 
 -- what was told of a script that is played over what was made is what is told of the script
-pub told_whole : {E : Type 0} (r : Result Summary E) (script : Script) (draws : Draws) (o : Opened) (left : Option Draws) → IsMade draws o left
-    → IfOk r (λ summary. summary ≡ summary_behind script.count (played (lines_of script) (progress (seen (place_of o) (first_state own_spec (moment_in draws) (block_in draws))) (behind_command draws) no_tally)))
+pub told_whole : {E : Type 0} (r : Result Summary E) (script : Script) (draws : Draws) (o : Opened)
+    (left : Option Draws) → IsMade draws o left
+    → IfOk r (λ summary. summary ≡ summary_behind script.count (played (lines_of script) (progress
+    (seen (place_of o) (first_state own_spec (moment_in draws) (block_in draws))) (behind_command draws) no_tally)))
     → IfOk r (λ summary. summary ≡ summary_of script draws)
 told_whole {E} (Ok summary) script draws o left is_made told =
     told ∙ (λ i. summary_behind (sym (lines_counted script.seed 0 script.count) i)
-    (played (lines_of script) (progress (seen (is_made.place_is i) (first_state own_spec (moment_in draws) (block_in draws))) (behind_command draws) no_tally)))
+    (played (lines_of script)
+    (progress (seen (is_made.place_is i) (first_state own_spec (moment_in draws) (block_in draws)))
+    (behind_command draws) no_tally)))
 told_whole {E} (Err halt) script draws o left is_made told = tt
 
-pub own_told : (now_ : Moment) (stream : Option (ℕ → ℕ)) → now_ ≡ record { secs = 1700000000; usecs = 0 } → stream ≡ Some (key_byte (key_of (replicate 32 0)))
+pub own_told : (now_ : Moment) (stream : Option (ℕ → ℕ)) → now_ ≡ record { secs = 1700000000; usecs = 0 }
+    → stream ≡ Some (key_byte (key_of (replicate 32 0)))
     → told_draws (always now_) stream ≡ Some own_draws
 unfolding own_stream
 own_told now_ stream stands comes = λ i. told_draws (always (stands i)) (comes i)

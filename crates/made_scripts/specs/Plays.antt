@@ -1,5 +1,5 @@
--- A script as it is played: each line is a line of a session, one moment of the clock and one block of random bytes each, and what is
--- answered is counted.
+-- A script as it is played: each line is a line of a session, one moment of the clock and one block of random bytes
+-- each, and what is answered is counted.
 use Rattle.std.specs.Prelude.{ℕ, ◌+◌, ◌≡◌, Bool, List, [], ◌∷◌, Option, Some, if◌then◌else◌}
 use Rattle.kadm_session.specs.Input.{asked_by}
 use Rattle.kadm_session.specs.Steps.{draws_after, is_refusal, reply_to, seen_after}
@@ -22,7 +22,8 @@ no_tally = record { accepted = 0; refused = 0 }
 
 abbrev pub counted : Bool → Tally → Tally
 counted refused tally =
-    if refused then record { accepted = tally.accepted; refused = tally.refused + 1 } else record { accepted = tally.accepted + 1; refused = tally.refused }
+    if refused then record { accepted = tally.accepted; refused = tally.refused + 1 }
+    else record { accepted = tally.accepted + 1; refused = tally.refused }
 
 -- ---- one line after another
 
@@ -38,7 +39,8 @@ progress at draws tally = record { at = at; draws = draws; tally = tally }
 -- the steps of a session
 abbrev pub asked_more : Asked → Progress → Progress
 asked_more asked p =
-    progress (seen_after asked p.draws p.at) (draws_after asked p.draws p.at) (counted (is_refusal (reply_to asked p.draws p.at)) p.tally)
+    progress (seen_after asked p.draws p.at) (draws_after asked p.draws p.at)
+    (counted (is_refusal (reply_to asked p.draws p.at)) p.tally)
 
 -- a line is read in the realm of the database
 abbrev pub one_more : List ℕ → Progress → Progress
@@ -51,14 +53,16 @@ played (line ∷ lines) p = played lines (one_more line p)
 -- ---- what the code has of it
 
 -- this was answered, and what is open and what is left of the draws are those behind it
-pub record IsAnswered (asked : Asked) (draws : Draws) (at : Seen) (refused : Bool) (o : Opened) (left : Option Draws) : Type 0 where
+pub record IsAnswered (asked : Asked) (draws : Draws) (at : Seen) (refused : Bool) (o : Opened)
+    (left : Option Draws) : Type 0 where
   pub refused_is : refused ≡ is_refusal (reply_to asked draws at)
   pub place_is : place_of o ≡ (seen_after asked draws at).place
   pub shows : HasState o (seen_after asked draws at).state
   pub left_is : left ≡ Some (draws_after asked draws at)
 
 -- it is played up to here, and what these lines come to is the end of the whole
-pub record IsUnderWay (end : Progress) (lines : List (List ℕ)) (o : Opened) (told : Option Draws) (tally : Tally) : Type 0 where
+pub record IsUnderWay (end : Progress) (lines : List (List ℕ)) (o : Opened) (told : Option Draws)
+    (tally : Tally) : Type 0 where
   pub state : State
   pub draws : Draws
   pub shows : HasState o state

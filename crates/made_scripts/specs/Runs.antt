@@ -30,7 +30,8 @@ own_spec = record { realm = own_realm; password = None; etype = Aes256; size = 1
 -- made at the next moment and with the next block of random bytes
 abbrev pub made : Draws → Progress
 made draws =
-    progress (seen (first_place own_spec (moment_in draws) (block_in draws)) (first_state own_spec (moment_in draws) (block_in draws)))
+    progress (seen (first_place own_spec (moment_in draws) (block_in draws))
+    (first_state own_spec (moment_in draws) (block_in draws)))
     (behind_command draws) no_tally
 
 -- this was made, and what is left of the draws is what comes behind it

@@ -8,8 +8,10 @@ ghost use Rattle.made_scripts.specs.Scripts.{lines_from};
 /// A script that is played is a session of its lines, in the realm of the database at first: it ends at the same place
 /// and in the same state, and the clock and the source of random bytes have the same left.
 pub fn scripts_are_sessions()
-    ensures at { (lines : List (List ℕ)) (p : Progress) → (played lines p).at ≡ (said (map (asked_line p.at.place.realm) lines) p.draws p.at).at }
-    ensures draws { (lines : List (List ℕ)) (p : Progress) → (played lines p).draws ≡ (said (map (asked_line p.at.place.realm) lines) p.draws p.at).draws }
+    ensures at { (lines : List (List ℕ)) (p : Progress)
+        → (played lines p).at ≡ (said (map (asked_line p.at.place.realm) lines) p.draws p.at).at }
+    ensures draws { (lines : List (List ℕ)) (p : Progress)
+        → (played lines p).draws ≡ (said (map (asked_line p.at.place.realm) lines) p.draws p.at).draws }
 {}
 
 /// A script has as many lines as it is asked to have.

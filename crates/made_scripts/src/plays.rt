@@ -60,8 +60,10 @@ fn answer<K: Sink, D: Disk, C: Clock, E: Entropy>(
     requires asked { IsAsked primary.old.kept.realm asked.now }
     requires on { D.tells → IsOnDisk primary.old.kept (D.view disk.old) }
     requires whole { primary.old.kept.broken ≡ false }
-    ensures answered { (s : State) (draws : Draws) → HasState primary.old s → told_draws (C.moments clock.old) (E.stream entropy.old) ≡ Some draws
-        → IfOk result (λ refused. IsAnswered asked.now draws (seen (place_of primary.old) s) refused primary.new (told_draws (C.moments clock.new) (E.stream entropy.new))) }
+    ensures answered { (s : State) (draws : Draws) → HasState primary.old s
+        → told_draws (C.moments clock.old) (E.stream entropy.old) ≡ Some draws
+        → IfOk result (λ refused. IsAnswered asked.now draws (seen (place_of primary.old) s) refused primary.new
+        (told_draws (C.moments clock.new) (E.stream entropy.new))) }
     ensures on { D.tells → OnOk result (IsOnDisk primary.new.kept (D.view disk.new)) }
     ensures whole { OnOk result (primary.new.kept.broken ≡ false) }
 {
@@ -83,8 +85,10 @@ fn answer_alone<D: Disk, C: Clock, E: Entropy>(
     requires asked { IsAsked primary.old.kept.realm asked.now }
     requires on { D.tells → IsOnDisk primary.old.kept (D.view disk.old) }
     requires whole { primary.old.kept.broken ≡ false }
-    ensures answered { (s : State) (draws : Draws) → HasState primary.old s → told_draws (C.moments clock.old) (E.stream entropy.old) ≡ Some draws
-        → IfOk result (λ refused. IsAnswered asked.now draws (seen (place_of primary.old) s) refused primary.new (told_draws (C.moments clock.new) (E.stream entropy.new))) }
+    ensures answered { (s : State) (draws : Draws) → HasState primary.old s
+        → told_draws (C.moments clock.old) (E.stream entropy.old) ≡ Some draws
+        → IfOk result (λ refused. IsAnswered asked.now draws (seen (place_of primary.old) s) refused primary.new
+        (told_draws (C.moments clock.new) (E.stream entropy.new))) }
     ensures on { D.tells → OnOk result (IsOnDisk primary.new.kept (D.view disk.new)) }
     ensures whole { OnOk result (primary.new.kept.broken ≡ false) }
 {
@@ -103,8 +107,10 @@ fn play_line<D: Disk, C: Clock, E: Entropy>(
 ) -> Result<bool, MemoryOut>
     requires on { D.tells → IsOnDisk primary.old.kept (D.view disk.old) }
     requires whole { primary.old.kept.broken ≡ false }
-    ensures answered { (s : State) (draws : Draws) → HasState primary.old s → told_draws (C.moments clock.old) (E.stream entropy.old) ≡ Some draws
-        → IfOk result (λ refused. IsAnswered (asked_line primary.old.kept.realm line.now) draws (seen (place_of primary.old) s) refused primary.new (told_draws (C.moments clock.new) (E.stream entropy.new))) }
+    ensures answered { (s : State) (draws : Draws) → HasState primary.old s
+        → told_draws (C.moments clock.old) (E.stream entropy.old) ≡ Some draws
+        → IfOk result (λ refused. IsAnswered (asked_line primary.old.kept.realm line.now) draws
+        (seen (place_of primary.old) s) refused primary.new (told_draws (C.moments clock.new) (E.stream entropy.new))) }
     ensures on { D.tells → OnOk result (IsOnDisk primary.new.kept (D.view disk.new)) }
     ensures whole { OnOk result (primary.new.kept.broken ≡ false) }
 {
@@ -124,8 +130,10 @@ fn play_number<D: Disk, C: Clock, E: Entropy>(
 ) -> Result<bool, MemoryOut>
     requires on { D.tells → IsOnDisk primary.old.kept (D.view disk.old) }
     requires whole { primary.old.kept.broken ≡ false }
-    ensures answered { (s : State) (draws : Draws) → HasState primary.old s → told_draws (C.moments clock.old) (E.stream entropy.old) ≡ Some draws
-        → IfOk result (λ refused. IsAnswered (asked_line primary.old.kept.realm (line_at seed number)) draws (seen (place_of primary.old) s) refused primary.new (told_draws (C.moments clock.new) (E.stream entropy.new))) }
+    ensures answered { (s : State) (draws : Draws) → HasState primary.old s
+        → told_draws (C.moments clock.old) (E.stream entropy.old) ≡ Some draws
+        → IfOk result (λ refused. IsAnswered (asked_line primary.old.kept.realm (line_at seed number)) draws
+        (seen (place_of primary.old) s) refused primary.new (told_draws (C.moments clock.new) (E.stream entropy.new))) }
     ensures on { D.tells → OnOk result (IsOnDisk primary.new.kept (D.view disk.new)) }
     ensures whole { OnOk result (primary.new.kept.broken ≡ false) }
 {
@@ -144,8 +152,10 @@ pub fn play<D: Disk, C: Clock, E: Entropy>(
 ) -> Result<Tally, MemoryOut>
     requires on { D.tells → IsOnDisk primary.old.kept (D.view disk.old) }
     requires whole { primary.old.kept.broken ≡ false }
-    ensures { (s : State) (draws : Draws) → HasState primary.old s → told_draws (C.moments clock.old) (E.stream entropy.old) ≡ Some draws
-        → IfOk result (IsPlayed (played (lines_of script) (progress (seen (place_of primary.old) s) draws no_tally)) primary.new) }
+    ensures { (s : State) (draws : Draws) → HasState primary.old s
+        → told_draws (C.moments clock.old) (E.stream entropy.old) ≡ Some draws
+        → IfOk result
+        (IsPlayed (played (lines_of script) (progress (seen (place_of primary.old) s) draws no_tally)) primary.new) }
 {
     let mut tally = Tally {
         accepted: 0,

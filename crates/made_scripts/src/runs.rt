@@ -50,8 +50,10 @@ fn play_through<D: Disk, C: Clock, E: Entropy>(
 ) -> Result<Summary, MemoryOut>
     requires on { D.tells → IsOnDisk primary.old.kept (D.view disk.old) }
     requires whole { primary.old.kept.broken ≡ false }
-    ensures { (s : State) (draws : Draws) → HasState primary.old s → told_draws (C.moments clock.old) (E.stream entropy.old) ≡ Some draws
-        → IfOk result (λ summary. summary ≡ summary_behind script.count (played (lines_of script) (progress (seen (place_of primary.old) s) draws no_tally))) }
+    ensures { (s : State) (draws : Draws) → HasState primary.old s
+        → told_draws (C.moments clock.old) (E.stream entropy.old) ≡ Some draws
+        → IfOk result (λ summary. summary ≡ summary_behind script.count
+        (played (lines_of script) (progress (seen (place_of primary.old) s) draws no_tally))) }
 {
     let tally = play(alloc, script, primary, disk, clock, entropy)?;
     Ok(summary_at(script.count, tally, primary))
@@ -77,8 +79,8 @@ pub fn run_over<D: Disk, C: Clock, E: Entropy>(
     play_through(alloc, script, &mut primary, disk, clock, entropy)
 }
 
-/// Runs a script over a disk, a clock and a source of random bytes of its own, all in memory, and gives the text that tells of it. It
-/// touches nothing else, so that the text is a function of the script.
+/// Runs a script over a disk, a clock and a source of random bytes of its own, all in memory, and gives the text that
+/// tells of it. It touches nothing else, so that the text is a function of the script.
 ///
 /// # Errors
 ///

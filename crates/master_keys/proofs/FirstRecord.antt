@@ -20,7 +20,8 @@ use Rattle.master_keys.proofs.Rising.{rising_none, rising_one}
 version_one : IsVersion 1
 version_one = record { some = omega arith; short = omega arith }
 
-module _ (realm : List ℕ) (key : Key) (secs : ℕ) (confounder : List ℕ) (u : Unwraps key key.etype (wrapped key key confounder) key) where
+module _ (realm : List ℕ) (key : Key) (secs : ℕ) (confounder : List ℕ)
+    (u : Unwraps key key.etype (wrapped key key confounder) key) where
   pub first_chain : IsChain (first_record realm key secs confounder) (record { version = 1; key = key } ∷ [])
   unfolding first_record
   first_chain = record {
@@ -43,7 +44,8 @@ module _ (realm : List ℕ) (key : Key) (secs : ℕ) (confounder : List ℕ) (u 
   part_fits : secs < 2 ^ 32 → IsPart (record { activations = record { version = 1; secs = secs } ∷ []; aux = [] })
   part_fits lt = record {
     activations = record {
-      each = All-cons IsActivation (record { version = 1; secs = secs }) [] (record { version = version_one; secs = lt }) (All-nil IsActivation);
+      each = All-cons IsActivation (record { version = 1; secs = secs }) []
+          (record { version = version_one; secs = lt }) (All-nil IsActivation);
       rising = rising_one 1;
     };
     activations_short = omega (arith, length-activations_text (record { version = 1; secs = secs } ∷ []));
@@ -51,18 +53,34 @@ module _ (realm : List ℕ) (key : Key) (secs : ℕ) (confounder : List ℕ) (u 
     aux_short = omega (arith, length-aux_keys_text []);
   }
 
-  pub first_spelled : IsPrinted (master_name realm) → IsPrinted (admin_name realm) → secs < 2 ^ 32 → IsPrinc (first_record realm key secs confounder)
+  pub first_spelled : IsPrinted (master_name realm) → IsPrinted (admin_name realm) → secs < 2 ^ 32
+      → IsPrinc (first_record realm key secs confounder)
   unfolding first_record are_attributes are_ordered begins_at are_falling
   first_spelled master admin lt = record {
     name = master;
     attributes = refl;
     attributes_short = omega arith;
     lives = record { max_life = omega arith; max_renew = omega arith; expire = omega arith; pw_expire = omega arith };
-    facts = record { pw_changed = lt; modified = lt; modifier = admin; mkvno = version_one; chain_there = sym master_is; chain = part_fits lt; strings = no_strings; no_strings = λ _. refl };
+    facts = record {
+      pw_changed = lt;
+      modified = lt;
+      modifier = admin;
+      mkvno = version_one;
+      chain_there = sym master_is;
+      chain = part_fits lt;
+      strings = no_strings;
+      no_strings = λ _. refl;
+    };
     keys = record {
       few = omega arith;
-      each = All-cons IsKey (record { kvno = 1; etype = key.etype; salt = Normal; wrapped = wrapped key key confounder }) []
-          (record { from_one = omega arith; kvno = omega arith; salt = record { short = omega arith }; wrapped = short_blob u })
+      each = All-cons IsKey
+          (record { kvno = 1; etype = key.etype; salt = Normal; wrapped = wrapped key key confounder }) []
+          (record {
+            from_one = omega arith;
+            kvno = omega arith;
+            salt = record { short = omega arith };
+            wrapped = short_blob u;
+          })
           (All-nil IsKey);
       ordered = refl;
     };

@@ -11,11 +11,15 @@ use Rattle.master_keys.specs.First.{master_name, admin_name}
 pub master_printed : (realm : List ℕ) → IsRealm realm → IsPrinted (master_name realm)
 unfolding master_name printed_parts printed_text printed_byte is_sign can_stand is_refused
 master_printed realm is =
-    let parts : List (List ℕ) = codes "K" ∷ codes "M" ∷ [] in
-    (name_in parts realm, (is_name_in parts realm is (λ e. absurd cc) (omega arith) refl (omega arith), sym (prints_in parts realm is)))
+    let parts : List (List ℕ) = codes "K" ∷ codes "M" ∷ [] in (
+      name_in parts realm,
+      (is_name_in parts realm is (λ e. absurd cc) (omega arith) refl (omega arith), sym (prints_in parts realm is)),
+    )
 
 pub admin_printed : (realm : List ℕ) → IsRealm realm → IsPrinted (admin_name realm)
 unfolding admin_name printed_parts printed_text printed_byte is_sign can_stand is_refused
 admin_printed realm is =
-    let parts : List (List ℕ) = codes "admin" ∷ codes "local" ∷ [] in
-    (name_in parts realm, (is_name_in parts realm is (λ e. absurd cc) (omega arith) refl (omega arith), sym (prints_in parts realm is)))
+    let parts : List (List ℕ) = codes "admin" ∷ codes "local" ∷ [] in (
+      name_in parts realm,
+      (is_name_in parts realm is (λ e. absurd cc) (omega arith) refl (omega arith), sym (prints_in parts realm is)),
+    )

@@ -1,5 +1,5 @@
--- A new newest master key, as MIT's kdb5_util add_mkey makes it: the record has it first, wrapped under itself, and each older key
--- wrapped anew under it, and its auxiliary list has it under each of the older ones.
+-- A new newest master key, as MIT's kdb5_util add_mkey makes it: the record has it first, wrapped under itself, and
+-- each older key wrapped anew under it, and its auxiliary list has it under each of the older ones.
 use Rattle.std.specs.Prelude.{◌≢◌, ℕ, ◌+◌, List, [], ◌∷◌, ◌++◌, length, map, Option, Some, None, option_map, reverse}
 use Rattle.std.specs.List.{All, Contains}
 use Rattle.kdb_base.specs.Key.{Key}
@@ -20,7 +20,8 @@ next_version masters = last_version masters + 1
 
 -- the new key under itself, with the first confounder
 unfoldable pub newest_item : ℕ → Key → List ℕ → KeyItem
-newest_item version key random = record { kvno = version; etype = key.etype; salt = Normal; wrapped = wrapped key key (confounder random 0) }
+newest_item version key random =
+    record { kvno = version; etype = key.etype; salt = Normal; wrapped = wrapped key key (confounder random 0) }
 
 -- the keys, the newest first
 unfoldable pub newest_first : List Master → List Key
@@ -28,16 +29,19 @@ newest_first masters = map (λ m. m.key) (reverse masters)
 
 -- the new key under a master key, with these 16 bytes
 unfoldable pub aux_key : Key → List ℕ → Master → AuxKey
-aux_key key bytes master = record { version = master.version; etype = key.etype; wrapped = wrapped master.key key bytes }
+aux_key key bytes master =
+    record { version = master.version; etype = key.etype; wrapped = wrapped master.key key bytes }
 
 -- the new key under each of the master keys, with the confounders from a place on
 unfoldable pub aux_keys : Key → List ℕ → ℕ → List Master → List AuxKey
 aux_keys key random place [] = []
-aux_keys key random place (master ∷ masters) = aux_key key (confounder random place) master ∷ aux_keys key random (place + 1) masters
+aux_keys key random place (master ∷ masters) =
+    aux_key key (confounder random place) master ∷ aux_keys key random (place + 1) masters
 
 -- the keys of the record: the new one, and the old ones in their order
 unfoldable pub added_keys : ℕ → List KeyItem → List Master → Key → List ℕ → List KeyItem
-added_keys version items masters key random = newest_item version key random ∷ with_keys key random 1 items (newest_first masters)
+added_keys version items masters key random =
+    newest_item version key random ∷ with_keys key random 1 items (newest_first masters)
 
 abbrev pub with_aux : List AuxKey → ChainPart → ChainPart
 with_aux aux part = record part { aux = aux }

@@ -1,6 +1,6 @@
--- The master keys of a database, as MIT's kdb5_util add_mkey leaves them at K/M: the entry has each of them by version, the greatest
--- first, wrapped under the newest, and its auxiliary list has the newest, wrapped under each older one. So whoever holds one of
--- them opens all.
+-- The master keys of a database, as MIT's kdb5_util add_mkey leaves them at K/M: the entry has each of them by version,
+-- the greatest first, wrapped under the newest, and its auxiliary list has the newest, wrapped under each older one. So
+-- whoever holds one of them opens all.
 use Rattle.std.specs.Prelude.{◌≡◌, ◌≢◌, ℕ, List, [], ◌∷◌, ◌++◌, map, reverse, Some}
 use Rattle.std.specs.List.{AllZip, Contains}
 use Rattle.kdb_base.specs.Key.{Key}
@@ -58,8 +58,8 @@ pub record LeadsTo (entry : Princ) (version : ℕ) (key newest : Key) : Type 0 w
   pub itself : version ≡ entry.mkvno → newest ≡ key
   pub by_aux : version ≢ entry.mkvno → HasAux entry (record { version = version; key = key }) newest
 
--- the key of this version opens these master keys of the entry: it leads to the newest, under which the entry has them by falling
--- versions, and the one of this version is this key
+-- the key of this version opens these master keys of the entry: it leads to the newest, under which the entry has them
+-- by falling versions, and the one of this version is this key
 pub record Opens (entry : Princ) (version : ℕ) (key : Key) (masters : List Master) : Type 0 where
   pub newest : Key
   pub leads : LeadsTo entry version key newest

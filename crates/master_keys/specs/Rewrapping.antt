@@ -34,7 +34,8 @@ with_keys master random place (item ∷ items) (key ∷ keys) =
     with_key master (confounder random place) item key ∷ with_keys master random (place + 1) items keys
 
 -- the record with each of its keys under another master key, of this version, and all else as it was
-pub record IsRewrapped (princ : Princ) (old : Key) (version : ℕ) (fresh : Key) (random : List ℕ) (result : Princ) : Type 0 where
+pub record IsRewrapped (princ : Princ) (old : Key) (version : ℕ) (fresh : Key) (random : List ℕ)
+    (result : Princ) : Type 0 where
   pub plain : List Key
   pub held : AllZip (Holds old) princ.keys plain
   pub is : result ≡ record princ { mkvno = version; keys = with_keys fresh random 0 princ.keys plain }

@@ -1,5 +1,5 @@
--- A key wrapped under a master key: its length in two bytes, the lowest first, as MIT's kdb5_util writes it, and the key sealed
--- with usage 0 (RFC 3961, section 5.3; RFC 8009, section 5).
+-- A key wrapped under a master key: its length in two bytes, the lowest first, as MIT's kdb5_util writes it, and the
+-- key sealed with usage 0 (RFC 3961, section 5.3; RFC 8009, section 5).
 use Rattle.std.specs.Prelude.{◌≡◌, ℕ, ◌+◌, List, ◌++◌, length}
 use Rattle.kdb_base.specs.Etypes.{key_len, tag_len}
 use Rattle.kdb_base.specs.Key.{Key}

@@ -5,7 +5,9 @@ ghost use Rattle.std.specs.List.{AllZip};
 ghost use Rattle.kdb_base.specs.Limits.{most_masters};
 ghost use Rattle.kdb_base.specs.Versions.{AreRising};
 ghost use Rattle.princ_record.specs.Princs.{IsPrinc};
-ghost use Rattle.master_keys.specs.Adding.{AreListed, IsInactive, activations_in, added_keys, added_masters, added_record, aux_key, aux_keys, newest_first, newest_item, next_version, with_aux};
+ghost use Rattle.master_keys.specs.Adding.{AreListed, IsInactive, activations_in, added_keys};
+ghost use Rattle.master_keys.specs.Adding.{added_masters, added_record, aux_key, aux_keys};
+ghost use Rattle.master_keys.specs.Adding.{newest_first, newest_item, next_version, with_aux};
 ghost use Rattle.master_keys.specs.Chain.{IsAuxOf, IsChain};
 ghost use Rattle.master_keys.specs.Rewrapping.{Holds};
 ghost use Rattle.master_keys.specs.Versions.{last_version};
@@ -136,7 +138,11 @@ fn with_newest(
     keys: Vec<KeyItem>,
     aux: AuxList,
 ) -> Result<Princ, MemoryOut>
-    ensures { IfOk result (λ p. p ≡ record entry.now { mkvno = version; keys = keys.items; chain = option_map (with_aux aux) entry.now.chain }) }
+    ensures { IfOk result (λ p. p ≡ record entry.now {
+      mkvno = version;
+      keys = keys.items;
+      chain = option_map (with_aux aux) entry.now.chain;
+    }) }
 {
     let mut added = with_master(alloc, entry, version, keys)?;
     added.chain = with_aux(added.chain, aux);
@@ -176,7 +182,8 @@ pub fn add(
     ensures chain { IfOk result (λ both. IsChain both.0 both.1) }
     // The activations stay as they were; where they name listed versions, none names the new one.
     ensures activations { IfOk result (λ both. activations_in both.0.chain ≡ activations_in entry.now.chain) }
-    ensures inactive { AreListed masters.now (activations_in entry.now.chain) → IfOk result (λ both. IsInactive (next_version masters.now) (activations_in both.0.chain)) }
+    ensures inactive { AreListed masters.now (activations_in entry.now.chain)
+        → IfOk result (λ both. IsInactive (next_version masters.now) (activations_in both.0.chain)) }
     // A record that has a spelling gets one.
     ensures spelled { IsPrinc entry.now → IfOk result (λ both. IsPrinc both.0) }
 {

@@ -31,7 +31,12 @@ fn name_in(alloc: Global, front: &[u8], realm: &[u8]) -> Result<Blob, MemoryOut>
 /// The key of the first version, wrapped under itself.
 fn first_keys(alloc: Global, key: &PlainKey, random: &[u8]) -> Result<Keys, MemoryOut>
     requires { length random.now ≡ 16 }
-    ensures keys { IfOk result (λ keys. keys ≡ record { kvno = 1; etype = key.now.etype; salt = Normal; wrapped = wrapped key.now key.now random.now } ∷ []) }
+    ensures keys { IfOk result (λ keys. keys ≡ record {
+      kvno = 1;
+      etype = key.now.etype;
+      salt = Normal;
+      wrapped = wrapped key.now key.now random.now;
+    } ∷ []) }
     ensures unwraps { OnOk result (Unwraps key.now key.now.etype (wrapped key.now key.now random.now) key.now) }
 {
     let mut confounder = [0; 16];

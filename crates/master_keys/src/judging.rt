@@ -1,6 +1,7 @@
 //! Whether master keys are the chain of an entry.
 
-ghost use Rattle.std.specs.Prelude.{◌≡◌, ◌≢◌, ◌++◌, ◌∷◌, [], List, None, Ok, map, reverse, true, false, IfErr, IfSome, OnOk};
+ghost use Rattle.std.specs.Prelude.{◌≡◌, ◌≢◌, ◌++◌, ◌∷◌, [], List, None, Ok, map};
+ghost use Rattle.std.specs.Prelude.{reverse, true, false, IfErr, IfSome, OnOk};
 ghost use Rattle.std.specs.List.{AllZip};
 ghost use Rattle.kdb_base.specs.Key.{Key};
 ghost use Rattle.kdb_base.specs.Versions.{AreRising};
@@ -17,7 +18,8 @@ use std::alloc::Global;
 fn split_newest(masters: &[Master], version: u16) -> Option<(&Master, &[Master])>
     ensures some { IfSome result (λ parts. masters.now ≡ parts.1.now ++ parts.0.now ∷ []) }
     ensures version { IfSome result (λ parts. parts.0.now.version ≡ version) }
-    ensures none { result ≡ None → (older : List Master) (key : Key) → masters.now ≢ older ++ record { version = version; key = key } ∷ [] }
+    ensures none { result ≡ None → (older : List Master) (key : Key)
+        → masters.now ≢ older ++ record { version = version; key = key } ∷ [] }
 {
     let (newest, older) = masters.split_last()?;
     if newest.version != version {
@@ -54,7 +56,8 @@ fn check_keys(
     masters: &[Master],
 ) -> Result<(), Unopened>
     ensures ok { OnOk result (AllZip (IsKeyOf newest.now) keys.now (reverse masters.now)) }
-    ensures only { AllZip (IsKeyOf newest.now) keys.now (reverse masters.now) → IfErr result (λ fault. fault ≡ Unopened.MemoryOut) }
+    ensures only { AllZip (IsKeyOf newest.now) keys.now (reverse masters.now)
+        → IfErr result (λ fault. fault ≡ Unopened.MemoryOut) }
 {
     let mut left = masters;
     for item in keys {

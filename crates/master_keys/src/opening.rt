@@ -1,6 +1,7 @@
 //! The chain of master keys, opened by one of them.
 
-ghost use Rattle.std.specs.Prelude.{◌≡◌, ◌≢◌, ◌↔◌, ◌++◌, ◌∷◌, [], List, None, Err, map, reverse, IfErr, IfOk, IfSome, OnOk, IsTrue, MatchResult, false, nat_eq, ℕ};
+ghost use Rattle.std.specs.Prelude.{◌≡◌, ◌≢◌, ◌↔◌, ◌++◌, ◌∷◌, [], List, None, Err, map, reverse};
+ghost use Rattle.std.specs.Prelude.{IfErr, IfOk, IfSome, OnOk, IsTrue, MatchResult, false, nat_eq, ℕ};
 ghost use Rattle.std.specs.List.{All, AllZip, Contains, list_any};
 ghost use Rattle.kdb_base.specs.Key.{Key};
 ghost use Rattle.kdb_base.specs.Versions.{AreRising};
@@ -38,7 +39,8 @@ fn newest_key(
     key: &PlainKey,
 ) -> Result<PlainKey, Unopened>
     ensures ok { IfOk result (λ newest. LeadsTo entry.now version key.now newest) }
-    ensures only { (newest : Key) → LeadsTo entry.now version key.now newest → MatchResult result (λ found. found ≡ newest) (λ fault. fault ≡ Unopened.MemoryOut) }
+    ensures only { (newest : Key) → LeadsTo entry.now version key.now newest
+        → MatchResult result (λ found. found ≡ newest) (λ fault. fault ≡ Unopened.MemoryOut) }
 {
     if version == entry.mkvno {
         return Ok(*key);
@@ -55,7 +57,8 @@ fn newest_key(
 /// The master key of a key of the entry, under the newest.
 fn open_master(alloc: Global, newest: &MasterKey, item: &KeyItem) -> Result<Master, Unopened>
     ensures ok { IfOk result (λ master. IsKeyOf newest.now item.now master) }
-    ensures only { (master : Master) → IsKeyOf newest.now item.now master → MatchResult result (λ found. found ≡ master) (λ fault. fault ≡ Unopened.MemoryOut) }
+    ensures only { (master : Master) → IsKeyOf newest.now item.now master
+        → MatchResult result (λ found. found ≡ master) (λ fault. fault ≡ Unopened.MemoryOut) }
 {
     match newest.unwrap(alloc, item.etype, item.wrapped.as_slice()) {
         Ok(key) => Ok(Master {
@@ -73,7 +76,8 @@ fn open_masters(
     keys: &[KeyItem],
 ) -> Result<Vec<Master>, Unopened>
     ensures ok { IfOk result (λ masters. AllZip (IsKeyOf newest.now) keys.now masters.items) }
-    ensures only { (masters : List Master) → AllZip (IsKeyOf newest.now) keys.now masters → MatchResult result (λ found. found.items ≡ masters) (λ fault. fault ≡ Unopened.MemoryOut) }
+    ensures only { (masters : List Master) → AllZip (IsKeyOf newest.now) keys.now masters
+        → MatchResult result (λ found. found.items ≡ masters) (λ fault. fault ≡ Unopened.MemoryOut) }
 {
     let mut masters = Vec::new(alloc);
     for item in keys {
@@ -108,7 +112,8 @@ fn open_chain(
     key: &PlainKey,
 ) -> Result<Masters, Unopened>
     ensures ok { IfOk result (λ masters. Opens entry.now version key.now masters) }
-    ensures only { (masters : List Master) → Opens entry.now version key.now masters → MatchResult result (λ found. found ≡ masters) (λ fault. fault ≡ Unopened.MemoryOut) }
+    ensures only { (masters : List Master) → Opens entry.now version key.now masters
+        → MatchResult result (λ found. found ≡ masters) (λ fault. fault ≡ Unopened.MemoryOut) }
 {
     let newest = newest_key(alloc, entry, version, key)?;
     let newest = MasterKey::new(&newest);
@@ -138,15 +143,20 @@ pub fn open_with(
 ) -> Result<Masters, ChainFault>
     ensures ok { IfOk result (λ masters. Opens entry.now version key.now masters) }
     // The entry has the versions of the masters, the greatest first.
-    ensures versions { IfOk result (λ masters. map (λ k. k.kvno) entry.now.keys ≡ reverse (map (λ m. m.version) masters)) }
+    ensures versions { IfOk result
+        (λ masters. map (λ k. k.kvno) entry.now.keys ≡ reverse (map (λ m. m.version) masters)) }
     // What the key opens is opened, unless memory runs out.
-    ensures complete { (masters : List Master) → Opens entry.now version key.now masters → MatchResult result (λ found. found ≡ masters) (λ fault. fault ≡ ChainFault.MemoryOut) }
+    ensures complete { (masters : List Master) → Opens entry.now version key.now masters
+        → MatchResult result (λ found. found ≡ masters) (λ fault. fault ≡ ChainFault.MemoryOut) }
     // From each version of a chain its key opens that chain, unless memory runs out.
-    ensures chain { (masters : List Master) → IsChain entry.now masters → Lists masters version key.now → MatchResult result (λ found. found ≡ masters) (λ fault. fault ≡ ChainFault.MemoryOut) }
-    ensures unknown { (asked : ℕ) → result ≡ Err (ChainFault.UnknownMaster asked) → ¬ HasVersion entry.now.keys version }
+    ensures chain { (masters : List Master) → IsChain entry.now masters → Lists masters version key.now
+        → MatchResult result (λ found. found ≡ masters) (λ fault. fault ≡ ChainFault.MemoryOut) }
+    ensures unknown { (asked : ℕ) → result ≡ Err (ChainFault.UnknownMaster asked)
+        → ¬ HasVersion entry.now.keys version }
     ensures only_unknown { ¬ HasVersion entry.now.keys version → result ≡ Err (ChainFault.UnknownMaster version) }
     ensures known { result ≡ Err ChainFault.StashWrong → HasVersion entry.now.keys version }
-    ensures wrong { result ≡ Err ChainFault.StashWrong → (masters : List Master) → ¬ Opens entry.now version key.now masters }
+    ensures wrong { result ≡ Err ChainFault.StashWrong → (masters : List Master)
+        → ¬ Opens entry.now version key.now masters }
 {
     if !has_version(entry.keys.as_slice(), version) {
         return Err(ChainFault::UnknownMaster { version });

@@ -5,7 +5,8 @@ ghost use Rattle.std.specs.List.{All, AllZip};
 ghost use Rattle.kdb_base.specs.Key.{Key};
 ghost use Rattle.kdb_base.specs.Limits.{most_keys};
 ghost use Rattle.princ_record.specs.Princs.{IsPrinc};
-ghost use Rattle.master_keys.specs.Rewrapping.{HoldNotAll, Holds, HoldsOne, IsRewrapped, confounder, with_key, with_keys};
+ghost use Rattle.master_keys.specs.Rewrapping.{HoldNotAll, Holds, HoldsOne, IsRewrapped};
+ghost use Rattle.master_keys.specs.Rewrapping.{confounder, with_key, with_keys};
 
 use crate::faults::{ChainFault, Unopened};
 use crate::wrapping::MasterKey;
@@ -91,7 +92,8 @@ pub fn open_keys(
 ) -> Result<Vec<PlainKey>, Unopened>
     ensures ok { IfOk result (λ keys. AllZip (Holds master.now) items.now keys.items) }
     // What the items hold is given, unless memory runs out.
-    ensures only { (plain : List Key) → AllZip (Holds master.now) items.now plain → MatchResult result (λ keys. keys.items ≡ plain) (λ fault. fault ≡ Unopened.MemoryOut) }
+    ensures only { (plain : List Key) → AllZip (Holds master.now) items.now plain
+        → MatchResult result (λ keys. keys.items ≡ plain) (λ fault. fault ≡ Unopened.MemoryOut) }
     ensures wrong { result ≡ Err Unopened.Wrong → HoldNotAll master.now items.now }
 {
     let mut keys = Vec::new(alloc);
@@ -138,7 +140,8 @@ pub fn rewrap_by(
     requires { length princ.now.keys ≤ most_keys }
     ensures ok { IfOk result (λ p. IsRewrapped princ.now old.now version fresh.now random.now p) }
     // The keys that it held under `old` it holds under `fresh`.
-    ensures only { (plain : List Key) → AllZip (Holds old.now) princ.now.keys plain → IfOk result (λ p. AllZip (Holds fresh.now) p.keys plain) }
+    ensures only { (plain : List Key) → AllZip (Holds old.now) princ.now.keys plain
+        → IfOk result (λ p. AllZip (Holds fresh.now) p.keys plain) }
     // A record other than K/M's that has a spelling gets one, under a version from 1.
     ensures spelled { IsPrinc princ.now → princ.now.chain ≡ None → 0 < version → IfOk result (λ p. IsPrinc p) }
     // Where each key unwraps, only memory can be wanted.
@@ -177,7 +180,8 @@ pub fn rewrap(
     requires { length princ.now.keys ≤ most_keys }
     ensures ok { IfOk result (λ p. IsRewrapped princ.now old.now version fresh.now random.now p) }
     // The keys that it held under `old` it holds under `fresh`.
-    ensures only { (plain : List Key) → AllZip (Holds old.now) princ.now.keys plain → IfOk result (λ p. AllZip (Holds fresh.now) p.keys plain) }
+    ensures only { (plain : List Key) → AllZip (Holds old.now) princ.now.keys plain
+        → IfOk result (λ p. AllZip (Holds fresh.now) p.keys plain) }
     // A record other than K/M's that has a spelling gets one, under a version from 1.
     ensures spelled { IsPrinc princ.now → princ.now.chain ≡ None → 0 < version → IfOk result (λ p. IsPrinc p) }
     // Where each key unwraps, only memory can be wanted.

@@ -96,7 +96,9 @@ impl MasterKey {
         ensures of_type { IfOk result (λ key. key.etype ≡ etype) }
         ensures long { IfOk result (λ key. length key.bytes ≡ key_len etype) }
         ensures sealed { IfOk result (λ key. IsSealed self.now 0 text.now key.bytes) }
-        ensures only { (key : Key) → key.etype ≡ etype → length key.bytes ≡ key_len etype → IsSealed self.now 0 text.now key.bytes → MatchResult result (λ found. found ≡ key) (λ fault. fault ≡ Unopened.MemoryOut) }
+        ensures only { (key : Key)
+            → key.etype ≡ etype → length key.bytes ≡ key_len etype → IsSealed self.now 0 text.now key.bytes
+            → MatchResult result (λ found. found ≡ key) (λ fault. fault ≡ Unopened.MemoryOut) }
     {
         match self.keys.unseal(alloc, text) {
             Ok(plain) => {
@@ -118,7 +120,8 @@ impl MasterKey {
     pub fn unwrap(&self, alloc: Global, etype: Etype, blob: &[u8]) -> Result<PlainKey, Unopened>
         ensures ok { IfOk result (λ key. Unwraps self.now etype blob.now key) }
         // What was wrapped is given back, unless memory runs out.
-        ensures only { (key : Key) → Unwraps self.now etype blob.now key → MatchResult result (λ found. found ≡ key) (λ fault. fault ≡ Unopened.MemoryOut) }
+        ensures only { (key : Key) → Unwraps self.now etype blob.now key
+            → MatchResult result (λ found. found ≡ key) (λ fault. fault ≡ Unopened.MemoryOut) }
         ensures wrong { result ≡ Err Unopened.Wrong → (key : Key) → ¬ Unwraps self.now etype blob.now key }
     {
         match behind_len(etype, blob) {
@@ -178,7 +181,8 @@ pub fn unwrap(
     blob: &[u8],
 ) -> Result<PlainKey, ChainFault>
     ensures ok { IfOk result (λ key. Unwraps master.now etype blob.now key) }
-    ensures after_wrap { (key : Key) → Unwraps master.now etype blob.now key → MatchResult result (λ found. found ≡ key) (λ fault. fault ≡ ChainFault.MemoryOut) }
+    ensures after_wrap { (key : Key) → Unwraps master.now etype blob.now key
+        → MatchResult result (λ found. found ≡ key) (λ fault. fault ≡ ChainFault.MemoryOut) }
     ensures wrong { result ≡ Err ChainFault.StashWrong → (key : Key) → Unwraps master.now etype blob.now key → ⊥ }
     ensures known { (version : ℕ) → result ≢ Err (ChainFault.UnknownMaster version) }
 {

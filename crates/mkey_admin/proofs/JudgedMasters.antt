@@ -45,8 +45,10 @@ why_of other (Ok planned) = other
 why_of other (Err (Refused why)) = why
 why_of other (Err (Halt halt)) = other
 
-pub planned_on : (plan : Result MasterPlan Refusal) (a b : MasterPlan) → plan ≡ Ok a → (let answer : Result MasterPlan Stop = Ok a in answer) ≡ Ok b → plan ≡ Ok b
+pub planned_on : (plan : Result MasterPlan Refusal) (a b : MasterPlan) → plan ≡ Ok a
+    → (let answer : Result MasterPlan Stop = Ok a in answer) ≡ Ok b → plan ≡ Ok b
 planned_on plan a b is same = is ∙ ap Ok (ap (planned_of a) same)
 
-pub refused_on : (plan : Result MasterPlan Refusal) (a b : Refusal) → plan ≡ Err a → (let answer : Result MasterPlan Stop = Err (Refused a) in answer) ≡ Err (Refused b) → plan ≡ Err b
+pub refused_on : (plan : Result MasterPlan Refusal) (a b : Refusal) → plan ≡ Err a
+    → (let answer : Result MasterPlan Stop = Err (Refused a) in answer) ≡ Err (Refused b) → plan ≡ Err b
 refused_on plan a b is same = is ∙ ap Err (ap (why_of a) same)

@@ -33,32 +33,40 @@ module _ (g : Given) (p : Princ) (is : IsEntry g p) where
 
   pub entry_name : p.name ≡ master_name g.realm.now
   unfolding record_named
-  entry_name = same_bytes p.name (master_name g.realm.now) (find_there (has_name (master_name g.realm.now)) g.rows.now.princs p is.there).1
+  entry_name = same_bytes p.name (master_name g.realm.now)
+      (find_there (has_name (master_name g.realm.now)) g.rows.now.princs p is.there).1
 
 -- ---- in a state
 
-module _ (g : Given) (cmd : Command) (p : Princ) (is : IsEntry g p) (s : State) (call : Call) (given : IsGiven g cmd s call) where
+module _ (g : Given) (cmd : Command) (p : Princ) (is : IsEntry g p) (s : State) (call : Call)
+    (given : IsGiven g cmd s call) where
   pub there : record_named (master_name s.realm) g.rows.now.princs ≡ Some p
   there = ap (λ r. record_named (master_name r) g.rows.now.princs) given.seen.realm_is ∙ is.there
 
   -- K/M of the state
   pub own : IsBeside (ShowsPrinc s.masters given.seen.shows.history) p (princ_named (master_name s.realm) s.princs)
   own =
-      both_beside (ShowsPrinc s.masters given.seen.shows.history) (record_named (master_name s.realm) g.rows.now.princs) (princ_named (master_name s.realm) s.princs) p
-      (found_alike s.masters given.seen.shows.history g.rows.now.princs s.princs given.seen.shows.princs (master_name s.realm)) there
+      both_beside (ShowsPrinc s.masters given.seen.shows.history) (record_named (master_name s.realm) g.rows.now.princs)
+      (princ_named (master_name s.realm) s.princs) p
+      (found_alike s.masters given.seen.shows.history g.rows.now.princs s.princs given.seen.shows.princs
+      (master_name s.realm)) there
 
   pub own_name : own.other.name ≡ master_name s.realm
   unfolding princ_named
   own_name = named_so name_of (master_name s.realm) s.princs own.other own.there
 
   pub own_chain : ShowsChain s.masters s.activations p
-  own_chain = subst (λ (e : Princ). ShowsChain s.masters s.activations e) (same_entry given.seen.shows.entry p (sym given.seen.shows.there ∙ there)) given.seen.shows.chain
+  own_chain = subst (λ (e : Princ). ShowsChain s.masters s.activations e)
+      (same_entry given.seen.shows.entry p (sym given.seen.shows.there ∙ there)) given.seen.shows.chain
 
   pub own_keys : map master_in own.other.keys ≡ reverse s.masters
-  own_keys = ap (λ (q : PlainPrinc). map master_in q.keys) (same_plain own.other given.seen.valid.masters.entry (sym own.there ∙ given.seen.valid.masters.there)) ∙ given.seen.valid.masters.keys
+  own_keys = ap (λ (q : PlainPrinc). map master_in q.keys) (same_plain own.other given.seen.valid.masters.entry
+      (sym own.there ∙ given.seen.valid.masters.there)) ∙ given.seen.valid.masters.keys
     where
       same_plain : (a b : PlainPrinc) → ◌≡◌ {A = Option PlainPrinc} (Some a) (Some b) → a ≡ b
       same_plain a b e = cc
 
   pub own_activations : (part : ChainPart) → p.chain ≡ Some part → part.activations ≡ s.activations
-  own_activations part e = ap (λ (c : ChainPart). c.activations) (same_part part own_chain.part (sym e ∙ own_chain.part_is)) ∙ own_chain.activations_are
+  own_activations part e =
+      ap (λ (c : ChainPart). c.activations) (same_part part own_chain.part (sym e ∙ own_chain.part_is))
+      ∙ own_chain.activations_are

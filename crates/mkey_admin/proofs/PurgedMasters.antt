@@ -60,7 +60,8 @@ name_stays dead p = refl
 -- ---- plans
 
 module _ (g : Given) (denied : Option Refusal) (denied_is : denied ≡ master_denied g) where
-  left : (s : State) (call : Call) (given : IsGiven g command.PurgeMasters s call) (change : Option PlainOp) → entry_of s (told_at g command.PurgeMasters given.called.clock) command.PurgeMasters ≡ change
+  left : (s : State) (call : Call) (given : IsGiven g command.PurgeMasters s call) (change : Option PlainOp)
+      → entry_of s (told_at g command.PurgeMasters given.called.clock) command.PurgeMasters ≡ change
       → refusal s (told_at g command.PurgeMasters given.called.clock) ≡ first (denied ∷ too_large s change ∷ [])
   left s call given change e =
       purge_tests s g.client.now given.called.clock g.random.now (access_of g) change e
@@ -75,12 +76,17 @@ module _ (g : Given) (denied : Option Refusal) (denied_is : denied ≡ master_de
     applies = tt;
   }
 
-  module _ (none : denied ≡ None) (p : Princ) (entry : IsEntry g p) (rows : List PurgeRow) (dead : List ℕ) (purge : IsPurge g p rows dead) where
-    told_alike : (s : State) (call : Call) (given : IsGiven g command.PurgeMasters s call) → rows ≡ purge_rows s (secs_of s (told_at g command.PurgeMasters given.called.clock))
-    told_alike s call given = purge.rows_are ∙ rows_alike g p purge.part entry purge.part_is s call given ∙ ap (purge_rows s) (sym (secs_are g command.PurgeMasters s call given))
+  module _ (none : denied ≡ None) (p : Princ) (entry : IsEntry g p) (rows : List PurgeRow) (dead : List ℕ)
+      (purge : IsPurge g p rows dead) where
+    told_alike : (s : State) (call : Call) (given : IsGiven g command.PurgeMasters s call)
+        → rows ≡ purge_rows s (secs_of s (told_at g command.PurgeMasters given.called.clock))
+    told_alike s call given = purge.rows_are ∙ rows_alike g p purge.part entry purge.part_is s call given
+        ∙ ap (purge_rows s) (sym (secs_are g command.PurgeMasters s call given))
 
-    dead_is : (s : State) (call : Call) (given : IsGiven g command.PurgeMasters s call) → dead ≡ dead_versions s (secs_of s (told_at g command.PurgeMasters given.called.clock))
-    dead_is s call given = purge.dead_are ∙ ap dead_told (told_alike s call given) ∙ dead_alike s (secs_of s (told_at g command.PurgeMasters given.called.clock))
+    dead_is : (s : State) (call : Call) (given : IsGiven g command.PurgeMasters s call)
+        → dead ≡ dead_versions s (secs_of s (told_at g command.PurgeMasters given.called.clock))
+    dead_is s call given = purge.dead_are ∙ ap dead_told (told_alike s call given)
+        ∙ dead_alike s (secs_of s (told_at g command.PurgeMasters given.called.clock))
 
     pub purge_answers : dead ≡ [] → IsMasterJudged g command.PurgeMasters (Ok (Answer (reply.MastersPurged None rows)))
     unfolding entry_of first reading_of target bytes_put
@@ -97,8 +103,10 @@ module _ (g : Given) (denied : Option Refusal) (denied_is : denied ≡ master_de
       applies = tt;
     }
 
-    module _ (some : dead ≢ []) (masters : List Master) (masters_are : masters ≡ live_masters dead g.masters.now) (chain : IsChain (purged_record dead p) (live_masters dead g.masters.now)) where
-      putting : (s : State) (call : Call) (given : IsGiven g command.PurgeMasters s call) → MasterPutting g command.PurgeMasters (purged_record dead p) masters (Purged rows) s call given
+    module _ (some : dead ≢ []) (masters : List Master) (masters_are : masters ≡ live_masters dead g.masters.now)
+        (chain : IsChain (purged_record dead p) (live_masters dead g.masters.now)) where
+      putting : (s : State) (call : Call) (given : IsGiven g command.PurgeMasters s call)
+          → MasterPutting g command.PurgeMasters (purged_record dead p) masters (Purged rows) s call given
       unfolding entry_of purges_masters kept_masters_of change_reply first
       putting s call given =
           let call_now = told_at g command.PurgeMasters given.called.clock in
@@ -108,19 +116,26 @@ module _ (g : Given) (denied : Option Refusal) (denied_is : denied ≡ master_de
           let old = own_chain g command.PurgeMasters p entry s call given in
           let same = dead_is s call given in
           let some_now : dead_versions s secs ≢ [] = (λ e. some (same ∙ e)) in
-          let made_is : purged_record dead p ≡ purged_record (dead_versions s secs) p = ap (λ (vs : List ℕ). purged_record vs p) same in
+          let made_is : purged_record dead p ≡ purged_record (dead_versions s secs) p =
+          ap (λ (vs : List ℕ). purged_record vs p) same in
           let whole : live_masters dead g.masters.now ≡ serving_masters s secs =
-          ap (λ (vs : List ℕ). live_masters vs g.masters.now) same ∙ ap (live_masters (dead_versions s secs)) (sym given.seen.masters_are) ∙ purged_serving s secs in
-          let chain_now : IsChain (purged_record dead p) (serving_masters s secs) = subst (λ (ms : List Master). IsChain (purged_record dead p) ms) whole chain in
-          let change : entry_of s call_now command.PurgeMasters ≡ Some (PutMasters (with_serving s secs q.other) (serving_masters s secs) (serving_activations s secs)) =
+          ap (λ (vs : List ℕ). live_masters vs g.masters.now) same
+          ∙ ap (live_masters (dead_versions s secs)) (sym given.seen.masters_are) ∙ purged_serving s secs in
+          let chain_now : IsChain (purged_record dead p) (serving_masters s secs) =
+          subst (λ (ms : List Master). IsChain (purged_record dead p) ms) whole chain in
+          let change : entry_of s call_now command.PurgeMasters
+          ≡ Some (PutMasters (with_serving s secs q.other) (serving_masters s secs) (serving_activations s secs)) =
           with_dead (dead_versions s secs) _ some_now ∙ rw q.there refl in
           record {
             other = with_serving s secs q.other;
             kept = serving_masters s secs;
             activations = serving_activations s secs;
-            tests = left s call given (Some (PutMasters (with_serving s secs q.other) (serving_masters s secs) (serving_activations s secs))) change ∙ rw none refl;
+            tests = left s call given
+                (Some (PutMasters (with_serving s secs q.other) (serving_masters s secs) (serving_activations s secs)))
+                change ∙ rw none refl;
             entry_is = change;
-            shows = subst (λ (r : Princ). ShowsPrinc (serving_masters s secs) given.seen.shows.history r (with_serving s secs q.other)) (sym made_is)
+            shows = subst (λ (r : Princ). ShowsPrinc (serving_masters s secs) given.seen.shows.history r
+                (with_serving s secs q.other)) (sym made_is)
                 (purged_shows s secs given.seen.shows.history p q.other q.beside keys old.chain);
             chain = left_chain s secs p dead old same given.seen.valid.activations chain_now;
             spares = record {
@@ -128,25 +143,37 @@ module _ (g : Given) (denied : Option Refusal) (denied_is : denied ≡ master_de
               same_keys = λ k d lt. others_stay s secs k d lt;
             };
             masters_are = masters_are ∙ whole;
-            exact = with_kept (dead_versions s secs) _ some_now ∙ rw (there g command.PurgeMasters p entry s call given) (ap (λ (r : Princ). Some (op.PutPrinc r)) (sym made_is));
+            exact = with_kept (dead_versions s secs) _ some_now ∙ rw (there g command.PurgeMasters p entry s call given)
+                (ap (λ (r : Princ). Some (op.PutPrinc r)) (sym made_is));
             told_is = λ point. ap (reply.MastersPurged (Some point)) (told_alike s call given);
           }
 
-      pub purges : (plan : Result MasterPlan Refusal) → IsPrinc (purged_record dead p) → IsMasterPut (purged_record dead p) masters (Purged rows) plan → IsMasterJudged g command.PurgeMasters plan
-      purges plan fits put = puts g command.PurgeMasters p (purged_record dead p) masters (Purged rows) entry fits (name_stays dead p) putting plan put
+      pub purges : (plan : Result MasterPlan Refusal) → IsPrinc (purged_record dead p)
+          → IsMasterPut (purged_record dead p) masters (Purged rows) plan → IsMasterJudged g command.PurgeMasters plan
+      purges plan fits put = puts g command.PurgeMasters p (purged_record dead p) masters (Purged rows) entry fits
+          (name_stays dead p) putting plan put
 
 -- ---- what the code makes
 
-pub newest_is_none : (g : Given) (p : Princ) (rows : List PurgeRow) (dead : List ℕ) → IsPurge g p rows dead → Contains dead (last_version g.masters.now) → ⊥
+pub newest_is_none : (g : Given) (p : Princ) (rows : List PurgeRow) (dead : List ℕ) → IsPurge g p rows dead
+    → Contains dead (last_version g.masters.now) → ⊥
 newest_is_none g p rows dead purge is =
-    newest_lives (grounds_of g purge.part.activations) (subst (λ (vs : List ℕ). Contains vs (last_version g.masters.now)) (purge.dead_are ∙ ap dead_told purge.rows_are) is)
+    newest_lives (grounds_of g purge.part.activations)
+    (subst (λ (vs : List ℕ). Contains vs (last_version g.masters.now))
+    (purge.dead_are ∙ ap dead_told purge.rows_are) is)
 
-pub purged_comes : (g : Given) (p : Princ) (rows : List PurgeRow) (dead : List ℕ) → master_denied g ≡ None → IsEntry g p → IsPurge g p rows dead → dead ≢ []
-    → (made : Princ) (masters : List Master) → made ≡ purged_record dead p → masters ≡ live_masters dead g.masters.now → IsChain made masters → IsPrinc made
-    → (plan : Result MasterPlan Refusal) → IsMasterPut made masters (Purged rows) plan → IsMasterJudged g command.PurgeMasters plan
+pub purged_comes : (g : Given) (p : Princ) (rows : List PurgeRow) (dead : List ℕ) → master_denied g ≡ None → IsEntry g p
+    → IsPurge g p rows dead → dead ≢ []
+    → (made : Princ) (masters : List Master) → made ≡ purged_record dead p → masters ≡ live_masters dead g.masters.now
+    → IsChain made masters → IsPrinc made
+    → (plan : Result MasterPlan Refusal) → IsMasterPut made masters (Purged rows) plan
+    → IsMasterJudged g command.PurgeMasters plan
 purged_comes g p rows dead allowed entry purge some made masters made_is masters_are chain fits plan put =
-    let chain_now : IsChain (purged_record dead p) (live_masters dead g.masters.now) = subst (λ (r : Princ). IsChain r (live_masters dead g.masters.now)) made_is (subst (λ (ms : List Master). IsChain made ms) masters_are chain) in
-    purges g (master_denied g) refl allowed p entry rows dead purge some masters masters_are chain_now plan (subst IsPrinc made_is fits)
+    let chain_now : IsChain (purged_record dead p) (live_masters dead g.masters.now) =
+    subst (λ (r : Princ). IsChain r (live_masters dead g.masters.now)) made_is
+    (subst (λ (ms : List Master). IsChain made ms) masters_are chain) in
+    purges g (master_denied g) refl allowed p entry rows dead purge some masters masters_are chain_now plan
+    (subst IsPrinc made_is fits)
     (subst (λ (r : Princ). IsMasterPut r masters (Purged rows) plan) made_is put)
 
 pub empty_list : (xs : List ℕ) → length xs ≡ 0 → xs ≡ []

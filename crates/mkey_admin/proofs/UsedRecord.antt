@@ -1,5 +1,6 @@
 -- K/M's record with another activation.
-use Rattle.std.proofs.Common.{◌≡◌, ℕ, ◌+◌, ◌*◌, ◌^◌, ◌<◌, ◌≤◌, Bool, List, [], ◌∷◌, ◌++◌, length, Some, sym, ap, subst, ◌∙◌, arith}
+use Rattle.std.proofs.Common.{◌≡◌, ℕ, ◌+◌, ◌*◌, ◌^◌, ◌<◌, ◌≤◌, Bool, List, [], ◌∷◌}
+use Rattle.std.proofs.Common.{◌++◌, length, Some, sym, ap, subst, ◌∙◌, arith}
 use Rattle.std.specs.Prelude.{filter, is_some, nat_lt, option_map}
 use Rattle.std.specs.List.{All, AllByRecursion}
 use Rattle.std.proofs.lemmas.List.{length-append}
@@ -21,7 +22,8 @@ use Rattle.tagged_data.specs.Versions.{IsActivation, length-activations_text}
 
 -- ---- the record with another activation has a spelling
 
-joined : (F : Activation → Type 0) (xs : List Activation) (a : Activation) (ys : List Activation) → AllByRecursion F xs → F a → AllByRecursion F ys → AllByRecursion F (xs ++ a ∷ ys)
+joined : (F : Activation → Type 0) (xs : List Activation) (a : Activation) (ys : List Activation) → AllByRecursion F xs
+    → F a → AllByRecursion F ys → AllByRecursion F (xs ++ a ∷ ys)
 joined F [] a ys h own g = (own, g)
 joined F (x ∷ xs) a ys h own g = (h.0, joined F xs a ys h.1 own g)
 
@@ -32,7 +34,8 @@ module _ (version secs : ℕ) (list : List Activation) where
   abbrev high : Activation → Bool
   high a = nat_lt version a.version
 
-  used_each : IsActivation (record { version = version; secs = secs }) → All IsActivation list → All IsActivation (with_activation version secs list)
+  used_each : IsActivation (record { version = version; secs = secs }) → All IsActivation list
+      → All IsActivation (with_activation version secs list)
   unfolding with_activation
   used_each is all =
       All-from_recursion IsActivation (filter low list ++ record { version = version; secs = secs } ∷ filter high list)
@@ -53,16 +56,19 @@ module _ (version secs : ℕ) (list : List Activation) where
       )
 
 in_row : (p : Princ) (part : ChainPart) → p.chain ≡ Some part → 6 * length part.activations ≤ length (princ p)
-in_row p part e = let chain : sizes.chain_len p.chain ≡ sizes.chain_len (Some part) = ap sizes.chain_len e in omega (arith, length-princ p, chain)
+in_row p part e = let chain : sizes.chain_len p.chain ≡ sizes.chain_len (Some part) =
+    ap sizes.chain_len e in omega (arith, length-princ p, chain)
 
-pub used_fits : (version secs : ℕ) (p : Princ) (part : ChainPart) → IsRow p → p.chain ≡ Some part → IsVersion version → secs < 2 ^ 32 → IsPrinc (kept_used (with_activation version secs part.activations) p)
+pub used_fits : (version secs : ℕ) (p : Princ) (part : ChainPart) → IsRow p → p.chain ≡ Some part → IsVersion version
+    → secs < 2 ^ 32 → IsPrinc (kept_used (with_activation version secs part.activations) p)
 used_fits version secs p part row e version_is secs_is =
     let f = row.fits in
     let used = with_activation version secs part.activations in
     let old : IsPart part = subst IsChainOr e f.facts.chain in
     let made : IsPart (with_activations used part) = record {
       activations = record {
-        each = used_each version secs part.activations (record { version = version_is; secs = secs_is }) old.activations.each;
+        each = used_each version secs part.activations
+            (record { version = version_is; secs = secs_is }) old.activations.each;
         rising = activation_rising version secs part.activations old.activations.rising;
       };
       activations_short =
@@ -71,7 +77,8 @@ used_fits version secs p part row e version_is secs_is =
       aux = old.aux;
       aux_short = old.aux_short;
     } in
-    let same : option_map (with_activations used) p.chain ≡ Some (with_activations used part) = ap (option_map (with_activations used)) e in
+    let same : option_map (with_activations used) p.chain ≡ Some (with_activations used part) =
+    ap (option_map (with_activations used)) e in
     record {
       name = f.name;
       attributes = f.attributes;

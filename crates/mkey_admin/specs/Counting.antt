@@ -9,7 +9,8 @@ use Rattle.princ_record.specs.declared.princs.Princ.{Princ}
 unfoldable pub noted : ℕ → List Master → List ℕ → List ℕ
 noted version [] counts = []
 noted version (m ∷ masters) [] = []
-noted version (m ∷ masters) (count ∷ counts) = (if nat_eq version m.version then count + 1 else count) ∷ noted version masters counts
+noted version (m ∷ masters) (count ∷ counts) =
+    (if nat_eq version m.version then count + 1 else count) ∷ noted version masters counts
 
 -- one more of the version of this record, where it is none of K/M
 abbrev pub recorded : List ℕ → Princ → List Master → List ℕ → List ℕ

@@ -1,6 +1,6 @@
--- The change of K/M's record that a command of master keys makes, exactly: new blobs are wrapped with the confounders of their places in
--- the block, and what the command does not touch stays to the byte, the modifier, the times and the expirations among it. Of other
--- commands nothing is said here.
+-- The change of K/M's record that a command of master keys makes, exactly: new blobs are wrapped with the confounders
+-- of their places in the block, and what the command does not touch stays to the byte, the modifier, the times and the
+-- expirations among it. Of other commands nothing is said here.
 use Rattle.std.specs.Prelude.{ℕ, ◌+◌, List, [], ◌∷◌, Option, None, option_map, option_and_then}
 use Rattle.std.specs.List.{last_or, slice_range}
 use Rattle.kadm_commands.specs.declared.commands.Command.{Command}
@@ -31,7 +31,8 @@ confounders etype random = slice_range random (key_len etype) (key_len etype + 1
 
 -- with a new master key of this type
 abbrev pub kept_added : Etype → List ℕ → List Master → Princ → Princ
-kept_added etype random masters p = added_record p masters (new_master etype random masters).key (confounders etype random)
+kept_added etype random masters p =
+    added_record p masters (new_master etype random masters).key (confounders etype random)
 
 -- ---- use_mkey
 
@@ -45,7 +46,8 @@ kept_used activations p = record p { chain = option_map (with_activations activa
 -- ---- the change
 
 abbrev pub on_entry : RowLists → State → (Princ → Princ) → Option Op
-on_entry rows s change = option_map (λ (p : Princ). op.PutPrinc (change p)) (record_named (master_name s.realm) rows.princs)
+on_entry rows s change =
+    option_map (λ (p : Princ). op.PutPrinc (change p)) (record_named (master_name s.realm) rows.princs)
 
 -- none where each version serves
 abbrev pub unless_none : List ℕ → Option Op → Option Op
@@ -54,9 +56,11 @@ unless_none (version ∷ versions) change = change
 
 unfoldable pub kept_masters_of : RowLists → State → Call → Command → Option Op
 kept_masters_of rows s call (command.AddMaster etype) =
-    option_and_then (λ (newest : Master). on_entry rows s (kept_added (new_etype etype newest) call.random s.masters)) (last_or None s.masters)
+    option_and_then (λ (newest : Master). on_entry rows s (kept_added (new_etype etype newest) call.random s.masters))
+    (last_or None s.masters)
 kept_masters_of rows s call (command.UseMaster c) = on_entry rows s (kept_used (used_activations s call c))
-kept_masters_of rows s call command.PurgeMasters = unless_none (dead_versions s (secs_of s call)) (on_entry rows s (purged_record (dead_versions s (secs_of s call))))
+kept_masters_of rows s call command.PurgeMasters =
+    unless_none (dead_versions s (secs_of s call)) (on_entry rows s (purged_record (dead_versions s (secs_of s call))))
 kept_masters_of rows s call _ = None
 
 abbrev pub kept_masters : RowLists → State → Call → Option Op

@@ -1,5 +1,6 @@
 -- What a command of master keys comes to, in a state and whatever the rows show.
-use Rattle.std.specs.Prelude.{ℕ, ◌≡◌, ◌≤◌, Bool, true, false, ◌||◌, nat_le, List, [], ◌∷◌, length, Option, Some, None, is_none, Result, Ok, Err, option_map}
+use Rattle.std.specs.Prelude.{ℕ, ◌≡◌, ◌≤◌, Bool, true, false, ◌||◌, nat_le, List, [], ◌∷◌}
+use Rattle.std.specs.Prelude.{length, Option, Some, None, is_none, Result, Ok, Err, option_map}
 use Rattle.command_plans.specs.Causes.{denial_of}
 use Rattle.command_plans.specs.Given.{IsAnswer, IsApplied, IsGiven}
 use Rattle.command_plans.specs.Targets.{IsTooLong}
@@ -60,8 +61,8 @@ reply_at point (Purged rows) = reply.MastersPurged (Some point) rows
 
 -- ---- in a state
 
--- The call makes a change of K/M's record, and this is it, exactly. Rows that show the state show the one behind the step once it is
--- made, with the master keys that are told, and the answer at the change's point is the step's.
+-- The call makes a change of K/M's record, and this is it, exactly. Rows that show the state show the one behind the
+-- step once it is made, with the master keys that are told, and the answer at the change's point is the step's.
 pub record IsMasterChange (rows : RowLists) (s : State) (call : Call) (c : MasterChange) : Type 0 where
   pub accepted : refusal s call ≡ None
   pub plain : PlainOp
@@ -95,11 +96,13 @@ pub record IsMasterJudged (g : Given) (command : Command) (plan : Result MasterP
 
 -- the refusal of whatever is done to K/M, where the access list does not allow it
 abbrev pub master_denied : Given → Option Refusal
-master_denied g = denial_of (option_map (λ acl. acl.now) g.acl) g.client.now (asking setting (master_parts g.realm.now) ∷ [])
+master_denied g =
+    denial_of (option_map (λ acl. acl.now) g.acl) g.client.now (asking setting (master_parts g.realm.now) ∷ [])
 
 -- no version more may be listed, or none is left
 abbrev pub masters_full : Given → Option Refusal
-masters_full g = when (nat_le most_masters (length g.masters.now) || nat_le greatest_kvno (last_version g.masters.now)) (TooManyMasters most_masters)
+masters_full g = when (nat_le most_masters (length g.masters.now) || nat_le greatest_kvno (last_version g.masters.now))
+    (TooManyMasters most_masters)
 
 -- no master key has the version
 abbrev pub version_unknown : Given → ℕ → Option Refusal
@@ -112,7 +115,13 @@ pub record IsEntry (g : Given) (p : Princ) : Type 0 where
 
 -- by what versions are judged
 abbrev pub grounds_of : Given → List Activation → Grounds
-grounds_of g activations = record { realm = g.realm.now; princs = g.rows.now.princs; masters = g.masters.now; activations = activations; secs = g.moment.secs }
+grounds_of g activations = record {
+  realm = g.realm.now;
+  princs = g.rows.now.princs;
+  masters = g.masters.now;
+  activations = activations;
+  secs = g.moment.secs;
+}
 
 -- what is told of the versions by K/M's record, and those of them that do not serve
 pub record IsPurge (g : Given) (p : Princ) (rows : List PurgeRow) (dead : List ℕ) : Type 0 where
@@ -123,5 +132,7 @@ pub record IsPurge (g : Given) (p : Princ) (rows : List PurgeRow) (dead : List �
 
 -- the change that puts this record and leaves these master keys, if the record is short enough
 abbrev pub IsMasterPut : Princ → List Master → Told → Result MasterPlan Refusal → Type 0
-IsMasterPut p masters told (Ok planned) = (planned ≡ Change (record { op = op.PutPrinc p; masters = masters; told = told })) × (length (princ p) ≤ longest_row)
+IsMasterPut p masters told (Ok planned) =
+    (planned ≡ Change (record { op = op.PutPrinc p; masters = masters; told = told }))
+    × (length (princ p) ≤ longest_row)
 IsMasterPut p masters told (Err why) = IsTooLong p why

@@ -12,7 +12,12 @@ use Rattle.serving_versions.specs.Versions.{cause_from, is_active_at}
 -- ---- list_mkeys
 
 abbrev pub master_told : List Activation → ℕ → Master → MasterRow
-master_told activations secs m = record { version = m.version; etype = m.key.etype; secs = activation_of m.version activations; active = is_active_at activations secs m.version }
+master_told activations secs m = record {
+  version = m.version;
+  etype = m.key.etype;
+  secs = activation_of m.version activations;
+  active = is_active_at activations secs m.version;
+}
 
 -- each master key, with its activation
 unfoldable pub masters_told : List Master → List Activation → ℕ → List MasterRow
@@ -24,7 +29,8 @@ masters_told masters activations secs = map (master_told activations secs) maste
 unfoldable pub counts_of : List ℕ → List Princ → List Master → List ℕ
 counts_of realm princs masters = map (λ (m : Master). records_under realm princs m.version) masters
 
--- by what purge_mkeys judges versions: the realm, the records, the master keys and their activations, and the seconds of the moment
+-- by what purge_mkeys judges versions: the realm, the records, the master keys and their activations, and the seconds
+-- of the moment
 pub record Grounds : Type 0 where
   pub realm : List ℕ
   pub princs : List Princ
@@ -33,7 +39,10 @@ pub record Grounds : Type 0 where
   pub secs : ℕ
 
 abbrev pub version_told : Grounds → Master → PurgeRow
-version_told v m = record { version = m.version; cause = cause_from (records_under v.realm v.princs m.version) v.masters v.activations v.secs m.version }
+version_told v m = record {
+  version = m.version;
+  cause = cause_from (records_under v.realm v.princs m.version) v.masters v.activations v.secs m.version;
+}
 
 -- each version, and why it serves
 unfoldable pub versions_told : Grounds → List PurgeRow

@@ -55,7 +55,8 @@ fn note_record(realm: &[u8], princ: &Princ, masters: &[Master], counts: &mut Vec
 /// How many records each version protects.
 #[tactic(auto, using(crate::proofs::Counts::none_counted, crate::proofs::Counts::counted_long, crate::proofs::Counts::counted_few, crate::proofs::Counts::row_counted))]
 pub(crate) fn counts_of(alloc: Global, given: &Given) -> Result<Vec<u32>, MemoryOut>
-    ensures { IfOk result (λ v. v.items ≡ counts_of given.now.realm.now given.now.rows.now.princs given.now.masters.now) }
+    ensures { IfOk result
+        (λ v. v.items ≡ counts_of given.now.realm.now given.now.rows.now.princs given.now.masters.now) }
 {
     let masters = given.masters.as_slice();
     let mut counts = zeros(alloc, masters)?;

@@ -71,9 +71,18 @@ pub fn plan(
     requires command { IsCommand view.now.realm.now command.now }
     requires planned { is_master_command command.now ≡ true }
     requires random { length random.now ≡ 2048 }
-    ensures refused { (s : State) (call : Call) (why : Refuses) → IsSeenBy view.now.rows.now view.now.masters.now view.now.realm.now moment s → IsCallOf s client.now (option_map (λ acl. acl.now) acl.entry) command.now moment random.now call → result ≡ Err (stop.Refused why) → refusal s call ≡ Some why }
-    ensures answer { (s : State) (call : Call) (reply : Replies) → IsSeenBy view.now.rows.now view.now.masters.now view.now.realm.now moment s → IsCallOf s client.now (option_map (λ acl. acl.now) acl.entry) command.now moment random.now call → result ≡ Ok (Answer reply) → IsAnswer s call reply }
-    ensures change { (s : State) (call : Call) (c : Changes) → IsSeenBy view.now.rows.now view.now.masters.now view.now.realm.now moment s → IsCallOf s client.now (option_map (λ acl. acl.now) acl.entry) command.now moment random.now call → result ≡ Ok (Change c) → IsMasterChange view.now.rows.now s call c }
+    ensures refused { (s : State) (call : Call) (why : Refuses)
+        → IsSeenBy view.now.rows.now view.now.masters.now view.now.realm.now moment s
+        → IsCallOf s client.now (option_map (λ acl. acl.now) acl.entry) command.now moment random.now call
+        → result ≡ Err (stop.Refused why) → refusal s call ≡ Some why }
+    ensures answer { (s : State) (call : Call) (reply : Replies)
+        → IsSeenBy view.now.rows.now view.now.masters.now view.now.realm.now moment s
+        → IsCallOf s client.now (option_map (λ acl. acl.now) acl.entry) command.now moment random.now call
+        → result ≡ Ok (Answer reply) → IsAnswer s call reply }
+    ensures change { (s : State) (call : Call) (c : Changes)
+        → IsSeenBy view.now.rows.now view.now.masters.now view.now.realm.now moment s
+        → IsCallOf s client.now (option_map (λ acl. acl.now) acl.entry) command.now moment random.now call
+        → result ≡ Ok (Change c) → IsMasterChange view.now.rows.now s call c }
     // The change has a spelling, and may be made whatever the rows show.
     ensures applies { (c : Changes) → result ≡ Ok (Change c) → IsApplied view.now.rows.now c.op }
     ensures halted { (halt : Halts) → result ≡ Err (stop.Halt halt) → halt ≡ IsMemoryOut }

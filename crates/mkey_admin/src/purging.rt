@@ -27,7 +27,11 @@ fn version_told(
     master: &Master,
 ) -> PurgeRow
     requires { at < length counts.now }
-    ensures { result ≡ record { version = master.now.version; cause = cause_from (get_or counts.now at 0) given.now.masters.now activations.now given.now.moment.secs master.now.version } }
+    ensures { result ≡ record {
+      version = master.now.version;
+      cause = cause_from (get_or counts.now at 0) given.now.masters.now activations.now given.now.moment.secs
+          master.now.version;
+    } }
 {
     let cause = cause_from(
         counts[at],

@@ -9,7 +9,8 @@ use Rattle.mkey_admin.specs.declared.planned.MasterPlan.TheVariants.{Answer, Cha
 use Rattle.mkey_tests.specs.Made.{MayBePut}
 use Rattle.princ_rows.specs.Rows.{RowLists}
 
-pub plan_may_be_put : (rows : RowLists) (plan : Result MasterPlan Stop) → ((c : MasterChange) → plan ≡ Ok (Change c) → IsApplied rows c.op)
+pub plan_may_be_put : (rows : RowLists) (plan : Result MasterPlan Stop)
+    → ((c : MasterChange) → plan ≡ Ok (Change c) → IsApplied rows c.op)
     → IfOk plan (MayBePut rows)
 plan_may_be_put rows (Ok (Answer reply)) applies = tt
 plan_may_be_put rows (Ok (Change c)) applies = applies c refl

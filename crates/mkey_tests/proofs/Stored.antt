@@ -10,15 +10,18 @@ use Rattle.rekey_work.specs.Works.{IsWork, settled_with}
 use Rattle.rekey_work.specs.declared.works.Settled.{Settled}
 use Rattle.rekey_work.specs.declared.works.Settled.TheVariants as settled
 
-split : (made : Princ) (other : Settled) (test : Bool) → IsPrinc made → MayBeStored other → MayBeStored (if test then settled.Updated made else other)
+split : (made : Princ) (other : Settled) (test : Bool) → IsPrinc made → MayBeStored other
+    → MayBeStored (if test then settled.Updated made else other)
 split made other true spelled rest = spelled
 split made other false spelled rest = rest
 
-settled_may : (now : Option Princ) (masters : List Master) (active : ℕ) (work : Work) → IsWork work → MayBeStored (settled_with now masters active work)
+settled_may : (now : Option Princ) (masters : List Master) (active : ℕ) (work : Work) → IsWork work
+    → MayBeStored (settled_with now masters active work)
 unfolding settled_with
 settled_may None masters active work w = tt
 settled_may (Some stored) masters active work w =
-    split work.made (settled.Changed (other_record stored work.taken) (other_version (Some active) work.taken)) (may_settle masters (Some active) stored work.taken)
+    split work.made (settled.Changed (other_record stored work.taken) (other_version (Some active) work.taken))
+    (may_settle masters (Some active) stored work.taken)
     w.spelled tt
 
 pub may_be_stored : (now : Option Princ) (masters : List Master) (active : ℕ) (work : Work) (s : Settled) → IsWork work

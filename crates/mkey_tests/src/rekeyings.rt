@@ -160,7 +160,8 @@ fn records_are_moved_once(rt: HostRuntime) -> Result<(), Fail> {
     check_lengths(&rt, &database, 2, &[62, 46])
 }
 
-/// Under a master key of aes128-cts-hmac-sha256-128 the tag has 16 bytes: a key of 32 bytes has 66, and one of 16 has 50.
+/// Under a master key of aes128-cts-hmac-sha256-128 the tag has 16 bytes: a key of 32 bytes has 66, and one of 16 has
+/// 50.
 #[test]
 fn tag_is_that_of_the_other_type(rt: HostRuntime) -> Result<(), Fail> {
     let mut database = check_created(&rt, rt.alloc(), &OF_TWO_TYPES)?;

@@ -12,8 +12,10 @@ pub places_changed : (ask : Ask) (op : Op) (p : Place) → places (changed ask o
 places_changed ask op p = by (is_due op p)
   where
     by : (due : Bool) → places (if due
-        then stage (reset_for (clock_of ask) op p) Anew ∷ did ask true op p (committed op (reset_point (clock_of ask) p).time (reset_for (clock_of ask) op p)) ∷ []
+        then stage (reset_for (clock_of ask) op p) Anew
+        ∷ did ask true op p (committed op (reset_point (clock_of ask) p).time (reset_for (clock_of ask) op p)) ∷ []
         else did ask false op p (committed op (moment_at (clock_of ask) p) p) ∷ [])
-        ≡ (if due then reset_for (clock_of ask) op p ∷ committed op (reset_point (clock_of ask) p).time (reset_for (clock_of ask) op p) ∷ [] else committed op (moment_at (clock_of ask) p) p ∷ [])
+        ≡ (if due then reset_for (clock_of ask) op p ∷ committed op (reset_point (clock_of ask) p).time
+        (reset_for (clock_of ask) op p) ∷ [] else committed op (moment_at (clock_of ask) p) p ∷ [])
     by true = refl
     by false = refl

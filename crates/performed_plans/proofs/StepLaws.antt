@@ -21,12 +21,18 @@ use Rattle.row_keys.specs.ShownChanges.{ShowsOp, SparesKeys}
 use Rattle.row_keys.specs.Shows.{Shows}
 
 pub record StepLaws : Type 0 where
-  pub refused : (s : State) (call : Call) (why : Refusal) → refusal s (told false call) ≡ Some why → refusal s (told true call) ≡ Some why
-  pub reading : (s : State) (call : Call) → refusal s (told false call) ≡ None → entry s call ≡ None → step s (told true call) ≡ step s (told false call)
+  pub refused : (s : State) (call : Call) (why : Refusal) → refusal s (told false call) ≡ Some why
+      → refusal s (told true call) ≡ Some why
+  pub reading : (s : State) (call : Call) → refusal s (told false call) ≡ None → entry s call ≡ None
+      → step s (told true call) ≡ step s (told false call)
   pub entry_told : (s : State) (call : Call) (due : Bool) → entry s (told due call) ≡ entry s call
-  pub accepted : (s : State) (call : Call) (op : PlainOp) → refusal s (told false call) ≡ None → entry s call ≡ Some op → is_last s.point.time ≡ false → refusal s (told true call) ≡ None
+  pub accepted : (s : State) (call : Call) (op : PlainOp) → refusal s (told false call) ≡ None → entry s call ≡ Some op
+      → is_last s.point.time ≡ false → refusal s (told true call) ≡ None
   pub valid : (s : State) (call : Call) → IsStep s call → IsValidState (step s call).state
   pub realm : (s : State) (call : Call) → (step s call).state.realm ≡ s.realm
-  pub spares : (s : State) (call : Call) (op : PlainOp) → refusal s call ≡ None → entry s call ≡ Some op → is_master_line call.command ≡ false → Spares s.realm op
-  pub shown : (rows : RowLists) (s : State) (history : Key) (o : Op) (plain : PlainOp) → Shows rows s → history_key s.realm s.princs ≡ Some history → ShowsOp s.masters history o plain → SparesKeys s plain → Shows (effect (Some o) rows) (effect_on plain s)
+  pub spares : (s : State) (call : Call) (op : PlainOp) → refusal s call ≡ None → entry s call ≡ Some op
+      → is_master_line call.command ≡ false → Spares s.realm op
+  pub shown : (rows : RowLists) (s : State) (history : Key) (o : Op) (plain : PlainOp) → Shows rows s
+      → history_key s.realm s.princs ≡ Some history → ShowsOp s.masters history o plain → SparesKeys s plain
+      → Shows (effect (Some o) rows) (effect_on plain s)
   pub ordinary : (s : State) (plain : PlainOp) → Spares s.realm plain → SparesKeys s plain

@@ -13,8 +13,8 @@ use Rattle.kdb_places.specs.Places.{Place, committed}
 use Rattle.kdb_plain.specs.declared.states.State.{State}
 use Rattle.princ_rows.specs.declared.entries.Op.{Op}
 
--- The place shows the state, the command is one that a line can give, and the change may be made: where the log is to begin anew a later
--- time is left for it, and else a serial.
+-- The place shows the state, the command is one that a line can give, and the change may be made: where the log is to
+-- begin anew a later time is left for it, and else a serial.
 pub record IsReady (p : Place) (s : State) (cmd : Command) (clock : Moment) (random : List ℕ) (op : Op) : Type 0 where
   pub shows : ShowsAt p s
   pub point : IsPoint s.point

@@ -28,19 +28,24 @@ use kdb_model::laws::{
 };
 use row_keys::laws::changed_rows_show;
 
-/// What a plan says of a state is what a primary performs of a place, for every command that rows alone decide: a refusal and an
-/// answer make no place, whether or not the log is to begin anew, and a change makes the place of its entry, behind that of a log begun
-/// anew where one is due.
+/// What a plan says of a state is what a primary performs of a place, for every command that rows alone decide: a
+/// refusal and an answer make no place, whether or not the log is to begin anew, and a change makes the place of its
+/// entry, behind that of a log begun anew where one is due.
 pub fn plans_are_performed()
-    ensures refused { (p : Place) (s : State) (client : NameParts) (access : Option (List AclLine)) (cmd : Command) (clock : Moment) (random : List ℕ) (why : Refusal)
+    ensures refused { (p : Place) (s : State) (client : NameParts) (access : Option (List AclLine)) (cmd : Command)
+        (clock : Moment) (random : List ℕ) (why : Refusal)
         → refusal s (call_of client access cmd clock random false) ≡ Some why
         → Performs p s (Commanded (call_of client access cmd clock random false)) (Replied (Refused why)) [] }
-    ensures answers { (p : Place) (s : State) (client : NameParts) (access : Option (List AclLine)) (cmd : Command) (clock : Moment) (random : List ℕ) (reply : Reply)
+    ensures answers { (p : Place) (s : State) (client : NameParts) (access : Option (List AclLine)) (cmd : Command)
+        (clock : Moment) (random : List ℕ) (reply : Reply)
         → is_planned cmd ≡ true → IsAnswer s (call_of client access cmd clock random false) reply
         → Performs p s (Commanded (call_of client access cmd clock random false)) (Replied reply) [] }
-    ensures changes { (p : Place) (s : State) (client : NameParts) (access : Option (List AclLine)) (cmd : Command) (clock : Moment) (random : List ℕ) (op : Op)
-        → is_planned cmd ≡ true → IsReady p s cmd clock random op → IsChange p.rows s (call_of client access cmd clock random false) op
-        → Performs p s (Commanded (call_of client access cmd clock random false)) (Replied (Done (entry_point clock op p))) (changed (Commanded (call_of client access cmd clock random false)) op p) }
+    ensures changes { (p : Place) (s : State) (client : NameParts) (access : Option (List AclLine)) (cmd : Command)
+        (clock : Moment) (random : List ℕ) (op : Op)
+        → is_planned cmd ≡ true → IsReady p s cmd clock random op
+        → IsChange p.rows s (call_of client access cmd clock random false) op
+        → Performs p s (Commanded (call_of client access cmd clock random false)) (Replied
+        (Done (entry_point clock op p))) (changed (Commanded (call_of client access cmd clock random false)) op p) }
 {
     new_log_moves_the_point_alone();
     step_keeps_states_valid();
@@ -48,17 +53,24 @@ pub fn plans_are_performed()
     changed_rows_show();
 }
 
-/// The same of the commands of master keys. What they answer has the point of their entry, and the master keys behind a change are
-/// those that its plan tells.
+/// The same of the commands of master keys. What they answer has the point of their entry, and the master keys behind a
+/// change are those that its plan tells.
 pub fn master_plans_are_performed()
-    ensures answers { (p : Place) (s : State) (client : NameParts) (access : Option (List AclLine)) (cmd : Command) (clock : Moment) (random : List ℕ) (reply : Reply)
+    ensures answers { (p : Place) (s : State) (client : NameParts) (access : Option (List AclLine)) (cmd : Command)
+        (clock : Moment) (random : List ℕ) (reply : Reply)
         → is_master_command cmd ≡ true → IsAnswer s (call_of client access cmd clock random false) reply
         → Performs p s (Commanded (call_of client access cmd clock random false)) (Replied reply) [] }
-    ensures changes { (p : Place) (s : State) (client : NameParts) (access : Option (List AclLine)) (cmd : Command) (clock : Moment) (random : List ℕ) (c : MasterChange)
-        → is_master_command cmd ≡ true → IsReady p s cmd clock random c.op → IsMasterChange p.rows s (call_of client access cmd clock random false) c
-        → Performs p s (Commanded (call_of client access cmd clock random false)) (Replied (reply_at (entry_point clock c.op p) c.told)) (changed (Commanded (call_of client access cmd clock random false)) c.op p) }
-    ensures masters { (p : Place) (s : State) (client : NameParts) (access : Option (List AclLine)) (cmd : Command) (clock : Moment) (random : List ℕ) (c : MasterChange)
-        → is_master_command cmd ≡ true → IsReady p s cmd clock random c.op → IsMasterChange p.rows s (call_of client access cmd clock random false) c
+    ensures changes { (p : Place) (s : State) (client : NameParts) (access : Option (List AclLine)) (cmd : Command)
+        (clock : Moment) (random : List ℕ) (c : MasterChange)
+        → is_master_command cmd ≡ true → IsReady p s cmd clock random c.op
+        → IsMasterChange p.rows s (call_of client access cmd clock random false) c
+        → Performs p s (Commanded (call_of client access cmd clock random false))
+        (Replied (reply_at (entry_point clock c.op p) c.told))
+        (changed (Commanded (call_of client access cmd clock random false)) c.op p) }
+    ensures masters { (p : Place) (s : State) (client : NameParts) (access : Option (List AclLine)) (cmd : Command)
+        (clock : Moment) (random : List ℕ) (c : MasterChange)
+        → is_master_command cmd ≡ true → IsReady p s cmd clock random c.op
+        → IsMasterChange p.rows s (call_of client access cmd clock random false) c
         → (outcome_at (Commanded (call_of client access cmd clock random false)) (seen p s)).state.masters ≡ c.masters }
 {
     new_log_moves_the_point_alone();

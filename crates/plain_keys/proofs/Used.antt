@@ -14,7 +14,8 @@ or_assoc false b c = refl
 module _ {Y : Type 0} where
   any_append : (test : Y → Bool) (xs ys : List Y) → list_any test (xs ++ ys) ≡ (list_any test xs || list_any test ys)
   any_append test [] ys = refl
-  any_append test (x ∷ xs) ys = ap (λ (b : Bool). test x || b) (any_append test xs ys) ∙ sym (or_assoc (test x) (list_any test xs) (list_any test ys))
+  any_append test (x ∷ xs) ys = ap (λ (b : Bool). test x || b) (any_append test xs ys)
+      ∙ sym (or_assoc (test x) (list_any test xs) (list_any test ys))
 
 module _ {X : Type 0} where
   kept : (p : X → Bool) (x : X) (xs : List X) → p x ≡ true → filter p (x ∷ xs) ≡ x ∷ filter p xs
@@ -25,12 +26,15 @@ module _ {X : Type 0} where
 
 module _ {X Y : Type 0} where
   -- some item of some list passes a test
-  pub any_flat : (test : Y → Bool) (f : X → List Y) (xs : List X) → list_any (λ x. list_any test (f x)) xs ≡ list_any test (flat_map f xs)
+  pub any_flat : (test : Y → Bool) (f : X → List Y) (xs : List X)
+      → list_any (λ x. list_any test (f x)) xs ≡ list_any test (flat_map f xs)
   any_flat test f [] = refl
-  any_flat test f (x ∷ xs) = ap (λ (b : Bool). list_any test (f x) || b) (any_flat test f xs) ∙ sym (any_append test (f x) (flat_map f xs))
+  any_flat test f (x ∷ xs) =
+      ap (λ (b : Bool). list_any test (f x) || b) (any_flat test f xs) ∙ sym (any_append test (f x) (flat_map f xs))
 
   -- some item passes both tests
-  pub any_kept : (test : Y → Bool) (f : X → Y) (p : X → Bool) (xs : List X) → list_any (λ x. p x && test (f x)) xs ≡ list_any test (map f (filter p xs))
+  pub any_kept : (test : Y → Bool) (f : X → Y) (p : X → Bool) (xs : List X)
+      → list_any (λ x. p x && test (f x)) xs ≡ list_any test (map f (filter p xs))
   any_kept test f p [] = refl
   any_kept test f p (x ∷ xs) =
       elim (truth (p x)) [

@@ -1,5 +1,6 @@
 -- The keys that commands make, keep and remember.
-use Rattle.std.specs.Prelude.{ℕ, ◌+◌, ◌-◌, ◌≤◌, Bool, true, false, ◌&&◌, nat_eq, nat_le, List, [], ◌∷◌, ◌++◌, map, filter, take, drop, Option, unwrap_or, if◌then◌else◌}
+use Rattle.std.specs.Prelude.{ℕ, ◌+◌, ◌-◌, ◌≤◌, Bool, true, false, ◌&&◌, nat_eq, nat_le, List, []}
+use Rattle.std.specs.Prelude.{◌∷◌, ◌++◌, map, filter, take, drop, Option, unwrap_or, if◌then◌else◌}
 use Rattle.std.specs.List.{count_by, flat_map, sum_by}
 use Rattle.kdb_base.specs.Etypes.{key_len, number_of, product_rounds}
 use Rattle.kdb_base.specs.Key.{Key, is_same_key}
@@ -70,7 +71,8 @@ unfoldable pub normal_salt : NameParts → List ℕ
 normal_salt name = name.realm ++ flat_map (λ part. part) name.parts
 
 abbrev pub password_key : List ℕ → List ℕ → Etype → Key
-password_key password salt etype = record { etype = etype; bytes = string_key etype password salt (product_rounds etype) }
+password_key password salt etype =
+    record { etype = etype; bytes = string_key etype password salt (product_rounds etype) }
 
 -- the keys of a password in each of these types
 unfoldable pub password_keys : List ℕ → List ℕ → List Etype → List Key
@@ -80,8 +82,9 @@ abbrev pub made_keys : List ℕ → NameParts → NewKeys → List Key
 made_keys random name (Random etypes) = random_keys random etypes
 made_keys random name (Password password etypes) = password_keys password (normal_salt name) etypes
 
--- the bytes that making the keys wants at the front of a random block: those of random keys, each with the 16 behind it, and none for
--- a password's. A record with these keys may draw more: each of them is kept with a confounder of 16 bytes, a password's too
+-- the bytes that making the keys wants at the front of a random block: those of random keys, each with the 16 behind
+-- it, and none for a password's. A record with these keys may draw more: each of them is kept with a confounder of 16
+-- bytes, a password's too
 abbrev pub bytes_to_make : NewKeys → ℕ
 bytes_to_make (Random etypes) = sum_by drawn_len etypes
 bytes_to_make (Password password etypes) = 0

@@ -3,7 +3,8 @@
 ghost use Rattle.std.specs.Prelude.{◌≡◌, ◌≤◌, length, map, IfOk};
 ghost use Rattle.std.specs.List.{flat_map, sum_by};
 ghost use Rattle.kdb_base.specs.Etypes.{key_len};
-ghost use Rattle.plain_keys.specs.Keys.{bytes_to_make, drawn_len, item_of, items_of, made_keys, normal_salt, password_key, password_keys, random_keys, settled_salt};
+ghost use Rattle.plain_keys.specs.Keys.{bytes_to_make, drawn_len, item_of, items_of, made_keys, normal_salt};
+ghost use Rattle.plain_keys.specs.Keys.{password_key, password_keys, random_keys, settled_salt};
 
 use crate::items::{PlainItem, PlainItems, PlainKeys};
 use kdb_base::{Blob, Etype, MemoryOut, PlainKey, Salt};

@@ -3,7 +3,8 @@
 ghost use Rattle.std.specs.Prelude.{◌≡◌, ◌||◌, IfOk, filter, map};
 ghost use Rattle.std.specs.List.{list_any};
 ghost use Rattle.policy_rules.specs.Reuse.{is_among};
-ghost use Rattle.plain_keys.specs.Keys.{has_kvno, is_item, is_reused, newest_keys, newest_kvno, newest_set, old_keys, remembered, with_newest};
+ghost use Rattle.plain_keys.specs.Keys.{has_kvno, is_item, is_reused, newest_keys, newest_kvno};
+ghost use Rattle.plain_keys.specs.Keys.{newest_set, old_keys, remembered, with_newest};
 
 use crate::items::{PlainItem, PlainKeys, PlainSet, PlainSets};
 use kdb_base::{MemoryOut, PlainKey};

@@ -11,14 +11,16 @@ use Rattle.plan_tests.specs.Steady.{MayBePut}
 use Rattle.princ_rows.specs.Rows.{RowLists}
 use Rattle.princ_rows.specs.declared.entries.Op.{Op}
 
-pub plan_may_be_put : (rows : RowLists) (plan : Result Planned Stop) → ((op : Op) → plan ≡ Ok (Change op) → IsApplied rows op)
+pub plan_may_be_put : (rows : RowLists) (plan : Result Planned Stop)
+    → ((op : Op) → plan ≡ Ok (Change op) → IsApplied rows op)
     → IfOk plan (MayBePut rows)
 plan_may_be_put rows (Ok (Answer reply)) applies = tt
 plan_may_be_put rows (Ok (Change op)) applies = applies op refl
 plan_may_be_put rows (Err stop) applies = tt
 
 -- a line that says a command says one of the realm
-pub read_is : (realm : List ℕ) (said : Option Command) (r : Result (Option Command) Stop) → r ≡ Ok said → ((c : Command) → r ≡ Ok (Some c) → IsCommand realm c)
+pub read_is : (realm : List ℕ) (said : Option Command) (r : Result (Option Command) Stop) → r ≡ Ok said
+    → ((c : Command) → r ≡ Ok (Some c) → IsCommand realm c)
     → IfSome said (IsCommand realm)
 read_is realm None r is valid = tt
 read_is realm (Some c) r is valid = valid c is

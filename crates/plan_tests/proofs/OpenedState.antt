@@ -18,9 +18,17 @@ use Rattle.row_keys.specs.Shows.{ShowsPrinc}
 use Rattle.row_keys.specs.Sound.{HasState, Judged, ShowsValid, judged}
 
 made : List ℕ → List Master → List Activation → List PlainPrinc → List Rules → Point → State
-made realm masters activations princs policies point = record { realm = realm; masters = masters; activations = activations; princs = princs; policies = policies; point = point }
+made realm masters activations princs policies point = record {
+  realm = realm;
+  masters = masters;
+  activations = activations;
+  princs = princs;
+  policies = policies;
+  point = point;
+}
 
-same_state : (t s : State) → t.realm ≡ s.realm → t.masters ≡ s.masters → t.activations ≡ s.activations → t.princs ≡ s.princs → t.policies ≡ s.policies
+same_state : (t s : State) → t.realm ≡ s.realm → t.masters ≡ s.masters → t.activations ≡ s.activations
+    → t.princs ≡ s.princs → t.policies ≡ s.policies
     → t.point ≡ s.point → t ≡ s
 unfolding made
 same_state t s realm masters activations princs policies point =
@@ -31,16 +39,21 @@ same_state t s realm masters activations princs policies point =
     ∙ ap (λ (x : List Rules). made s.realm s.masters s.activations s.princs x t.point) policies
     ∙ ap (λ (x : Point). made s.realm s.masters s.activations s.princs s.policies x) point
 
-pub state_is : (masters : List Master) (realm : List ℕ) (secs : ℕ) (rows : RowLists) (point : Point) (s t : State) → ShowsValid (judged masters realm secs) rows point s
-    → t.realm ≡ realm → t.masters ≡ masters → AreActivations realm rows.princs t.activations → AreAlone masters rows.princs t.princs → t.policies ≡ rows.policies
+pub state_is : (masters : List Master) (realm : List ℕ) (secs : ℕ) (rows : RowLists) (point : Point) (s t : State)
+    → ShowsValid (judged masters realm secs) rows point s
+    → t.realm ≡ realm → t.masters ≡ masters → AreActivations realm rows.princs t.activations
+    → AreAlone masters rows.princs t.princs → t.policies ≡ rows.policies
     → t.point ≡ point → t ≡ s
 state_is masters realm secs rows point s t f realm_is masters_are acts alone policies_are point_is =
-    let named = subst (λ (r : List ℕ). record_named (master_name r) rows.princs ≡ Some f.shows.entry) f.realm_is f.shows.there in
+    let named =
+    subst (λ (r : List ℕ). record_named (master_name r) rows.princs ≡ Some f.shows.entry) f.realm_is f.shows.there in
     same_state t s
     (realm_is ∙ sym f.realm_is)
     (masters_are ∙ sym f.masters_are)
     (acts s.masters s.activations f.shows.entry named f.shows.chain)
-    (alone f.shows.history s.princs (subst (λ (ms : List Master). AllZip (ShowsPrinc ms f.shows.history) rows.princs s.princs) f.masters_are f.shows.princs))
+    (alone f.shows.history s.princs
+    (subst (λ (ms : List Master). AllZip (ShowsPrinc ms f.shows.history) rows.princs s.princs) f.masters_are
+    f.shows.princs))
     (policies_are ∙ f.shows.policies)
     (point_is ∙ sym f.point_is)
 
@@ -50,7 +63,10 @@ point_at : Moment → Point
 point_at m = record { sno = 1; time = m }
 
 pub at_first : (m : Moment) → m ≡ record { secs = 1700000000; usecs = 0 }
-    → ◌≡◌ {A = Point} (record { sno = 1; time = m }) (record { sno = 1; time = record { secs = 1700000000; usecs = 0 } })
+    → ◌≡◌ {A = Point} (record { sno = 1; time = m }) (record {
+      sno = 1;
+      time = record { secs = 1700000000; usecs = 0 };
+    })
 unfolding point_at
 at_first m is = ap point_at is
 
@@ -61,7 +77,8 @@ pub first_point_is : IsPoint (record { sno = 1; time = record { secs = 170000000
 first_point_is = record { sno = omega arith; time = record { secs = omega arith; usecs = omega arith } }
 
 -- what is opened of sound rows is steady
-pub opened_steady : (j : Judged) (rows : RowLists) (point : Point) (t : State) → HasState j rows point → ((s : State) → ShowsValid j rows point s → t ≡ s)
+pub opened_steady : (j : Judged) (rows : RowLists) (point : Point) (t : State) → HasState j rows point
+    → ((s : State) → ShowsValid j rows point s → t ≡ s)
     → point.time.secs ≡ j.secs → IsPoint point → IsSteady t
 opened_steady j rows point t h same secs is_point =
     let s = h.state in

@@ -16,9 +16,11 @@ IsAlone masters p q = (history : Key) (other : PlainPrinc) → ShowsPrinc master
 
 -- the records show these principals and no others
 abbrev pub AreAlone : List Master → List Princ → List PlainPrinc → Type 0
-AreAlone masters princs plain = (history : Key) (others : List PlainPrinc) → AllZip (ShowsPrinc masters history) princs others → plain ≡ others
+AreAlone masters princs plain = (history : Key) (others : List PlainPrinc)
+    → AllZip (ShowsPrinc masters history) princs others → plain ≡ others
 
 -- K/M's record shows these activations and no others
 abbrev pub AreActivations : List ℕ → List Princ → List Activation → Type 0
 AreActivations realm princs activations =
-    (masters : List Master) (others : List Activation) (entry : Princ) → record_named (master_name realm) princs ≡ Some entry → ShowsChain masters others entry → activations ≡ others
+    (masters : List Master) (others : List Activation) (entry : Princ)
+    → record_named (master_name realm) princs ≡ Some entry → ShowsChain masters others entry → activations ≡ others

@@ -1,5 +1,5 @@
-//! Tests of the judge of lines over rows and of the interpreter of the model, side by side, over a database as it is made.
-//! It has no code of its own.
+//! Tests of the judge of lines over rows and of the interpreter of the model, side by side, over a database as it is
+//! made. It has no code of its own.
 #![tactic(auto)]
 
 #[cfg(test)]

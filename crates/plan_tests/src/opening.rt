@@ -89,7 +89,8 @@ pub(crate) fn opened_state(
     masters: &Masters,
     realm: &[u8],
 ) -> Result<State, Fail>
-    ensures { (s : PlainState) → ShowsValid (judged masters.now realm.now 1700000000) rows.now (record { sno = 1; time = record { secs = 1700000000; usecs = 0 } }) s → IfOk result (λ t. t ≡ s) }
+    ensures { (s : PlainState) → ShowsValid (judged masters.now realm.now 1700000000) rows.now
+        (record { sno = 1; time = record { secs = 1700000000; usecs = 0 } }) s → IfOk result (λ t. t ≡ s) }
 {
     let princs = opened_all(alloc, rows, masters)?;
     let activations = activations(alloc, rows, realm)?;

@@ -6,8 +6,8 @@ use std::alloc::Global;
 use std::process::Abort;
 use std::test::Fail;
 
-/// The lines that the remainder of the line's number by 5 chooses, each before the number of a name, and by how much that
-/// number grows with the quotient.
+/// The lines that the remainder of the line's number by 5 chooses, each before the number of a name, and by how much
+/// that number grows with the quotient.
 const KINDS: [(&str, u32); 5] = [
     ("addprinc -randkey p", 3),
     ("addprinc -nokey q", 3),

@@ -88,8 +88,8 @@ const STRINGS: [Turn; 20] = [
     ("setstr bob q q", "err 30 StringsFull 16"),
 ];
 
-/// What the random bytes of a line make is its keys; the second line has the byte 1 in its block, and the third 2. A new
-/// name leaves the salt, and old keys stay or go.
+/// What the random bytes of a line make is its keys; the second line has the byte 1 in its block, and the third 2. A
+/// new name leaves the salt, and old keys stay or go.
 const KEYS: [Turn; 12] = [
     (
         "addprinc -randkey -e aes128-sha2,aes256-cts svc",

@@ -13,21 +13,26 @@ abbrev pub same_lives : Rules → Rules → Bool
 same_lives = eq_of_both (on (λ (r : Rules). r.max_life) nat_eq) (on (λ (r : Rules). r.min_life) nat_eq)
 
 abbrev pub same_demands : Rules → Rules → Bool
-same_demands = eq_of_both (on (λ (r : Rules). r.min_length) nat_eq) (eq_of_both (on (λ (r : Rules). r.min_classes) nat_eq) (on (λ (r : Rules). r.history) nat_eq))
+same_demands = eq_of_both (on (λ (r : Rules). r.min_length) nat_eq)
+    (eq_of_both (on (λ (r : Rules). r.min_classes) nat_eq) (on (λ (r : Rules). r.history) nat_eq))
 
 -- the same name and the same numbers
 abbrev pub same_rules : Rules → Rules → Bool
 same_rules = eq_of_both (on (λ (r : Rules). r.name) (pointwise nat_eq)) (eq_of_both same_lives same_demands)
 
 same_lives_equiv : IsEquivalence same_lives
-same_lives_equiv = and_equiv (on_equiv (λ (r : Rules). r.max_life) nat_eq_equiv) (on_equiv (λ (r : Rules). r.min_life) nat_eq_equiv)
+same_lives_equiv =
+    and_equiv (on_equiv (λ (r : Rules). r.max_life) nat_eq_equiv) (on_equiv (λ (r : Rules). r.min_life) nat_eq_equiv)
 
 same_demands_equiv : IsEquivalence same_demands
 same_demands_equiv =
-    and_equiv (on_equiv (λ (r : Rules). r.min_length) nat_eq_equiv) (and_equiv (on_equiv (λ (r : Rules). r.min_classes) nat_eq_equiv) (on_equiv (λ (r : Rules). r.history) nat_eq_equiv))
+    and_equiv (on_equiv (λ (r : Rules). r.min_length) nat_eq_equiv)
+    (and_equiv (on_equiv (λ (r : Rules). r.min_classes) nat_eq_equiv)
+    (on_equiv (λ (r : Rules). r.history) nat_eq_equiv))
 
 pub same_rules_equiv : IsEquivalence same_rules
-same_rules_equiv = and_equiv (on_equiv (λ (r : Rules). r.name) nat_list_eq_equiv) (and_equiv same_lives_equiv same_demands_equiv)
+same_rules_equiv =
+    and_equiv (on_equiv (λ (r : Rules). r.name) nat_list_eq_equiv) (and_equiv same_lives_equiv same_demands_equiv)
 
 pub same_rules_partial : IsPartialEquivalence same_rules
 same_rules_partial = partial_equiv_from_equiv same_rules_equiv
@@ -36,7 +41,14 @@ same_rules_partial = partial_equiv_from_equiv same_rules_equiv
 
 abbrev made : List ℕ → ℕ → ℕ → ℕ → ℕ → ℕ → Rules
 made name max_life min_life min_length min_classes history =
-    record { name = name; max_life = max_life; min_life = min_life; min_length = min_length; min_classes = min_classes; history = history }
+    record {
+      name = name;
+      max_life = max_life;
+      min_life = min_life;
+      min_length = min_length;
+      min_classes = min_classes;
+      history = history;
+    }
 
 one_policy : (a b : Rules) → same_rules a b ≡ true → a ≡ b
 one_policy a b e =

@@ -17,10 +17,23 @@ pub record AreInRange (n : Numbers) : Type 0 where
   pub remembered : IsTrue (is_history n.history)
 
 abbrev pub numbers_of : Rules → Numbers
-numbers_of r = record { max_life = r.max_life; min_life = r.min_life; min_length = r.min_length; min_classes = r.min_classes; history = r.history }
+numbers_of r = record {
+  max_life = r.max_life;
+  min_life = r.min_life;
+  min_length = r.min_length;
+  min_classes = r.min_classes;
+  history = r.history;
+}
 
 abbrev pub rules_of : List ℕ → Numbers → Rules
-rules_of name n = record { name = name; max_life = n.max_life; min_life = n.min_life; min_length = n.min_length; min_classes = n.min_classes; history = n.history }
+rules_of name n = record {
+  name = name;
+  max_life = n.max_life;
+  min_life = n.min_life;
+  min_length = n.min_length;
+  min_classes = n.min_classes;
+  history = n.history;
+}
 
 -- what goes for a principal without a policy
 abbrev pub default_numbers : Numbers

@@ -13,4 +13,5 @@ has_few_classes n password = nat_lt (classes_in password) n.min_classes
 
 -- the length is looked at first
 abbrev pub checked : Numbers → List ℕ → Result (Unit {0}) Refusal
-checked n password = if is_short n password then Err PassTooShort else if has_few_classes n password then Err PassClasses else Ok tt
+checked n password = if is_short n password then Err PassTooShort else if has_few_classes n password
+    then Err PassClasses else Ok tt

@@ -20,11 +20,29 @@ impl Model for Numbers {
 
     ghost Value = { Numbers };
 
-    ghost view = { λ n. record { max_life = n.max_life; min_life = n.min_life; min_length = n.min_length; min_classes = n.min_classes; history = n.history } };
+    ghost view = { λ n. record {
+      max_life = n.max_life;
+      min_life = n.min_life;
+      min_length = n.min_length;
+      min_classes = n.min_classes;
+      history = n.history;
+    } };
 
-    ghost invariant = { λ n. AreInRange (record { max_life = n.max_life; min_life = n.min_life; min_length = n.min_length; min_classes = n.min_classes; history = n.history }) };
+    ghost invariant = { λ n. AreInRange (record {
+      max_life = n.max_life;
+      min_life = n.min_life;
+      min_length = n.min_length;
+      min_classes = n.min_classes;
+      history = n.history;
+    }) };
 
-    ghost inverse = { λ n. record { max_life = n.max_life; min_life = n.min_life; min_length = n.min_length; min_classes = n.min_classes; history = n.history } };
+    ghost inverse = { λ n. record {
+      max_life = n.max_life;
+      min_life = n.min_life;
+      min_length = n.min_length;
+      min_classes = n.min_classes;
+      history = n.history;
+    } };
 }
 
 impl Numbers {
@@ -39,7 +57,13 @@ impl Numbers {
         requires length { IsTrue (is_min_length min_length) }
         requires classes { IsTrue (is_min_classes min_classes) }
         requires remembered { IsTrue (is_history history) }
-        ensures { result ≡ record { max_life = max_life; min_life = min_life; min_length = min_length; min_classes = min_classes; history = history } }
+        ensures { result ≡ record {
+          max_life = max_life;
+          min_life = min_life;
+          min_length = min_length;
+          min_classes = min_classes;
+          history = history;
+        } }
     {
         Numbers {
             max_life,

@@ -79,9 +79,11 @@ pub fn has_few_classes(numbers: &Numbers, password: &[u8]) -> bool
 /// whatever its classes.
 pub fn check_numbers(numbers: &Numbers, password: &[u8]) -> Result<(), Refusal>
     ensures value { result ≡ checked numbers.now password.now }
-    ensures ok { (result ≡ Ok tt) ↔ ((numbers.now.min_length ≤ length password.now) × (numbers.now.min_classes ≤ classes_in password.now)) }
+    ensures ok { (result ≡ Ok tt)
+        ↔ ((numbers.now.min_length ≤ length password.now) × (numbers.now.min_classes ≤ classes_in password.now)) }
     ensures short { (result ≡ Err PassTooShort) ↔ (length password.now < numbers.now.min_length) }
-    ensures few { (result ≡ Err PassClasses) ↔ ((numbers.now.min_length ≤ length password.now) × (classes_in password.now < numbers.now.min_classes)) }
+    ensures few { (result ≡ Err PassClasses)
+        ↔ ((numbers.now.min_length ≤ length password.now) × (classes_in password.now < numbers.now.min_classes)) }
 {
     if is_short(numbers, password) {
         return Err(Refusal::PassTooShort);
@@ -96,9 +98,11 @@ pub fn check_numbers(numbers: &Numbers, password: &[u8]) -> Result<(), Refusal>
 /// whatever its classes.
 pub fn check_password(policy: &Policy, password: &[u8]) -> Result<(), Refusal>
     ensures value { result ≡ checked (numbers_of policy.now) password.now }
-    ensures ok { (result ≡ Ok tt) ↔ ((policy.now.min_length ≤ length password.now) × (policy.now.min_classes ≤ classes_in password.now)) }
+    ensures ok { (result ≡ Ok tt)
+        ↔ ((policy.now.min_length ≤ length password.now) × (policy.now.min_classes ≤ classes_in password.now)) }
     ensures short { (result ≡ Err PassTooShort) ↔ (length password.now < policy.now.min_length) }
-    ensures few { (result ≡ Err PassClasses) ↔ ((policy.now.min_length ≤ length password.now) × (classes_in password.now < policy.now.min_classes)) }
+    ensures few { (result ≡ Err PassClasses)
+        ↔ ((policy.now.min_length ≤ length password.now) × (classes_in password.now < policy.now.min_classes)) }
 {
     let numbers = policy.numbers();
     check_numbers(&numbers, password)

@@ -46,7 +46,14 @@ impl Policy {
         requires length { IsTrue (is_min_length min_length) }
         requires classes { IsTrue (is_min_classes min_classes) }
         requires remembered { IsTrue (is_history history) }
-        ensures { result ≡ record { name = name; max_life = max_life; min_life = min_life; min_length = min_length; min_classes = min_classes; history = history } }
+        ensures { result ≡ record {
+          name = name;
+          max_life = max_life;
+          min_life = min_life;
+          min_length = min_length;
+          min_classes = min_classes;
+          history = history;
+        } }
     {
         Policy {
             name,

@@ -9,7 +9,8 @@ use Rattle.primary_answers.specs.Listing.{fits_glob, is_told, names_told}
 use Rattle.princ_name.specs.Printed.{is_master}
 use Rattle.tagged_data.specs.KeyOrder.{AreInOrder, key_cmp}
 
-pub told_order : (glob : Option (List ℕ)) (names all : List (List ℕ)) → names ≡ names_told glob all → AreInOrder all → AreInOrder names
+pub told_order : (glob : Option (List ℕ)) (names all : List (List ℕ)) → names ≡ names_told glob all → AreInOrder all
+    → AreInOrder names
 unfolding names_told
 told_order glob names all is h = subst AreInOrder (sym is) (IsStrictlySortedBy-filter key_cmp (is_told glob) all h)
 
@@ -20,6 +21,9 @@ not_true false e = refl
 told_other : (glob : Option (List ℕ)) (name : List ℕ) → is_told glob name ≡ true → is_master name ≡ false
 told_other glob name e = not_true (is_master name) (and_parts (not (is_master name)) (fits_glob glob name) e).0
 
-pub told_others : (glob : Option (List ℕ)) (names all : List (List ℕ)) → names ≡ names_told glob all → All (λ name. is_master name ≡ false) names
+pub told_others : (glob : Option (List ℕ)) (names all : List (List ℕ)) → names ≡ names_told glob all
+    → All (λ name. is_master name ≡ false) names
 unfolding names_told
-told_others glob names all is = subst (λ (xs : List (List ℕ)). All (λ name. is_master name ≡ false) xs) (sym is) (All-weaker (λ (name : List ℕ). is_told glob name ≡ true) (λ (name : List ℕ). is_master name ≡ false) (told_other glob) (filter (is_told glob) all) (filter_passes (is_told glob) all))
+told_others glob names all is = subst (λ (xs : List (List ℕ)). All (λ name. is_master name ≡ false) xs) (sym is)
+    (All-weaker (λ (name : List ℕ). is_told glob name ≡ true) (λ (name : List ℕ). is_master name ≡ false)
+    (told_other glob) (filter (is_told glob) all) (filter_passes (is_told glob) all))

@@ -22,7 +22,8 @@ pub fn denial(
     letter: u8,
     target: Option<&Name>,
 ) -> Option<Refusal>
-    ensures { result ≡ denial_of (option_map (λ acl. acl.now) acl.entry) client.now (record { letter = letter; target = option_map (λ t. t.now) target.entry; plainly = false } ∷ []) }
+    ensures { result ≡ denial_of (option_map (λ acl. acl.now) acl.entry) client.now
+        (record { letter = letter; target = option_map (λ t. t.now) target.entry; plainly = false } ∷ []) }
 {
     match acl {
         Some(acl) => denied_in(acl, client, letter, target, false),
@@ -57,7 +58,8 @@ pub fn setting_denial(
     realm: &[u8],
 ) -> Result<Option<Refusal>, MemoryOut>
     requires { IsRealm realm.now }
-    ensures { IfOk result (λ why. why ≡ denial_of (option_map (λ acl. acl.now) acl.entry) client.now (asking setting (master_parts realm.now) ∷ [])) }
+    ensures { IfOk result (λ why. why
+        ≡ denial_of (option_map (λ acl. acl.now) acl.entry) client.now (asking setting (master_parts realm.now) ∷ [])) }
 {
     let master = master_parts(alloc, realm)?;
     Ok(denial(acl, client, b's', Some(&master)))

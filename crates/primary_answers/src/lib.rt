@@ -1,5 +1,5 @@
-//! What a primary answers of its rows and its log with no change: the names that are to be rekeyed, the replies to polls,
-//! and copies of all rows for dumps.
+//! What a primary answers of its rows and its log with no change: the names that are to be rekeyed, the replies to
+//! polls, and copies of all rows for dumps.
 #![tactic(auto)]
 
 pub mod copying;

@@ -18,7 +18,8 @@ use update_log::Log;
 
 // The time of the entry with this serial, where the log holds one.
 fn time_at(log: &Log, sno: u32) -> Option<Time>
-    ensures { (first last : At) → AreHeld first last (map entry_of log.now.held) → result ≡ time_of sno (map entry_of log.now.held) }
+    ensures { (first last : At) → AreHeld first last (map entry_of log.now.held)
+        → result ≡ time_of sno (map entry_of log.now.held) }
 {
     match log.entry(sno) {
         Some(entry) => Some(entry.point.time),
@@ -29,7 +30,8 @@ fn time_at(log: &Log, sno: u32) -> Option<Time>
 // The entries behind the one with this serial, up to the last one. What the log does not hold is answered by want of
 // memory: it holds all that come behind one that it holds.
 fn entries_behind(alloc: Global, log: &Log, sno: u32, last: u32) -> Result<Entries, MemoryOut>
-    ensures { (first end : At) → AreHeld first end (map entry_of log.now.held) → end.sno ≡ last → first.sno ≤ sno → IfOk result (λ us. us ≡ drop (sno + 1 - first.sno) (map entry_of log.now.held)) }
+    ensures { (first end : At) → AreHeld first end (map entry_of log.now.held) → end.sno ≡ last → first.sno ≤ sno
+        → IfOk result (λ us. us ≡ drop (sno + 1 - first.sno) (map entry_of log.now.held)) }
 {
     let mut items = Vec::new(alloc);
     for behind in sno..last {
@@ -81,7 +83,8 @@ pub fn bare_reply(alloc: Global, code: ReplyCode, asked: &Point) -> PollReply
 ///
 /// `MemoryOut` where memory is wanted and not given.
 pub fn reply_to(alloc: Global, log: &Log, busy: bool, asked: &Point) -> Result<PollReply, MemoryOut>
-    ensures { IfOk result (λ r. told_reply r ≡ told_of busy asked.now (updates_after asked.now (map entry_of log.now.held))) }
+    ensures { IfOk result
+        (λ r. told_reply r ≡ told_of busy asked.now (updates_after asked.now (map entry_of log.now.held))) }
 {
     updates_stand_behind_a_serial();
     log.holds_journal();

@@ -1,5 +1,6 @@
 -- A command of the primary, as what a plan is given; and the places that a change may leave.
-use Rattle.std.proofs.Common.{◌≡◌, ◌<◌, ◌≤◌, ℕ, Bool, true, false, List, [], ◌∷◌, Option, Ok, inl, refl, sym, ap, subst, ◌∙◌, arith}
+use Rattle.std.proofs.Common.{◌≡◌, ◌<◌, ◌≤◌, ℕ, Bool, true, false, List, [], ◌∷◌}
+use Rattle.std.proofs.Common.{Option, Ok, inl, refl, sym, ap, subst, ◌∙◌, arith}
 use Rattle.std.specs.Prelude.{nat_lt, if◌then◌else◌}
 use Rattle.std.proofs.lemmas.Bool.{ltb-true}
 use Rattle.acl_text.specs.declared.rules.AclLine.{AclLine}
@@ -32,13 +33,16 @@ pub seen_by : ((s : State) (early late : Moment) → early.secs ≤ late.secs �
     → IsSeenBy o.kept.rows o.masters o.kept.realm (later_moment (point_of (place_of o)).time clock) s
 seen_by later o s clock below has = record {
   shows = has.shows.shows;
-  valid = later s (point_of (place_of o)).time (later_moment (point_of (place_of o)).time clock) (secs_behind (point_of (place_of o)).time clock below) has.shows.valid;
+  valid = later s (point_of (place_of o)).time (later_moment (point_of (place_of o)).time clock)
+      (secs_behind (point_of (place_of o)).time clock below) has.shows.valid;
   masters_are = has.masters_are;
   realm_is = has.shows.realm;
 }
 
-pub called_by : (o : Opened) (s : State) (client : NameParts) (access : Option (List AclLine)) (command : Command) (clock : Moment) (random : List ℕ) → HasState o s
-    → IsCallOf s client access command (later_moment (point_of (place_of o)).time clock) random (call_of client access command clock random false)
+pub called_by : (o : Opened) (s : State) (client : NameParts) (access : Option (List AclLine)) (command : Command)
+    (clock : Moment) (random : List ℕ) → HasState o s
+    → IsCallOf s client access command (later_moment (point_of (place_of o)).time clock) random
+    (call_of client access command clock random false)
 called_by o s client access command clock random has = record {
   clock = clock;
   call_is = refl;
@@ -48,7 +52,8 @@ called_by o s client access command clock random has = record {
 -- ---- by what the code has of the primary
 
 -- it is seen so, and the parts are its own
-pub record HasParts (o now : Opened) (rows : RowLists) (realm : List ℕ) (point : Point) (moment clock : Moment) : Type 0 where
+pub record HasParts (o now : Opened) (rows : RowLists) (realm : List ℕ) (point : Point)
+    (moment clock : Moment) : Type 0 where
   pub is : o ≡ now
   pub rows_are : rows ≡ o.kept.rows
   pub realm_is : realm ≡ o.kept.realm
@@ -56,22 +61,27 @@ pub record HasParts (o now : Opened) (rows : RowLists) (realm : List ℕ) (point
   pub moment_is : moment ≡ later_moment point.time clock
   pub below : clock.usecs < 1000000
 
-module _ (o now : Opened) (rows : RowLists) (realm : List ℕ) (point : Point) (moment clock : Moment) (parts : HasParts o now rows realm point moment clock) (s : State) (has : HasState now s) where
+module _ (o now : Opened) (rows : RowLists) (realm : List ℕ) (point : Point) (moment clock : Moment)
+    (parts : HasParts o now rows realm point moment clock) (s : State) (has : HasState now s) where
   had : HasState o s
   had = subst (λ (x : Opened). HasState x s) (sym parts.is) has
 
   time_is : later_moment (point_of (place_of o)).time clock ≡ moment
   time_is = ap (λ (q : Point). later_moment q.time clock) (sym parts.point_is) ∙ sym parts.moment_is
 
-  pub seen_told : ((t : State) (early late : Moment) → early.secs ≤ late.secs → IsValid early t → IsValid late t) → IsSeenBy rows o.masters realm moment s
+  pub seen_told : ((t : State) (early late : Moment) → early.secs ≤ late.secs → IsValid early t → IsValid late t)
+      → IsSeenBy rows o.masters realm moment s
   seen_told later =
       subst (λ (x : RowLists). IsSeenBy x o.masters realm moment s) (sym parts.rows_are)
       (subst (λ (x : List ℕ). IsSeenBy o.kept.rows o.masters x moment s) (sym parts.realm_is)
-      (subst (λ (x : Moment). IsSeenBy o.kept.rows o.masters o.kept.realm x s) time_is (seen_by later o s clock parts.below had)))
+      (subst (λ (x : Moment). IsSeenBy o.kept.rows o.masters o.kept.realm x s) time_is
+      (seen_by later o s clock parts.below had)))
 
-  pub called_told : (client : NameParts) (access : Option (List AclLine)) (command : Command) (random : List ℕ) → IsCallOf s client access command moment random (call_of client access command clock random false)
+  pub called_told : (client : NameParts) (access : Option (List AclLine)) (command : Command) (random : List ℕ)
+      → IsCallOf s client access command moment random (call_of client access command clock random false)
   called_told client access command random =
-      subst (λ (x : Moment). IsCallOf s client access command x random (call_of client access command clock random false)) time_is (called_by o s client access command clock random had)
+      subst (λ (x : Moment). IsCallOf s client access command x random
+      (call_of client access command clock random false)) time_is (called_by o s client access command clock random had)
 
   -- what is said of the rows
   pub rows_told : (P : RowLists → Type 0) → P rows → P now.kept.rows

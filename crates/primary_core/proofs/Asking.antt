@@ -7,11 +7,13 @@ use Rattle.kdb_histories.proofs.Changed.{made_anew, made_next}
 use Rattle.kdb_histories.specs.Asks.{Answer, Ask, Replied, clock_of}
 use Rattle.kdb_histories.specs.Calls.{Leads, Performs}
 use Rattle.kdb_histories.specs.Moves.{IsLeft}
-use Rattle.kdb_histories.specs.Seen.{Keep, Plan, Put, Write, after_ask, answer_at, changed, entry_point, is_due, made_by, outcome_at, plan_at, seen}
+use Rattle.kdb_histories.specs.Seen.{Keep, Plan, Put, Write, after_ask, answer_at, changed}
+use Rattle.kdb_histories.specs.Seen.{entry_point, is_due, made_by, outcome_at, plan_at, seen}
 use Rattle.kdb_histories.specs.Stages.{Anew, Deed, Did, Filled, Stage, Stashed, places}
 use Rattle.kdb_places.specs.Places.{Place}
 use Rattle.kdb_plain.specs.declared.states.State.{State}
-use Rattle.primary_core.specs.Opened.{HasState, IsAnswered, IsDecided, Opened, made_for, masters_behind, masters_brought, place_of}
+use Rattle.primary_core.specs.Opened.{HasState, IsAnswered, IsDecided, Opened, made_for}
+use Rattle.primary_core.specs.Opened.{masters_behind, masters_brought, place_of}
 use Rattle.primary_core.specs.declared.decided.DecidedChange.{DecidedChange}
 use Rattle.princ_rows.specs.declared.entries.Op.{Op}
 
@@ -61,13 +63,15 @@ is_kept ask (Put op) p e =
 is_kept ask (Write bytes) p e = absurd cc
 
 -- what is performed without a place leaves the state
-pub stays : (p : Place) (s : State) (ask : Ask) (answer : Answer) → Performs p s ask answer [] → (outcome_at ask (seen p s)).state ≡ s
+pub stays : (p : Place) (s : State) (ask : Ask) (answer : Answer) → Performs p s ask answer []
+    → (outcome_at ask (seen p s)).state ≡ s
 stays p s ask answer h =
     let plan : plan_at ask (seen p s) ≡ Keep = is_kept ask (plan_at ask (seen p s)) p h.is in
     subst (Leads (clock_of ask) p s (outcome_at ask (seen p s)).state) plan h.leads
 
 -- what is performed by a change leads to the state behind it
-pub leads_on : (p : Place) (s : State) (ask : Ask) (answer : Answer) (op : Op) → Performs p s ask answer (changed ask op p)
+pub leads_on : (p : Place) (s : State) (ask : Ask) (answer : Answer) (op : Op)
+    → Performs p s ask answer (changed ask op p)
     → IsLeft p.realm (entry_point (clock_of ask) op p) op p.rows (outcome_at ask (seen p s)).state
 leads_on p s ask answer op h =
     let plan : plan_at ask (seen p s) ≡ Put op = is_put ask (plan_at ask (seen p s)) p op h.is in
@@ -88,7 +92,8 @@ module _ (o : Opened) (ask : Ask) (answer : Answer) (s : State) where
       ∙ ap (seen (place_of o)) (stays (place_of o) s ask answer h)
 
   pub left_so : (change : DecidedChange) → IsAnswered o ask answer (Some change) → HasState o s
-      → IsLeft (place_of o).realm (entry_point (clock_of ask) change.op (place_of o)) change.op (place_of o).rows (after_ask ask (seen (place_of o) s)).state
+      → IsLeft (place_of o).realm (entry_point (clock_of ask) change.op (place_of o)) change.op (place_of o).rows
+      (after_ask ask (seen (place_of o) s)).state
   left_so change d has = leads_on (place_of o) s ask answer change.op (d.performs s has)
 
   pub mastered_so : (change : Option DecidedChange) → IsAnswered o ask answer change → HasState o s
@@ -98,7 +103,8 @@ module _ (o : Opened) (ask : Ask) (answer : Answer) (s : State) where
 -- ---- what was decided
 
 module _ (o : Opened) (ask : Ask) (reply : Reply) (s : State) where
-  pub answered : (change : Option DecidedChange) → IsDecided o ask reply change → HasState o s → answer_at ask (seen (place_of o) s) ≡ Replied reply
+  pub answered : (change : Option DecidedChange) → IsDecided o ask reply change → HasState o s
+      → answer_at ask (seen (place_of o) s) ≡ Replied reply
   answered change d has = sym (d.performs s has).answers
 
   pub placed : (change : Option DecidedChange) → IsDecided o ask reply change → HasState o s
@@ -109,7 +115,8 @@ module _ (o : Opened) (ask : Ask) (reply : Reply) (s : State) where
   kept d has = kept_so o ask (Replied reply) s d has
 
   pub left : (change : DecidedChange) → IsDecided o ask reply (Some change) → HasState o s
-      → IsLeft (place_of o).realm (entry_point (clock_of ask) change.op (place_of o)) change.op (place_of o).rows (after_ask ask (seen (place_of o) s)).state
+      → IsLeft (place_of o).realm (entry_point (clock_of ask) change.op (place_of o)) change.op (place_of o).rows
+      (after_ask ask (seen (place_of o) s)).state
   left change d has = left_so o ask (Replied reply) s change d has
 
   pub mastered : (change : Option DecidedChange) → IsDecided o ask reply change → HasState o s

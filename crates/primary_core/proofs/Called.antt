@@ -22,9 +22,11 @@ pub left_at : (p : Place) (made : List Place) (c : Files) → LeavesPart p made 
 unfolding LeavesPart
 left_at p [] c is = record { place = p; is = is; part = refl }
 left_at p (q ∷ made) c (inl is) = record { place = p; is = is; part = inl refl }
-left_at p (q ∷ made) c (inr rest) = let l = left_at q made c rest in record { place = l.place; is = l.is; part = inr l.part }
+left_at p (q ∷ made) c (inr rest) = let l =
+    left_at q made c rest in record { place = l.place; is = l.is; part = inr l.part }
 
-module _ (p : Place) (s : State) (call : Call) (answer : Answer) (made : List Stage) (makes : CallMakes p s call answer made) where
+module _ (p : Place) (s : State) (call : Call) (answer : Answer) (made : List Stage)
+    (makes : CallMakes p s call answer made) where
   pub call_reaches : (q : Place) → IsPart p (places made) q → MayReach p s call q
   call_reaches q part = inr (record { answer = answer; made = made; makes = makes; part = part })
 

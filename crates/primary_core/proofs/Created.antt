@@ -15,14 +15,18 @@ use Rattle.primary_core.specs.Opened.{HasState, IsOpened, Opened, place_of}
 use Rattle.primary_core.specs.Opening.{first_place}
 use Rattle.row_keys.specs.Shows.{Shows}
 
-module _ (spec : SpecParts) (now_ : Moment) (random : List ℕ) (o : Opened) (place : place_of o ≡ first_place spec now_ random)
+module _ (spec : SpecParts) (now_ : Moment) (random : List ℕ) (o : Opened)
+    (place : place_of o ≡ first_place spec now_ random)
     (masters : o.masters ≡ (first_state spec now_ random).masters)
-    (realm : (first_state spec now_ random).realm ≡ spec.realm) (point : (first_state spec now_ random).point ≡ point_made now_)
-    (valid : IsValid now_ (first_state spec now_ random)) (shows : Shows (first_rows spec now_ random) (first_state spec now_ random)) where
+    (realm : (first_state spec now_ random).realm ≡ spec.realm)
+    (point : (first_state spec now_ random).point ≡ point_made now_)
+    (valid : IsValid now_ (first_state spec now_ random))
+    (shows : Shows (first_rows spec now_ random) (first_state spec now_ random)) where
   pub created_state : HasState o (first_state spec now_ random)
   created_state =
       let s = first_state spec now_ random in
-      let at : point_of (first_place spec now_ random) ≡ point_made now_ = first_point no_point (base_marker (point_made now_)) in
+      let at : point_of (first_place spec now_ random) ≡ point_made now_ =
+      first_point no_point (base_marker (point_made now_)) in
       let made : ShowsAt (first_place spec now_ random) s = record {
         realm = realm;
         at = point ∙ sym at;

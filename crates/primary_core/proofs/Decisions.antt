@@ -1,5 +1,6 @@
 -- What a judged command comes to.
-use Rattle.std.proofs.Common.{◌≡◌, ◌<◌, ◌^◌, ℕ, Bool, true, false, ◌&&◌, ◌||◌, List, [], Option, Some, None, Result, Ok, Err, refl, sym, ap, subst, ◌∙◌, inl, inr, arith, eqb-true}
+use Rattle.std.proofs.Common.{◌≡◌, ◌<◌, ◌^◌, ℕ, Bool, true, false, ◌&&◌, ◌||◌, List, [], Option, Some}
+use Rattle.std.proofs.Common.{None, Result, Ok, Err, refl, sym, ap, subst, ◌∙◌, inl, inr, arith, eqb-true}
 use Rattle.std.specs.Prelude.{IfErr, IfOk, length, nat_eq, if◌then◌else◌}
 use Rattle.acl_text.specs.declared.rules.AclLine.{AclLine}
 use Rattle.command_plans.specs.Given.{IsAnswer, IsApplied, IsChange}
@@ -38,8 +39,10 @@ use Rattle.mkey_admin.specs.declared.planned.Told.{Told}
 use Rattle.mkey_admin.specs.declared.planned.Told.TheVariants.{Added, Used, Purged}
 use Rattle.performed_plans.specs.Ready.{IsReady}
 use Rattle.primary_core.proofs.Asking.{leads_on, stays}
-use Rattle.primary_core.specs.Deciding.{Decides, change_decided, change_of, decided_as, decided_at, masters_changed, masters_decided_as, point_told, reply_of, rows_changed}
-use Rattle.primary_core.specs.Opened.{HasState, IsDecided, IsOpened, MayMake, Opened, command_ask, masters_behind, place_of}
+use Rattle.primary_core.specs.Deciding.{Decides, change_decided, change_of, decided_as, decided_at}
+use Rattle.primary_core.specs.Deciding.{masters_changed, masters_decided_as, point_told, reply_of, rows_changed}
+use Rattle.primary_core.specs.Opened.{HasState, IsDecided, IsOpened, MayMake, Opened}
+use Rattle.primary_core.specs.Opened.{command_ask, masters_behind, place_of}
 use Rattle.primary_core.specs.declared.decided.Decided.{Decided}
 use Rattle.primary_core.specs.declared.decided.Decided.TheVariants.{Answer, Change}
 use Rattle.primary_core.specs.declared.decided.DecidedChange.{DecidedChange}
@@ -48,33 +51,46 @@ use Rattle.princ_name.specs.Names.{NameParts}
 
 -- what is known of the commands that rows alone decide
 pub record RowPlanLaws : Type 0 where
-  pub answers : (p : Place) (s : State) (client : NameParts) (access : Option (List AclLine)) (cmd : Command) (clock : Moment) (random : List ℕ) (reply : Reply)
+  pub answers : (p : Place) (s : State) (client : NameParts) (access : Option (List AclLine)) (cmd : Command)
+      (clock : Moment) (random : List ℕ) (reply : Reply)
       → is_planned cmd ≡ true → IsAnswer s (call_of client access cmd clock random false) reply
       → Performs p s (Commanded (call_of client access cmd clock random false)) (Replied reply) []
-  pub changes : (p : Place) (s : State) (client : NameParts) (access : Option (List AclLine)) (cmd : Command) (clock : Moment) (random : List ℕ) (op : Op)
-      → is_planned cmd ≡ true → IsReady p s cmd clock random op → IsChange p.rows s (call_of client access cmd clock random false) op
-      → Performs p s (Commanded (call_of client access cmd clock random false)) (Replied (Done (entry_point clock op p)))
+  pub changes : (p : Place) (s : State) (client : NameParts) (access : Option (List AclLine)) (cmd : Command)
+      (clock : Moment) (random : List ℕ) (op : Op)
+      → is_planned cmd ≡ true → IsReady p s cmd clock random op
+      → IsChange p.rows s (call_of client access cmd clock random false) op
+      → Performs p s (Commanded (call_of client access cmd clock random false))
+      (Replied (Done (entry_point clock op p)))
       (changed (Commanded (call_of client access cmd clock random false)) op p)
-  pub late : (p : Place) (s : State) (client : NameParts) (access : Option (List AclLine)) (cmd : Command) (clock : Moment) (random : List ℕ) (op : Op)
-      → is_due op p ≡ true → is_last s.point.time ≡ true → IsChange p.rows s (call_of client access cmd clock random false) op
+  pub late : (p : Place) (s : State) (client : NameParts) (access : Option (List AclLine)) (cmd : Command)
+      (clock : Moment) (random : List ℕ) (op : Op)
+      → is_due op p ≡ true → is_last s.point.time ≡ true
+      → IsChange p.rows s (call_of client access cmd clock random false) op
       → Performs p s (Commanded (call_of client access cmd clock random false)) (Replied (Refused TimeEnd)) []
   pub masters : (s : State) (call : Call) → is_planned call.command ≡ true → (step s call).state.masters ≡ s.masters
 
 -- and of those of master keys
 pub record MasterPlanLaws : Type 0 where
-  pub answers : (p : Place) (s : State) (client : NameParts) (access : Option (List AclLine)) (cmd : Command) (clock : Moment) (random : List ℕ) (reply : Reply)
+  pub answers : (p : Place) (s : State) (client : NameParts) (access : Option (List AclLine)) (cmd : Command)
+      (clock : Moment) (random : List ℕ) (reply : Reply)
       → is_master_command cmd ≡ true → IsAnswer s (call_of client access cmd clock random false) reply
       → Performs p s (Commanded (call_of client access cmd clock random false)) (Replied reply) []
-  pub changes : (p : Place) (s : State) (client : NameParts) (access : Option (List AclLine)) (cmd : Command) (clock : Moment) (random : List ℕ) (c : MasterChange)
-      → is_master_command cmd ≡ true → IsReady p s cmd clock random c.op → IsMasterChange p.rows s (call_of client access cmd clock random false) c
-      → Performs p s (Commanded (call_of client access cmd clock random false)) (Replied (reply_at (entry_point clock c.op p) c.told))
+  pub changes : (p : Place) (s : State) (client : NameParts) (access : Option (List AclLine)) (cmd : Command)
+      (clock : Moment) (random : List ℕ) (c : MasterChange)
+      → is_master_command cmd ≡ true → IsReady p s cmd clock random c.op
+      → IsMasterChange p.rows s (call_of client access cmd clock random false) c
+      → Performs p s (Commanded (call_of client access cmd clock random false))
+      (Replied (reply_at (entry_point clock c.op p) c.told))
       (changed (Commanded (call_of client access cmd clock random false)) c.op p)
-  pub late : (p : Place) (s : State) (client : NameParts) (access : Option (List AclLine)) (cmd : Command) (clock : Moment) (random : List ℕ) (c : MasterChange)
+  pub late : (p : Place) (s : State) (client : NameParts) (access : Option (List AclLine)) (cmd : Command)
+      (clock : Moment) (random : List ℕ) (c : MasterChange)
       → is_master_command cmd ≡ true → is_due c.op p ≡ true → is_last s.point.time ≡ true
       → IsMasterChange p.rows s (call_of client access cmd clock random false) c
       → Performs p s (Commanded (call_of client access cmd clock random false)) (Replied (Refused TimeEnd)) []
-  pub masters : (p : Place) (s : State) (client : NameParts) (access : Option (List AclLine)) (cmd : Command) (clock : Moment) (random : List ℕ) (c : MasterChange)
-      → is_master_command cmd ≡ true → IsReady p s cmd clock random c.op → IsMasterChange p.rows s (call_of client access cmd clock random false) c
+  pub masters : (p : Place) (s : State) (client : NameParts) (access : Option (List AclLine)) (cmd : Command)
+      (clock : Moment) (random : List ℕ) (c : MasterChange)
+      → is_master_command cmd ≡ true → IsReady p s cmd clock random c.op
+      → IsMasterChange p.rows s (call_of client access cmd clock random false) c
       → (outcome_at (Commanded (call_of client access cmd clock random false)) (seen p s)).state.masters ≡ c.masters
 
 -- ---- numbers
@@ -136,7 +152,8 @@ pub record IsAsked (o : Opened) (cmd : Command) (clock : Moment) (random : List 
   pub clock_is : IsMoment clock
   pub point_is : IsPoint (point_of (place_of o))
 
-module _ (o : Opened) (client : NameParts) (access : Option (List AclLine)) (cmd : Command) (clock : Moment) (random : List ℕ) where
+module _ (o : Opened) (client : NameParts) (access : Option (List AclLine)) (cmd : Command) (clock : Moment)
+    (random : List ℕ) where
   abbrev p : Place
   p = place_of o
 
@@ -152,20 +169,24 @@ module _ (o : Opened) (client : NameParts) (access : Option (List AclLine)) (cmd
 
   -- ---- nothing is made
 
-  makes_nothing : (reply : Reply) → ((s : State) → HasState o s → Performs p s ask (Replied reply) []) → Decides o ask clock (Answer reply)
+  makes_nothing : (reply : Reply) → ((s : State) → HasState o s → Performs p s ask (Replied reply) [])
+      → Decides o ask clock (Answer reply)
   makes_nothing reply performs = record {
     is = record {
       performs = performs;
-      masters = λ s has. ap (λ (x : State). x.masters) (stays p s ask (Replied reply) (performs s has)) ∙ has.masters_are;
+      masters =
+          λ s has. ap (λ (x : State). x.masters) (stays p s ask (Replied reply) (performs s has)) ∙ has.masters_are;
     };
     may = λ change told e. absurd cc;
     point = λ change told e. absurd cc;
   }
 
   -- where the judge stopped
-  pub stopped : (s : Stop) (r : Result Decided Halt) → ((why : Refusal) → s ≡ stop.Refused why → r ≡ Ok (Answer (Refused why)))
+  pub stopped : (s : Stop) (r : Result Decided Halt)
+      → ((why : Refusal) → s ≡ stop.Refused why → r ≡ Ok (Answer (Refused why)))
       → ((halt : Halt) → s ≡ stop.Halt halt → r ≡ Err halt)
-      → ((x : State) (why : Refusal) → HasState o x → s ≡ stop.Refused why → Performs p x ask (Replied (Refused why)) [])
+      → ((x : State) (why : Refusal) → HasState o x → s ≡ stop.Refused why
+      → Performs p x ask (Replied (Refused why)) [])
       → IfOk r (λ d. Decides o ask clock d)
   stopped (stop.Refused why) r answers halts judged =
       subst (λ (x : Result Decided Halt). IfOk x (λ d. Decides o ask clock d)) (sym (answers why refl))
@@ -177,9 +198,11 @@ module _ (o : Opened) (client : NameParts) (access : Option (List AclLine)) (cmd
 
   module _ (asked : IsAsked o cmd clock random) where
     has_left : (op : Op) → ends op ≡ false → is_due op p ≡ true → HasTimeLeft p
-    has_left op e due = time_left (point_of p).time asked.point_is.time (not_second (is_due op p) (is_last (point_of p).time) e due)
+    has_left op e due =
+        time_left (point_of p).time asked.point_is.time (not_second (is_due op p) (is_last (point_of p).time) e due)
 
-    ready : (s : State) (op : Op) → HasState o s → IsApplied o.kept.rows op → ends op ≡ false → IsReady p s cmd clock random op
+    ready : (s : State) (op : Op) → HasState o s → IsApplied o.kept.rows op → ends op ≡ false
+        → IsReady p s cmd clock random op
     ready s op has applied e = record {
       shows = has.shows;
       point = subst IsPoint (sym has.shows.at) asked.point_is;
@@ -192,7 +215,8 @@ module _ (o : Opened) (client : NameParts) (access : Option (List AclLine)) (cmd
           ap (λ (x : Point). is_last x.time) has.shows.at ∙ not_second (is_due op p) (is_last (point_of p).time) e due;
       left = has_left op e;
       serial = λ (next : is_due op p ≡ false).
-          subst (λ (x : Point). x.sno < 4294967295) (sym has.shows.at) (serial_left (point_of p).sno (is_too_long op p) asked.point_is.sno next);
+          subst (λ (x : Point). x.sno < 4294967295) (sym has.shows.at)
+          (serial_left (point_of p).sno (is_too_long op p) asked.point_is.sno next);
     }
 
     -- ---- a change that was weighed
@@ -203,10 +227,12 @@ module _ (o : Opened) (client : NameParts) (access : Option (List AclLine)) (cmd
       late : ends change.op ≡ true → (s : State) → HasState o s → Performs p s ask (Replied (Refused TimeEnd)) []
       made : ends change.op ≡ false → (s : State) → HasState o s
           → Performs p s ask (Replied (told (entry_point clock change.op p))) (changed ask change.op p)
-      masters : ends change.op ≡ false → (s : State) → HasState o s → (outcome_at ask (seen p s)).state.masters ≡ masters_behind o change.masters
+      masters : ends change.op ≡ false → (s : State) → HasState o s
+          → (outcome_at ask (seen p s)).state.masters ≡ masters_behind o change.masters
       point : (x : Point) → point_told (told x) ≡ Some x
 
-    may_make : (change : DecidedChange) (told : Point → Reply) → IsWeighed change told → ends change.op ≡ false → MayMake o clock change
+    may_make : (change : DecidedChange) (told : Point → Reply) → IsWeighed change told → ends change.op ≡ false
+        → MayMake o clock change
     may_make change told w e = record {
       applied = w.applied;
       left = has_left change.op e;
@@ -223,18 +249,24 @@ module _ (o : Opened) (client : NameParts) (access : Option (List AclLine)) (cmd
         let at = entry_point clock change.op p in
         record {
           is = record { performs = w.made e; masters = w.masters e };
-          may = λ made reply same. subst (MayMake o clock) (same_change change made (told at) reply same) (may_make change told w e);
+          may = λ made reply same.
+              subst (MayMake o clock) (same_change change made (told at) reply same) (may_make change told w e);
           point = λ made reply same.
               sym (ap point_told (same_reply change made (told at) reply same))
-              ∙ (w.point at ∙ ap (λ (x : DecidedChange). let r : Option Point = Some (entry_point clock x.op p) in r) (same_change change made (told at) reply same));
+              ∙ (w.point at ∙ ap (λ (x : DecidedChange). let r : Option Point = Some (entry_point clock x.op p) in r)
+              (same_change change made (told at) reply same));
         }
 
-    decided_by : (change : DecidedChange) (told : Point → Reply) (late : Bool) → ends change.op ≡ late → IsWeighed change told
-        → (d : Decided) → d ≡ decided_at change told (if late then None else Some (entry_point clock change.op p)) → Decides o ask clock d
-    decided_by change told true e w d is = subst (Decides o ask clock) (sym is) (makes_nothing (Refused TimeEnd) (w.late e))
+    decided_by : (change : DecidedChange) (told : Point → Reply) (late : Bool) → ends change.op ≡ late
+        → IsWeighed change told
+        → (d : Decided) → d ≡ decided_at change told (if late then None else Some (entry_point clock change.op p))
+        → Decides o ask clock d
+    decided_by change told true e w d is =
+        subst (Decides o ask clock) (sym is) (makes_nothing (Refused TimeEnd) (w.late e))
     decided_by change told false e w d is = subst (Decides o ask clock) (sym is) (makes_one change told w e)
 
-    decided : (change : DecidedChange) (told : Point → Reply) → IsWeighed change told → (d : Decided) → d ≡ change_decided clock change told p
+    decided : (change : DecidedChange) (told : Point → Reply) → IsWeighed change told → (d : Decided)
+        → d ≡ change_decided clock change told p
         → Decides o ask clock d
     decided change told w d is = decided_by change told (ends change.op) refl w d is
 
@@ -254,77 +286,98 @@ module _ (o : Opened) (client : NameParts) (access : Option (List AclLine)) (cmd
       unfolding outcome commanded
       kept_masters s = laws.masters s (told (due_at ask (seen p s)) call) planned_is
 
-      rows_weighed : (op : Op) → IsApplied o.kept.rows op → ((s : State) → HasState o s → IsChange o.kept.rows s call op) → IsWeighed (rows_changed op) Done
+      rows_weighed : (op : Op) → IsApplied o.kept.rows op
+          → ((s : State) → HasState o s → IsChange o.kept.rows s call op) → IsWeighed (rows_changed op) Done
       rows_weighed op applied judged = record {
         applied = applied;
         late = λ e s has.
             let two = both (is_due op p) (is_last (point_of p).time) e in
             laws.late p s client access cmd clock random op two.0 (is_last_of s has two.1) (judged s has);
-        made = λ e s has. laws.changes p s client access cmd clock random op planned_is (ready s op has applied e) (judged s has);
+        made = λ e s has.
+            laws.changes p s client access cmd clock random op planned_is (ready s op has applied e) (judged s has);
         masters = λ e s has. kept_masters s ∙ has.masters_are;
         point = λ x. refl;
       }
 
-      pub rows_decided : (plan : Planned) → IsJudged plan → (d : Decided) → d ≡ decided_as clock plan p → Decides o ask clock d
+      pub rows_decided : (plan : Planned) → IsJudged plan → (d : Decided) → d ≡ decided_as clock plan p
+          → Decides o ask clock d
       rows_decided (planned.Answer reply) judged d is =
           subst (Decides o ask clock) (sym is)
-          (makes_nothing reply (λ s has. laws.answers p s client access cmd clock random reply planned_is (judged.answer s reply has refl)))
+          (makes_nothing reply
+          (λ s has. laws.answers p s client access cmd clock random reply planned_is (judged.answer s reply has refl)))
       rows_decided (planned.Change op) judged d is =
-          decided (rows_changed op) Done (rows_weighed op (judged.applies op refl) (λ s has. judged.change s op has refl)) d is
+          decided (rows_changed op) Done
+          (rows_weighed op (judged.applies op refl) (λ s has. judged.change s op has refl)) d is
 
     -- ---- a command of master keys
 
     pub record AreJudged (plan : MasterPlan) : Type 0 where
       pub answer : (s : State) (reply : Reply) → HasState o s → plan ≡ masters.Answer reply → IsAnswer s call reply
-      pub change : (s : State) (c : MasterChange) → HasState o s → plan ≡ masters.Change c → IsMasterChange o.kept.rows s call c
+      pub change : (s : State) (c : MasterChange) → HasState o s → plan ≡ masters.Change c
+          → IsMasterChange o.kept.rows s call c
       pub applies : (c : MasterChange) → plan ≡ masters.Change c → IsApplied o.kept.rows c.op
 
     module _ (laws : MasterPlanLaws) (masters_is : is_master_command cmd ≡ true) where
-      masters_weighed : (c : MasterChange) → IsApplied o.kept.rows c.op → ((s : State) → HasState o s → IsMasterChange o.kept.rows s call c)
+      masters_weighed : (c : MasterChange) → IsApplied o.kept.rows c.op
+          → ((s : State) → HasState o s → IsMasterChange o.kept.rows s call c)
           → IsWeighed (masters_changed c) (λ x. reply_at x c.told)
       masters_weighed c applied judged = record {
         applied = applied;
         late = λ e s has.
             let two = both (is_due c.op p) (is_last (point_of p).time) e in
             laws.late p s client access cmd clock random c masters_is two.0 (is_last_of s has two.1) (judged s has);
-        made = λ e s has. laws.changes p s client access cmd clock random c masters_is (ready s c.op has applied e) (judged s has);
-        masters = λ e s has. laws.masters p s client access cmd clock random c masters_is (ready s c.op has applied e) (judged s has);
+        made = λ e s has.
+            laws.changes p s client access cmd clock random c masters_is (ready s c.op has applied e) (judged s has);
+        masters = λ e s has.
+            laws.masters p s client access cmd clock random c masters_is (ready s c.op has applied e) (judged s has);
         point = λ x. told_point x c.told;
       }
 
-      pub masters_decided : (plan : MasterPlan) → AreJudged plan → (d : Decided) → d ≡ masters_decided_as clock plan p → Decides o ask clock d
+      pub masters_decided : (plan : MasterPlan) → AreJudged plan → (d : Decided) → d ≡ masters_decided_as clock plan p
+          → Decides o ask clock d
       masters_decided (masters.Answer reply) judged d is =
           subst (Decides o ask clock) (sym is)
-          (makes_nothing reply (λ s has. laws.answers p s client access cmd clock random reply masters_is (judged.answer s reply has refl)))
+          (makes_nothing reply
+          (λ s has. laws.answers p s client access cmd clock random reply masters_is (judged.answer s reply has refl)))
       masters_decided (masters.Change c) judged d is =
-          decided (masters_changed c) (λ x. reply_at x c.told) (masters_weighed c (judged.applies c refl) (λ s has. judged.change s c has refl)) d is
+          decided (masters_changed c) (λ x. reply_at x c.told)
+          (masters_weighed c (judged.applies c refl) (λ s has. judged.change s c has refl)) d is
 
 -- ---- of a result
 
-pub err_halted : (s : Stop) (r : Result Decided Halt) → ((why : Refusal) → s ≡ stop.Refused why → r ≡ Ok (Answer (Refused why)))
-    → ((halt : Halt) → s ≡ stop.Halt halt → r ≡ Err halt) → ((halt : Halt) → s ≡ stop.Halt halt → halt ≡ MemoryOut) → IfErr r (λ h. h ≡ MemoryOut)
+pub err_halted : (s : Stop) (r : Result Decided Halt)
+    → ((why : Refusal) → s ≡ stop.Refused why → r ≡ Ok (Answer (Refused why)))
+    → ((halt : Halt) → s ≡ stop.Halt halt → r ≡ Err halt) → ((halt : Halt) → s ≡ stop.Halt halt → halt ≡ MemoryOut)
+    → IfErr r (λ h. h ≡ MemoryOut)
 err_halted (stop.Refused why) r answers halts wants =
     subst (λ (x : Result Decided Halt). IfErr x (λ h. h ≡ MemoryOut)) (sym (answers why refl)) tt
 err_halted (stop.Halt halt) r answers halts wants =
     subst (λ (x : Result Decided Halt). IfErr x (λ h. h ≡ MemoryOut)) (sym (halts halt refl)) (wants halt refl)
 
 -- the command, as the code has it
-pub of_command : (o : Opened) (client : NameParts) (access : Option (List AclLine)) (a b : Command) (clock : Moment) (random : List ℕ) (r : Result Decided Halt) → a ≡ b
-    → IfOk r (λ d. Decides o (command_ask client access a clock random) clock d) → IfOk r (λ d. Decides o (command_ask client access b clock random) clock d)
-of_command o client access a b clock random r e known = subst (λ (x : Command). IfOk r (λ d. Decides o (command_ask client access x clock random) clock d)) e known
+pub of_command : (o : Opened) (client : NameParts) (access : Option (List AclLine)) (a b : Command) (clock : Moment)
+    (random : List ℕ) (r : Result Decided Halt) → a ≡ b
+    → IfOk r (λ d. Decides o (command_ask client access a clock random) clock d)
+    → IfOk r (λ d. Decides o (command_ask client access b clock random) clock d)
+of_command o client access a b clock random r e known =
+    subst (λ (x : Command). IfOk r (λ d. Decides o (command_ask client access x clock random) clock d)) e known
 
 module _ (o : Opened) (ask : Ask) (clock : Moment) where
-  pub is_decided : (r : Result Decided Halt) → IfOk r (λ d. Decides o ask clock d) → IfOk r (λ d. IsDecided o ask (reply_of d) (change_of d))
+  pub is_decided : (r : Result Decided Halt) → IfOk r (λ d. Decides o ask clock d)
+      → IfOk r (λ d. IsDecided o ask (reply_of d) (change_of d))
   is_decided (Ok d) known = known.is
   is_decided (Err halt) known = tt
 
-  known_at : (r : Result Decided Halt) (d : Decided) → IfOk r (λ x. Decides o ask clock x) → r ≡ Ok d → Decides o ask clock d
+  known_at : (r : Result Decided Halt) (d : Decided) → IfOk r (λ x. Decides o ask clock x) → r ≡ Ok d
+      → Decides o ask clock d
   known_at r d known is = subst (λ (x : Result Decided Halt). IfOk x (λ y. Decides o ask clock y)) is known
 
-  pub may_be_made : (r : Result Decided Halt) → IfOk r (λ d. Decides o ask clock d) → (change : DecidedChange) (reply : Reply) → r ≡ Ok (Change change reply)
+  pub may_be_made : (r : Result Decided Halt) → IfOk r (λ d. Decides o ask clock d)
+      → (change : DecidedChange) (reply : Reply) → r ≡ Ok (Change change reply)
       → MayMake o clock change
   may_be_made r known change reply is = (known_at r (Change change reply) known is).may change reply refl
 
-  pub is_pointed : (r : Result Decided Halt) → IfOk r (λ d. Decides o ask clock d) → (change : DecidedChange) (reply : Reply) → r ≡ Ok (Change change reply)
+  pub is_pointed : (r : Result Decided Halt) → IfOk r (λ d. Decides o ask clock d)
+      → (change : DecidedChange) (reply : Reply) → r ≡ Ok (Change change reply)
       → point_told reply ≡ Some (entry_point clock change.op (place_of o))
   is_pointed r known change reply is = (known_at r (Change change reply) known is).point change reply refl

@@ -63,18 +63,22 @@ spares_masters command.Stash e = refl
 spares_masters command.Dump e = refl
 
 pub record MasterLaws : Type 0 where
-  pub refused : (s : State) (call : Call) (why : Refusal) → refusal s call ≡ Some why → step s call ≡ record { state = s; reply = Refused why }
+  pub refused : (s : State) (call : Call) (why : Refusal) → refusal s call ≡ Some why
+      → step s call ≡ record { state = s; reply = Refused why }
   pub reading : (s : State) (call : Call) → entry s call ≡ None → (step s call).state ≡ s
   pub state : (s : State) (call : Call) (op : PlainOp) → refusal s call ≡ None → entry s call ≡ Some op
       → (step s call).state ≡ at_point (step s call).state.point (effect_on op s)
-  pub spares : (s : State) (call : Call) (op : PlainOp) → refusal s call ≡ None → entry s call ≡ Some op → is_master_line call.command ≡ false
+  pub spares : (s : State) (call : Call) (op : PlainOp) → refusal s call ≡ None → entry s call ≡ Some op
+      → is_master_line call.command ≡ false
       → Spares s.realm op
   pub masters : (s : State) (op : PlainOp) → Spares s.realm op → (effect_on op s).masters ≡ s.masters
 
-pub masters_stay : (laws : MasterLaws) (s : State) (call : Call) → is_planned call.command ≡ true → (step s call).state.masters ≡ s.masters
+pub masters_stay : (laws : MasterLaws) (s : State) (call : Call) → is_planned call.command ≡ true
+    → (step s call).state.masters ≡ s.masters
 masters_stay laws s call planned_ = judged (refusal s call) refl
   where
-    entered : (made : Option PlainOp) → refusal s call ≡ None → entry s call ≡ made → (step s call).state.masters ≡ s.masters
+    entered : (made : Option PlainOp) → refusal s call ≡ None → entry s call ≡ made
+        → (step s call).state.masters ≡ s.masters
     entered None accepted is = ap (λ (x : State). x.masters) (laws.reading s call is)
     entered (Some op) accepted is =
         ap (λ (x : State). x.masters) (laws.state s call op accepted is)
@@ -87,20 +91,30 @@ masters_stay laws s call planned_ = judged (refusal s call) refl
 -- ---- no later time
 
 refused_is : (s : State) (call : Call) (due : Bool) (why : Refusal) → refusal s (told due call) ≡ Some why
-    → step s (told due call) ≡ record { state = s; reply = Refused why } → commanded call due s ≡ kept s (Replied (Refused why))
+    → step s (told due call) ≡ record { state = s; reply = Refused why }
+    → commanded call due s ≡ kept s (Replied (Refused why))
 unfolding commanded kind_of
 refused_is s call due why refused stepped =
-    ap (λ (o : steps.Outcome). let made : Outcome = record { state = o.state; answer = Replied o.reply; kind = kind_of s call (refusal s (told due call)) } in made) stepped
-    ∙ ap (λ (r : Option Refusal). let made : Outcome = record { state = s; answer = Replied (Refused why); kind = kind_of s call r } in made) refused
+    ap (λ (o : steps.Outcome). let made : Outcome = record {
+      state = o.state;
+      answer = Replied o.reply;
+      kind = kind_of s call (refusal s (told due call));
+    } in made) stepped
+    ∙ ap (λ (r : Option Refusal). let made : Outcome =
+    record { state = s; answer = Replied (Refused why); kind = kind_of s call r } in made) refused
 
 pub record LateLaws : Type 0 where
-  pub ended : (s : State) (call : Call) (op : PlainOp) → refusal s (told false call) ≡ None → entry s call ≡ Some op → is_last s.point.time ≡ true
+  pub ended : (s : State) (call : Call) (op : PlainOp) → refusal s (told false call) ≡ None → entry s call ≡ Some op
+      → is_last s.point.time ≡ true
       → refusal s (told true call) ≡ Some TimeEnd
-  pub refused : (s : State) (call : Call) (why : Refusal) → refusal s call ≡ Some why → step s call ≡ record { state = s; reply = Refused why }
+  pub refused : (s : State) (call : Call) (why : Refusal) → refusal s call ≡ Some why
+      → step s call ≡ record { state = s; reply = Refused why }
 
 -- where its change is this one, the log is to begin anew for it, and no later time is left
-late_at : (laws : LateLaws) (p : Place) (s : State) (client : NameParts) (access : Option (List AclLine)) (cmd : Command) (clock : Moment) (random : List ℕ) (op : Op)
-    (plain : PlainOp) → is_due op p ≡ true → is_last s.point.time ≡ true → refusal s (call_of client access cmd clock random false) ≡ None
+late_at : (laws : LateLaws) (p : Place) (s : State) (client : NameParts) (access : Option (List AclLine))
+    (cmd : Command) (clock : Moment) (random : List ℕ) (op : Op)
+    (plain : PlainOp) → is_due op p ≡ true → is_last s.point.time ≡ true
+    → refusal s (call_of client access cmd clock random false) ≡ None
     → entry s (call_of client access cmd clock random false) ≡ Some plain
     → kept_op p.rows s (Commanded (call_of client access cmd clock random false)) ≡ Some op
     → Performs p s (Commanded (call_of client access cmd clock random false)) (Replied (Refused TimeEnd)) []
@@ -111,21 +125,26 @@ late_at laws p s client access cmd clock random op plain due last accepted enter
     let why : refusal s (told true call) ≡ Some TimeEnd = laws.ended s call plain accepted entered last in
     let at : due_at ask (seen p s) ≡ true = ap (λ (o : Option Op). is_due_of o p) exact ∙ due in
     ask_keeps p s ask (Replied (Refused TimeEnd))
-    (ap (λ (d : Bool). commanded call d s) at ∙ refused_is s call true TimeEnd why (laws.refused s (told true call) TimeEnd why))
+    (ap (λ (d : Bool). commanded call d s) at
+    ∙ refused_is s call true TimeEnd why (laws.refused s (told true call) TimeEnd why))
 
-rows_exact : (rows : RowLists) (s : State) (call : Call) (op : Op) → kept_entry rows s call ≡ Some op → kept_op rows s (Commanded call) ≡ Some op
+rows_exact : (rows : RowLists) (s : State) (call : Call) (op : Op) → kept_entry rows s call ≡ Some op
+    → kept_op rows s (Commanded call) ≡ Some op
 unfolding kept_op
 rows_exact rows s call op is = ap (λ (o : Option Op). option_or o (kept_masters rows s call)) is
 
-pub late : (laws : LateLaws) (p : Place) (s : State) (client : NameParts) (access : Option (List AclLine)) (cmd : Command) (clock : Moment) (random : List ℕ) (op : Op)
-    → is_due op p ≡ true → is_last s.point.time ≡ true → IsChange p.rows s (call_of client access cmd clock random false) op
+pub late : (laws : LateLaws) (p : Place) (s : State) (client : NameParts) (access : Option (List AclLine))
+    (cmd : Command) (clock : Moment) (random : List ℕ) (op : Op)
+    → is_due op p ≡ true → is_last s.point.time ≡ true
+    → IsChange p.rows s (call_of client access cmd clock random false) op
     → Performs p s (Commanded (call_of client access cmd clock random false)) (Replied (Refused TimeEnd)) []
 late laws p s client access cmd clock random op due last is =
     late_at laws p s client access cmd clock random op is.plain due last is.accepted is.entry_is
     (rows_exact p.rows s (call_of client access cmd clock random false) op is.exact)
 
 -- of the commands of master keys, the change of rows that is kept of others says nothing
-no_kept_entry : (rows : RowLists) (s : State) (call : Call) (cmd : Command) → is_master_command cmd ≡ true → kept_entry_of rows s call cmd ≡ None
+no_kept_entry : (rows : RowLists) (s : State) (call : Call) (cmd : Command) → is_master_command cmd ≡ true
+    → kept_entry_of rows s call cmd ≡ None
 unfolding kept_entry_of
 no_kept_entry rows s call (command.AddMaster etype) e = refl
 no_kept_entry rows s call (command.UseMaster c) e = refl
@@ -153,13 +172,16 @@ no_kept_entry rows s call (command.RekeyPrincs glob) e = absurd cc
 no_kept_entry rows s call command.Stash e = absurd cc
 no_kept_entry rows s call command.Dump e = absurd cc
 
-masters_exact : (rows : RowLists) (s : State) (call : Call) (op : Op) → is_master_command call.command ≡ true → kept_masters rows s call ≡ Some op
+masters_exact : (rows : RowLists) (s : State) (call : Call) (op : Op) → is_master_command call.command ≡ true
+    → kept_masters rows s call ≡ Some op
     → kept_op rows s (Commanded call) ≡ Some op
 unfolding kept_op
 masters_exact rows s call op mastered is =
-    ap (λ (o : Option Op). option_or o (kept_masters rows s call)) (no_kept_entry rows s call call.command mastered) ∙ is
+    ap (λ (o : Option Op). option_or o (kept_masters rows s call)) (no_kept_entry rows s call call.command mastered)
+    ∙ is
 
-pub masters_late : (laws : LateLaws) (p : Place) (s : State) (client : NameParts) (access : Option (List AclLine)) (cmd : Command) (clock : Moment) (random : List ℕ)
+pub masters_late : (laws : LateLaws) (p : Place) (s : State) (client : NameParts) (access : Option (List AclLine))
+    (cmd : Command) (clock : Moment) (random : List ℕ)
     (c : MasterChange) → is_master_command cmd ≡ true → is_due c.op p ≡ true → is_last s.point.time ≡ true
     → IsMasterChange p.rows s (call_of client access cmd clock random false) c
     → Performs p s (Commanded (call_of client access cmd clock random false)) (Replied (Refused TimeEnd)) []

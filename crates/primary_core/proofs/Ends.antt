@@ -18,15 +18,19 @@ pub may_end : (old : View) (p : Place) (f : Files) → RecoversTo p old → Dest
 may_end old p f stands (inl like) = inl (ap place_in like.same ∙ stands like.before like.was)
 may_end old p f stands (inr none) = inr none
 
-by_force : (force : Force) (files : Files) (p : Place) (why : Refusal) → place_in (found_by force files) ≡ Ok p → RefusesEnd force why → ⊥
+by_force : (force : Force) (files : Files) (p : Place) (why : Refusal) → place_in (found_by force files) ≡ Ok p
+    → RefusesEnd force why → ⊥
 by_force Nothing files p why is refuses = absurd cc
 by_force (Broken place) files p why is refuses = absurd cc
 by_force (Is choice) files p why is refuses = refuses
 
-never_ends : (files : Files) (p : Place) (why : Refusal) → recovers files ≡ Ok p → RefusesEnd (in_force (files 0)) why → ⊥
+never_ends : (files : Files) (p : Place) (why : Refusal) → recovers files ≡ Ok p
+    → RefusesEnd (in_force (files 0)) why → ⊥
 unfolding found_in
 never_ends files p why is refuses = by_force (in_force (files 0)) files p why is refuses
 
-pub never_refused : (A : Type 0) (files : Files) (p : Place) (r : Result A Stop) (why : Refusal) → recovers files ≡ Ok p → AnswersEnded r (in_force (files 0))
+pub never_refused : (A : Type 0) (files : Files) (p : Place) (r : Result A Stop) (why : Refusal) → recovers files ≡ Ok p
+    → AnswersEnded r (in_force (files 0))
     → r ≡ Err (stop.Refused why) → ⊥
-never_refused A files p r why is answers e = never_ends files p why is (subst (λ (x : Result A Stop). AnswersEnded x (in_force (files 0))) e answers)
+never_refused A files p r why is answers e =
+    never_ends files p why is (subst (λ (x : Result A Stop). AnswersEnded x (in_force (files 0))) e answers)

@@ -15,7 +15,8 @@ use Rattle.row_keys.specs.Sound.{HasState as HasStateOf, ShowsValid, judged}
 abbrev pub filled : RowLists → Point → Place → Place
 filled rows base p = replaced p.realm rows base p
 
-filled_shows : (p : Place) (rows : RowLists) (base : Point) (masters : List Master) (t : State) → ShowsValid (judged masters p.realm base.time.secs) rows base t
+filled_shows : (p : Place) (rows : RowLists) (base : Point) (masters : List Master) (t : State)
+    → ShowsValid (judged masters p.realm base.time.secs) rows base t
     → ShowsAt (filled rows base p) t
 filled_shows p rows base masters t h =
     let at : point_of (filled rows base p) ≡ base = first_point no_point (base_marker base) in
@@ -27,15 +28,18 @@ filled_shows p rows base masters t h =
     }
 
 module _ (old new : Opened) (rows : RowLists) (base : Point) where
-  pub filled_state : (masters : List Master) (t : State) → ShowsValid (judged masters old.kept.realm base.time.secs) rows base t
+  pub filled_state : (masters : List Master) (t : State)
+      → ShowsValid (judged masters old.kept.realm base.time.secs) rows base t
       → place_of new ≡ filled rows base (place_of old) → new.masters ≡ masters → HasState new t
   filled_state masters t h is masters_are = record {
     shows = subst (λ (x : Place). ShowsAt x t) (sym is) (filled_shows (place_of old) rows base masters t h);
     masters_are = h.masters_are ∙ sym masters_are;
   }
 
-  pub filled_open : (masters : List Master) → IsOpened old → HasStateOf (judged masters old.kept.realm base.time.secs) rows base
-      → place_of new ≡ filled rows base (place_of old) → new.masters ≡ masters → new.dumps ≡ old.dumps → new.room ≡ old.room → IsOpened new
+  pub filled_open : (masters : List Master) → IsOpened old
+      → HasStateOf (judged masters old.kept.realm base.time.secs) rows base
+      → place_of new ≡ filled rows base (place_of old) → new.masters ≡ masters → new.dumps ≡ old.dumps
+      → new.room ≡ old.room → IsOpened new
   filled_open masters opened h is masters_are dumps room = record {
     state = h.state;
     has = filled_state masters h.state h.is is masters_are;

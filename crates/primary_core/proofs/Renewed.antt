@@ -1,5 +1,6 @@
 -- A log that is begun anew where another size is asked for, or the files are of format 1.
-use Rattle.std.proofs.Common.{◌≡◌, ◌≢◌, ◌<◌, ◌&&◌, ℕ, Bool, true, false, List, [], ◌∷◌, Option, Result, Err, sym, ap, subst, ◌∙◌, arith, eqb-true}
+use Rattle.std.proofs.Common.{◌≡◌, ◌≢◌, ◌<◌, ◌&&◌, ℕ, Bool, true, false, List, [], ◌∷◌}
+use Rattle.std.proofs.Common.{Option, Result, Err, sym, ap, subst, ◌∙◌, arith, eqb-true}
 use Rattle.std.specs.Prelude.{if◌then◌else◌, nat_eq}
 use Rattle.iprop_truths.specs.Parts.{end_of}
 use Rattle.kdb_base.specs.Moment.{Moment}
@@ -45,7 +46,8 @@ module _ (p : Place) (size : Option ℕ) (clock : Moment) (n : ℕ) (last : Poin
   pub none_made : Same n ≡ true → resized size clock p ≡ []
   none_made e = ap Made (told true e)
 
-  pub one_made : Same n ≡ false → resized size clock p ≡ stage (log_anew (reset_point clock p) (size_or size p) p.block p) Anew ∷ []
+  pub one_made : Same n ≡ false
+      → resized size clock p ≡ stage (log_anew (reset_point clock p) (size_or size p) p.block p) Anew ∷ []
   one_made e = ap Made (told false e)
 
   pub stays_same : Same n ≡ true → p ≡ end_of p (places (resized size clock p))
@@ -53,10 +55,12 @@ module _ (p : Place) (size : Option ℕ) (clock : Moment) (n : ℕ) (last : Poin
 
   some_made : Same n ≡ false → resized size clock p ≢ []
   some_made e none =
-      let two : ◌≡◌ {A = List Stage} (stage (log_anew (reset_point clock p) (size_or size p) p.block p) Anew ∷ []) [] = sym (one_made e) ∙ none in
+      let two : ◌≡◌ {A = List Stage} (stage (log_anew (reset_point clock p) (size_or size p) p.block p) Anew ∷ []) [] =
+      sym (one_made e) ∙ none in
       absurd cc
 
-  pub ends_time : Same n ≡ false → is_last last.time ≡ true → (why : Refusal) → TimeEnd ≡ why → EndsTime size clock p why
+  pub ends_time : Same n ≡ false → is_last last.time ≡ true → (why : Refusal) → TimeEnd ≡ why
+      → EndsTime size clock p why
   ends_time e last_one why is = record {
     anew = some_made e;
     ended = time_ended (point_of p).time (ap (λ (q : Point). is_last q.time) (sym r.last_is) ∙ last_one);
@@ -64,22 +68,27 @@ module _ (p : Place) (size : Option ℕ) (clock : Moment) (n : ℕ) (last : Poin
   }
 
   pub has_time : IsPoint last → is_last last.time ≡ false → HasTimeLeft p
-  has_time point more = subst (λ (q : Point). micros q.time < 4294967295999999) r.last_is (time_left last.time point.time more)
+  has_time point more =
+      subst (λ (q : Point). micros q.time < 4294967295999999) r.last_is (time_left last.time point.time more)
 
   -- the place with the log begun anew is the one that is made
-  pub places_made : (base : Point) → Same n ≡ false → base ≡ record { sno = 1; time = later_moment clock (next_moment last.time) }
+  pub places_made : (base : Point) → Same n ≡ false
+      → base ≡ record { sno = 1; time = later_moment clock (next_moment last.time) }
       → log_anew base n p.block p ∷ [] ≡ places (resized size clock p)
   places_made base e is =
-      let at : base ≡ reset_point clock p = is ∙ ap (λ (q : Point). let x : Point = record { sno = 1; time = later_moment clock (next_moment q.time) } in x) r.last_is in
+      let at : base ≡ reset_point clock p = is ∙ ap (λ (q : Point). let x : Point =
+      record { sno = 1; time = later_moment clock (next_moment q.time) } in x) r.last_is in
       ap (λ (x : Point). log_anew x n p.block p ∷ []) at
       ∙ ap (λ (m : ℕ). log_anew (reset_point clock p) m p.block p ∷ []) r.size_is
       ∙ sym (ap places (one_made e))
 
-  pub place_made : (base : Point) (q : Place) → Same n ≡ false → base ≡ record { sno = 1; time = later_moment clock (next_moment last.time) }
+  pub place_made : (base : Point) (q : Place) → Same n ≡ false
+      → base ≡ record { sno = 1; time = later_moment clock (next_moment last.time) }
       → q ≡ log_anew base n p.block p → q ≡ end_of p (places (resized size clock p))
   place_made base q e is at = at ∙ ap (end_of p) (places_made base e is)
 
-pub refused_same : (A : Type 0) (a b : Refusal) → ◌≡◌ {A = Result A Stop} (Err (stop.Refused a)) (Err (stop.Refused b)) → a ≡ b
+pub refused_same : (A : Type 0) (a b : Refusal)
+    → ◌≡◌ {A = Result A Stop} (Err (stop.Refused a)) (Err (stop.Refused b)) → a ≡ b
 refused_same A a b e = cc
 
 pub halt_same : (A : Type 0) (a b : Halt) → ◌≡◌ {A = Result A Stop} (Err (stop.Halt a)) (Err (stop.Halt b)) → a ≡ b

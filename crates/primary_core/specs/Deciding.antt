@@ -4,7 +4,8 @@ use Rattle.command_plans.specs.declared.planned.Planned.{Planned}
 use Rattle.command_plans.specs.declared.planned.Planned.TheVariants as planned
 use Rattle.kadm_commands.specs.declared.commands.Command.{Command}
 use Rattle.kadm_commands.specs.declared.replies.Reply.{Reply}
-use Rattle.kadm_commands.specs.declared.replies.Reply.TheVariants.{Done, MasterAdded, MasterUsed, MastersPurged, Refused}
+use Rattle.kadm_commands.specs.declared.replies.Reply.TheVariants.{Done, MasterAdded, MasterUsed}
+use Rattle.kadm_commands.specs.declared.replies.Reply.TheVariants.{MastersPurged, Refused}
 use Rattle.kadm_plan.specs.Ready.{is_planned}
 use Rattle.kdb_base.specs.Moment.{Moment}
 use Rattle.kdb_base.specs.declared.moments.Point.{Point}
@@ -83,10 +84,12 @@ decided_as clock (planned.Change op) p = change_decided clock (rows_changed op) 
 -- what a plan of master keys comes to
 abbrev pub masters_decided_as : Moment → MasterPlan → Place → Decided
 masters_decided_as clock (masters.Answer reply) p = Answer reply
-masters_decided_as clock (masters.Change c) p = change_decided clock (masters_changed c) (λ point. reply_at point c.told) p
+masters_decided_as clock (masters.Change c) p =
+    change_decided clock (masters_changed c) (λ point. reply_at point c.told) p
 
 -- The ask comes to this: a change may be made, and its answer tells its point.
 pub record Decides (o : Opened) (ask : Ask) (clock : Moment) (d : Decided) : Type 0 where
   pub is : IsDecided o ask (reply_of d) (change_of d)
   pub may : (change : DecidedChange) (reply : Reply) → d ≡ Change change reply → MayMake o clock change
-  pub point : (change : DecidedChange) (reply : Reply) → d ≡ Change change reply → point_told reply ≡ Some (entry_point clock change.op (place_of o))
+  pub point : (change : DecidedChange) (reply : Reply) → d ≡ Change change reply
+      → point_told reply ≡ Some (entry_point clock change.op (place_of o))

@@ -83,18 +83,19 @@ pub record LeadsOn (o : Opened) (clock : Moment) (change : DecidedChange) : Type
   pub is : IsLeft (place_of o).realm (entry_point clock change.op (place_of o)) change.op (place_of o).rows state
   pub masters_are : state.masters ≡ masters_behind o change.masters
 
--- The change may be made of what is kept: it has a spelling and its rows fit, a later time is left where the log is to begin anew, and the
--- rows show a state again.
+-- The change may be made of what is kept: it has a spelling and its rows fit, a later time is left where the log is to
+-- begin anew, and the rows show a state again.
 pub record MayMake (o : Opened) (clock : Moment) (change : DecidedChange) : Type 0 where
   pub applied : IsApplied o.kept.rows change.op
   pub left : is_due change.op (place_of o) ≡ true → HasTimeLeft (place_of o)
   pub leads : (s : State) → HasState o s → LeadsOn o clock change
 
--- This is answered, and this change is to be made first, where there is one: the step's own, of the state that the rows show. The master
--- keys behind the step are those behind the change.
+-- This is answered, and this change is to be made first, where there is one: the step's own, of the state that the rows
+-- show. The master keys behind the step are those behind the change.
 pub record IsAnswered (o : Opened) (ask : Ask) (answer : Answer) (change : Option DecidedChange) : Type 0 where
   pub performs : (s : State) → HasState o s → Performs (place_of o) s ask answer (made_for ask change (place_of o))
-  pub masters : (s : State) → HasState o s → (outcome_at ask (seen (place_of o) s)).state.masters ≡ masters_behind o (masters_brought change)
+  pub masters : (s : State) → HasState o s
+      → (outcome_at ask (seen (place_of o) s)).state.masters ≡ masters_behind o (masters_brought change)
 
 -- the same of a command, by its reply
 abbrev pub IsDecided : Opened → Ask → Reply → Option DecidedChange → Type 0

@@ -26,7 +26,8 @@ use Rattle.store_files.specs.Switches.{first_choice}
 
 -- ---- a creation
 
--- the place of a creation: its rows to the byte, serial 1 at the clock, blocks of 2048 bytes, and a stash with the master key
+-- the place of a creation: its rows to the byte, serial 1 at the clock, blocks of 2048 bytes, and a stash with the
+-- master key
 abbrev pub first_place : SpecParts → Moment → List ℕ → Place
 first_place spec now random =
     created spec.realm (first_rows spec now random) (first_point now) spec.size 2048
@@ -78,7 +79,8 @@ pub record HasNoTime (size : Option ℕ) (clock : Moment) (f : Found) (why : Ref
   pub opens : OpensWith f masters
   pub ends : EndsTime size clock (place_found f) why
 
--- Why an opening is refused: what the files stand for is judged first, then the stash and the rows, and then whether a time is left.
+-- Why an opening is refused: what the files stand for is judged first, then the stash and the rows, and then whether a
+-- time is left.
 abbrev pub OpeningRefused : Result Found Refusal → Option ℕ → Moment → Refusal → Type 0
 OpeningRefused (Err refusal) size clock why = why ≡ refusal
 OpeningRefused (Ok f) size clock why = StashRefuses f why ⊎ HasNoTime size clock f why

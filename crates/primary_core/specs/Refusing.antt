@@ -1,4 +1,5 @@
--- Why calls that are no commands are refused: the primary is closed, the access list does not allow them, or no later time is left.
+-- Why calls that are no commands are refused: the primary is closed, the access list does not allow them, or no later
+-- time is left.
 use Rattle.std.specs.Prelude.{Bool, nat_eq, List, [], ◌∷◌, Option, Some, None, if◌then◌else◌}
 use Rattle.acl_text.specs.declared.rules.AclLine.{AclLine}
 use Rattle.command_plans.specs.Causes.{denial_of}

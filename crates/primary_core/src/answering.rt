@@ -36,7 +36,8 @@ impl Primary {
         acl: Option<&Acl>,
     ) -> Result<(), Stop>
         ensures ok { OnOk result (names_refused self.now client.now (option_map (λ acl. acl.now) acl.entry) ≡ None) }
-        ensures refused { (why : Refuses) → result ≡ Err (stops.Refused why) → names_refused self.now client.now (option_map (λ acl. acl.now) acl.entry) ≡ Some why }
+        ensures refused { (why : Refuses) → result ≡ Err (stops.Refused why)
+            → names_refused self.now client.now (option_map (λ acl. acl.now) acl.entry) ≡ Some why }
         ensures closed { self.now.kept.broken ≡ true → result ≡ Err (stops.Refused Closed) }
         ensures halted { (halt : Halts) → result ≡ Err (stops.Halt halt) → halt ≡ IsMemoryOut }
     {
@@ -64,13 +65,18 @@ impl Primary {
         acl: Option<&Acl>,
         glob: &Option<Blob>,
     ) -> Result<NameList, Stop>
-        ensures names { IfOk result (λ names. names ≡ names_told glob.now (princ_keys (place_of self.now).rows.princs)) }
+        ensures names { IfOk result
+            (λ names. names ≡ names_told glob.now (princ_keys (place_of self.now).rows.princs)) }
         // They are the names of the state that the rows show.
-        ensures state { (s : State) → HasState self.now s → IfOk result (λ names. names ≡ names_told glob.now (princ_names s.princs)) }
+        ensures state { (s : State) → HasState self.now s
+            → IfOk result (λ names. names ≡ names_told glob.now (princ_names s.princs)) }
         ensures others { IfOk result (λ names. All (λ name. is_master name ≡ false) names) }
-        ensures refused { (why : Refuses) → result ≡ Err (stops.Refused why) → names_refused self.now client.now (option_map (λ acl. acl.now) acl.entry) ≡ Some why }
+        ensures refused { (why : Refuses) → result ≡ Err (stops.Refused why)
+            → names_refused self.now client.now (option_map (λ acl. acl.now) acl.entry) ≡ Some why }
         // Where there is a cause it is told, unless memory runs out.
-        ensures only_refused { (why : Refuses) → names_refused self.now client.now (option_map (λ acl. acl.now) acl.entry) ≡ Some why → IsRefusedAs result why }
+        ensures only_refused { (why : Refuses)
+            → names_refused self.now client.now (option_map (λ acl. acl.now) acl.entry) ≡ Some why
+            → IsRefusedAs result why }
         ensures closed { self.now.kept.broken ≡ true → result ≡ Err (stops.Refused Closed) }
         ensures halted { (halt : Halts) → result ≡ Err (stops.Halt halt) → halt ≡ IsMemoryOut }
     {
@@ -97,7 +103,9 @@ impl Primary {
         acl: Option<&Acl>,
         asked: Point,
     ) -> Result<PollReply, Stop>
-        ensures reply { IfOk result (λ r. told_reply r ≡ poll_reply (denies_pull (option_map (λ acl. acl.now) acl.entry) client.now) (is_full self.now) asked (place_of self.now).held) }
+        ensures reply { IfOk result
+            (λ r. told_reply r ≡ poll_reply (denies_pull (option_map (λ acl. acl.now) acl.entry) client.now)
+            (is_full self.now) asked (place_of self.now).held) }
         ensures refused { (why : Refuses) → result ≡ Err (stops.Refused why) → poll_refused self.now ≡ Some why }
         ensures closed { self.now.kept.broken ≡ true → result ≡ Err (stops.Refused Closed) }
         ensures halted { (halt : Halts) → result ≡ Err (stops.Halt halt) → halt ≡ IsMemoryOut }

@@ -104,7 +104,8 @@ fn at_point(change: MasterChange, point: Point) -> Decided
 /// The same of a change of master keys.
 pub(crate) fn decide_master_change(database: &Database, change: MasterChange, now: Time) -> Decided
     requires { IsOp (Some change.op) }
-    ensures { result ≡ change_decided now (masters_changed change) (λ point. reply_at point change.told) (place_kept database.now) }
+    ensures { result
+        ≡ change_decided now (masters_changed change) (λ point. reply_at point change.told) (place_kept database.now) }
 {
     match point_for(database, entry_length(&change.op), now) {
         Some(point) => at_point(change, point),
@@ -129,10 +130,13 @@ fn change_anew<D: Disk>(
     requires short { len < 16384 }
     requires due { is_due op (place_kept database.old) ≡ true }
     requires left { HasTimeLeft (place_kept database.old) }
-    ensures place { OnOk result (place_kept database.new ≡ end_of (place_kept database.old) (change_places now op (place_kept database.old))) }
+    ensures place { OnOk result
+        (place_kept database.new ≡ end_of (place_kept database.old) (change_places now op (place_kept database.old))) }
     ensures on { D.tells → OnOk result (IsOnDisk database.new (D.view disk.new)) }
-    ensures crash { IsCrashSafe D.Disk disk.old disk.new (LeavesPart (place_kept database.old) (change_places now op (place_kept database.old))) }
-    ensures part { OnErr result (IsPart (place_kept database.old) (change_places now op (place_kept database.old)) (place_kept database.new)) }
+    ensures crash { IsCrashSafe D.Disk disk.old disk.new
+        (LeavesPart (place_kept database.old) (change_places now op (place_kept database.old))) }
+    ensures part { OnErr result
+        (IsPart (place_kept database.old) (change_places now op (place_kept database.old)) (place_kept database.new)) }
     ensures rows { OnErr result ((place_kept database.new).rows ≡ (place_kept database.old).rows) }
     ensures memory { result ≡ Err IsMemoryOut → disk.new ≡ disk.old }
     ensures memory_place { result ≡ Err IsMemoryOut → place_kept database.new ≡ place_kept database.old }
@@ -161,10 +165,13 @@ fn change_rows<D: Disk>(
     requires format { (place_kept database.old).format ≡ 2 }
     requires applied { IsApplied database.old.rows op }
     requires left { is_due op (place_kept database.old) ≡ true → HasTimeLeft (place_kept database.old) }
-    ensures place { OnOk result (place_kept database.new ≡ end_of (place_kept database.old) (change_places now op (place_kept database.old))) }
+    ensures place { OnOk result
+        (place_kept database.new ≡ end_of (place_kept database.old) (change_places now op (place_kept database.old))) }
     ensures on { D.tells → OnOk result (IsOnDisk database.new (D.view disk.new)) }
-    ensures crash { IsCrashSafe D.Disk disk.old disk.new (LeavesPart (place_kept database.old) (change_places now op (place_kept database.old))) }
-    ensures part { OnErr result (IsPart (place_kept database.old) (change_places now op (place_kept database.old)) (place_kept database.new)) }
+    ensures crash { IsCrashSafe D.Disk disk.old disk.new
+        (LeavesPart (place_kept database.old) (change_places now op (place_kept database.old))) }
+    ensures part { OnErr result
+        (IsPart (place_kept database.old) (change_places now op (place_kept database.old)) (place_kept database.new)) }
     ensures rows { OnErr result ((place_kept database.new).rows ≡ (place_kept database.old).rows) }
     ensures memory { result ≡ Err IsMemoryOut → disk.new ≡ disk.old }
     ensures memory_place { result ≡ Err IsMemoryOut → place_kept database.new ≡ place_kept database.old }
@@ -209,10 +216,13 @@ pub(crate) fn make_change<D: Disk>(
     requires left { is_due change.op (place_kept database.old) ≡ true → HasTimeLeft (place_kept database.old) }
     ensures masters { OnOk result (masters.new ≡ unwrap_or change.masters masters.old) }
     ensures masters_stay { OnErr result (masters.new ≡ masters.old) }
-    ensures place { OnOk result (place_kept database.new ≡ end_of (place_kept database.old) (change_places now change.op (place_kept database.old))) }
+    ensures place { OnOk result (place_kept database.new
+        ≡ end_of (place_kept database.old) (change_places now change.op (place_kept database.old))) }
     ensures on { D.tells → OnOk result (IsOnDisk database.new (D.view disk.new)) }
-    ensures crash { IsCrashSafe D.Disk disk.old disk.new (LeavesPart (place_kept database.old) (change_places now change.op (place_kept database.old))) }
-    ensures part { OnErr result (IsPart (place_kept database.old) (change_places now change.op (place_kept database.old)) (place_kept database.new)) }
+    ensures crash { IsCrashSafe D.Disk disk.old disk.new
+        (LeavesPart (place_kept database.old) (change_places now change.op (place_kept database.old))) }
+    ensures part { OnErr result (IsPart (place_kept database.old)
+        (change_places now change.op (place_kept database.old)) (place_kept database.new)) }
     ensures rows { OnErr result ((place_kept database.new).rows ≡ (place_kept database.old).rows) }
     ensures memory { result ≡ Err IsMemoryOut → disk.new ≡ disk.old }
     ensures memory_place { result ≡ Err IsMemoryOut → place_kept database.new ≡ place_kept database.old }

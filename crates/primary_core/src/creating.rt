@@ -59,7 +59,8 @@ fn first_parts(
     requires { length random.now ≡ 2048 }
     ensures rows { IfOk result (λ parts. parts.0 ≡ first_rows spec.now now random.now) }
     ensures masters { IfOk result (λ parts. parts.1 ≡ (first_state spec.now now random.now).masters) }
-    ensures stash { IfOk result (λ parts. parts.2 ≡ stash_text spec.now.realm now.secs (first_state spec.now now random.now).masters) }
+    ensures stash { IfOk result
+        (λ parts. parts.2 ≡ stash_text spec.now.realm now.secs (first_state spec.now now random.now).masters) }
 {
     let (rows, masters) = first_rows(alloc, spec, now, block_of(random))?;
     let stash = write_stash(alloc, spec.realm(), now.secs(), &masters)?;
@@ -76,14 +77,19 @@ fn make_database<D: Disk>(
     stash: &[u8],
 ) -> Result<Database, Stop>
     ensures answer { D.tells → AnswersMade result (in_force ((D.view disk.old).seen 0)) }
-    ensures place { IfOk result (λ d. place_kept d ≡ created spec.now.realm rows (first_point now) spec.now.size 2048 (Some stash.now) 2) }
+    ensures place { IfOk result
+        (λ d. place_kept d ≡ created spec.now.realm rows (first_point now) spec.now.size 2048 (Some stash.now) 2) }
     ensures control { IfOk result (λ d. d.control ≡ first_control spec.now now) }
-    ensures written { D.tells → OnOk result (HasFile 1 (file_text 2 spec.now.realm (first_point now) rows) (D.view disk.new)) }
+    ensures written { D.tells
+        → OnOk result (HasFile 1 (file_text 2 spec.now.realm (first_point now) rows) (D.view disk.new)) }
     ensures whole { IfOk result (λ d. d.broken ≡ false) }
     ensures on { D.tells → IfOk result (λ d. IsOnDisk d (D.view disk.new)) }
-    ensures moments { D.tells → LeavesOnly (D.view disk.old) (D.view disk.new) (Creates (D.view disk.old) (created spec.now.realm rows (first_point now) spec.now.size 2048 (Some stash.now) 2)) }
-    ensures refused { D.tells → (refusal : Refuses) → result ≡ Err (Refused refusal) → Keeps (D.view disk.old) (D.view disk.new) }
-    ensures there { D.tells → in_force ((D.view disk.old).seen 0) ≢ Nothing → Keeps (D.view disk.old) (D.view disk.new) }
+    ensures moments { D.tells → LeavesOnly (D.view disk.old) (D.view disk.new) (Creates (D.view disk.old)
+        (created spec.now.realm rows (first_point now) spec.now.size 2048 (Some stash.now) 2)) }
+    ensures refused { D.tells → (refusal : Refuses) → result ≡ Err (Refused refusal)
+        → Keeps (D.view disk.old) (D.view disk.new) }
+    ensures there { D.tells → in_force ((D.view disk.old).seen 0) ≢ Nothing
+        → Keeps (D.view disk.old) (D.view disk.new) }
     ensures memory { result ≡ Err (Halts IsMemoryOut) → disk.new ≡ disk.old }
     ensures call { IsCall D.Disk disk.old disk.new (result ≡ Err (Halts IsDiskFault)) }
 {
@@ -149,9 +155,12 @@ impl Primary {
         ensures room { IfOk result (λ o. (o.dumps ≡ 0) × (o.room ≡ 1)) }
         ensures whole { IfOk result (λ o. o.kept.broken ≡ false) }
         ensures on { D.tells → IfOk result (λ o. IsOnDisk o.kept (D.view disk.new)) }
-        ensures moments { D.tells → LeavesOnly (D.view disk.old) (D.view disk.new) (Creates (D.view disk.old) (first_place spec.now now random.now)) }
-        ensures refused { D.tells → (refusal : Refuses) → result ≡ Err (Refused refusal) → Keeps (D.view disk.old) (D.view disk.new) }
-        ensures there { D.tells → in_force ((D.view disk.old).seen 0) ≢ Nothing → Keeps (D.view disk.old) (D.view disk.new) }
+        ensures moments { D.tells → LeavesOnly (D.view disk.old) (D.view disk.new)
+            (Creates (D.view disk.old) (first_place spec.now now random.now)) }
+        ensures refused { D.tells → (refusal : Refuses) → result ≡ Err (Refused refusal)
+            → Keeps (D.view disk.old) (D.view disk.new) }
+        ensures there { D.tells → in_force ((D.view disk.old).seen 0) ≢ Nothing
+            → Keeps (D.view disk.old) (D.view disk.new) }
         ensures memory { result ≡ Err (Halts IsMemoryOut) → disk.new ≡ disk.old }
         ensures call { IsCall D.Disk disk.old disk.new (result ≡ Err (Halts IsDiskFault)) }
     {

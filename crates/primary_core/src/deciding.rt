@@ -19,7 +19,8 @@ ghost use Rattle.kdb_plain.specs.declared.states.State.{State};
 ghost use Rattle.mkey_admin.specs.Plans.{IsMasterChange, is_master_command};
 ghost use Rattle.mkey_admin.specs.declared.planned.MasterChange.{MasterChange as MasterChanges};
 ghost use Rattle.mkey_admin.specs.declared.planned.MasterPlan.TheVariants as masters;
-ghost use Rattle.primary_core.specs.Deciding.{Decides, change_of, decided_as, is_judged, masters_decided_as, point_told, reply_of};
+ghost use Rattle.primary_core.specs.Deciding.{Decides, change_of, decided_as, is_judged};
+ghost use Rattle.primary_core.specs.Deciding.{masters_decided_as, point_told, reply_of};
 ghost use Rattle.primary_core.specs.Opened.{HasState, IsDecided, MayMake, command_ask, place_of};
 ghost use Rattle.primary_core.specs.declared.decided.Decided.TheVariants.{Answer, Change};
 ghost use Rattle.primary_core.specs.declared.decided.DecidedChange.{DecidedChange as ToMake};
@@ -99,9 +100,14 @@ impl Primary {
         requires command { IsCommand self.now.kept.realm ready.now.command }
         requires planned { is_planned ready.now.command ≡ true }
         requires random { length random.now ≡ 2048 }
-        ensures refused { (s : State) (why : Refuses) → HasState self.now s → result ≡ Err (stops.Refused why) → refusal s (call_of client.now (option_map (λ acl. acl.now) acl.entry) ready.now.command now random.now false) ≡ Some why }
-        ensures answer { (s : State) (reply : Replies) → HasState self.now s → result ≡ Ok (Answers reply) → IsAnswer s (call_of client.now (option_map (λ acl. acl.now) acl.entry) ready.now.command now random.now false) reply }
-        ensures change { (s : State) (op : Operation) → HasState self.now s → result ≡ Ok (Changes op) → IsChange self.now.kept.rows s (call_of client.now (option_map (λ acl. acl.now) acl.entry) ready.now.command now random.now false) op }
+        ensures refused { (s : State) (why : Refuses) → HasState self.now s → result ≡ Err (stops.Refused why)
+            → refusal s (call_of client.now (option_map (λ acl. acl.now) acl.entry) ready.now.command now random.now
+            false) ≡ Some why }
+        ensures answer { (s : State) (reply : Replies) → HasState self.now s → result ≡ Ok (Answers reply) → IsAnswer s
+            (call_of client.now (option_map (λ acl. acl.now) acl.entry) ready.now.command now random.now false) reply }
+        ensures change { (s : State) (op : Operation) → HasState self.now s
+            → result ≡ Ok (Changes op) → IsChange self.now.kept.rows s
+            (call_of client.now (option_map (λ acl. acl.now) acl.entry) ready.now.command now random.now false) op }
         ensures applies { (op : Operation) → result ≡ Ok (Changes op) → IsApplied self.now.kept.rows op }
         ensures halted { (halt : Halts) → result ≡ Err (stops.Halt halt) → halt ≡ IsMemoryOut }
     {
@@ -130,9 +136,15 @@ impl Primary {
         requires command { IsCommand self.now.kept.realm command.now }
         requires masters { is_master_command command.now ≡ true }
         requires random { length random.now ≡ 2048 }
-        ensures refused { (s : State) (why : Refuses) → HasState self.now s → result ≡ Err (stops.Refused why) → refusal s (call_of client.now (option_map (λ acl. acl.now) acl.entry) command.now now random.now false) ≡ Some why }
-        ensures answer { (s : State) (reply : Replies) → HasState self.now s → result ≡ Ok (masters.Answer reply) → IsAnswer s (call_of client.now (option_map (λ acl. acl.now) acl.entry) command.now now random.now false) reply }
-        ensures change { (s : State) (c : MasterChanges) → HasState self.now s → result ≡ Ok (masters.Change c) → IsMasterChange self.now.kept.rows s (call_of client.now (option_map (λ acl. acl.now) acl.entry) command.now now random.now false) c }
+        ensures refused { (s : State) (why : Refuses) → HasState self.now s → result ≡ Err (stops.Refused why)
+            → refusal s (call_of client.now (option_map (λ acl. acl.now) acl.entry) command.now now random.now false)
+            ≡ Some why }
+        ensures answer { (s : State) (reply : Replies)
+            → HasState self.now s → result ≡ Ok (masters.Answer reply) → IsAnswer s
+            (call_of client.now (option_map (λ acl. acl.now) acl.entry) command.now now random.now false) reply }
+        ensures change { (s : State) (c : MasterChanges) → HasState self.now s
+            → result ≡ Ok (masters.Change c) → IsMasterChange self.now.kept.rows s
+            (call_of client.now (option_map (λ acl. acl.now) acl.entry) command.now now random.now false) c }
         ensures applies { (c : MasterChanges) → result ≡ Ok (masters.Change c) → IsApplied self.now.kept.rows c.op }
         ensures halted { (halt : Halts) → result ≡ Err (stops.Halt halt) → halt ≡ IsMemoryOut }
     {
@@ -183,7 +195,8 @@ impl Primary {
         requires command { IsCommand self.now.kept.realm ready.now.command }
         requires planned { is_planned ready.now.command ≡ true }
         requires random { length random.now ≡ 2048 }
-        ensures decided { IfOk result (λ d. Decides self.now (command_ask client.now (option_map (λ acl. acl.now) acl.entry) ready.now.command now random.now) now d) }
+        ensures decided { IfOk result (λ d. Decides self.now
+            (command_ask client.now (option_map (λ acl. acl.now) acl.entry) ready.now.command now random.now) now d) }
         ensures halted { IfErr result (λ halt. halt ≡ IsMemoryOut) }
     {
         plans_are_performed();
@@ -211,7 +224,8 @@ impl Primary {
         requires command { IsCommand self.now.kept.realm command.now }
         requires masters { is_master_command command.now ≡ true }
         requires random { length random.now ≡ 2048 }
-        ensures decided { IfOk result (λ d. Decides self.now (command_ask client.now (option_map (λ acl. acl.now) acl.entry) command.now now random.now) now d) }
+        ensures decided { IfOk result (λ d. Decides self.now
+            (command_ask client.now (option_map (λ acl. acl.now) acl.entry) command.now now random.now) now d) }
         ensures halted { IfErr result (λ halt. halt ≡ IsMemoryOut) }
     {
         plans_are_performed();
@@ -245,9 +259,12 @@ impl Primary {
         requires command { IsCommand self.now.kept.realm ready.now.command }
         requires judged { is_judged ready.now.command ≡ true }
         requires random { length random.now ≡ 2048 }
-        ensures decided { self.now.kept.broken ≡ false → IfOk result (λ d. IsDecided self.now (command_ask client.now (option_map (λ acl. acl.now) acl.entry) ready.now.command now random.now) (reply_of d) (change_of d)) }
-        ensures may { (change : ToMake) (reply : Replies) → result ≡ Ok (Change change reply) → MayMake self.now now change }
-        ensures point { (change : ToMake) (reply : Replies) → result ≡ Ok (Change change reply) → point_told reply ≡ Some (entry_point now change.op (place_of self.now)) }
+        ensures decided { self.now.kept.broken ≡ false → IfOk result (λ d. IsDecided self.now (command_ask client.now
+            (option_map (λ acl. acl.now) acl.entry) ready.now.command now random.now) (reply_of d) (change_of d)) }
+        ensures may { (change : ToMake) (reply : Replies) → result ≡ Ok (Change change reply)
+            → MayMake self.now now change }
+        ensures point { (change : ToMake) (reply : Replies) → result ≡ Ok (Change change reply)
+            → point_told reply ≡ Some (entry_point now change.op (place_of self.now)) }
         ensures closed { self.now.kept.broken ≡ true → result ≡ Ok (Answer (Refused Closed)) }
         ensures halted { IfErr result (λ halt. halt ≡ IsMemoryOut) }
     {

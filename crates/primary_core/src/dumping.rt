@@ -87,8 +87,11 @@ impl Primary {
         ensures begun { OnOk result (self.new ≡ with_dumps (self.old.dumps + 1) self.old) }
         ensures free { OnOk result (is_full self.old ≡ false) }
         ensures err { OnErr result (self.new ≡ self.old) }
-        ensures refused { (why : Refuses) → result ≡ Err (stops.Refused why) → dump_refused self.old client.now (option_map (λ acl. acl.now) acl.entry) ≡ Some why }
-        ensures only_refused { (why : Refuses) → dump_refused self.old client.now (option_map (λ acl. acl.now) acl.entry) ≡ Some why → result ≡ Err (stops.Refused why) }
+        ensures refused { (why : Refuses) → result ≡ Err (stops.Refused why)
+            → dump_refused self.old client.now (option_map (λ acl. acl.now) acl.entry) ≡ Some why }
+        ensures only_refused { (why : Refuses)
+            → dump_refused self.old client.now (option_map (λ acl. acl.now) acl.entry) ≡ Some why
+            → result ≡ Err (stops.Refused why) }
         ensures halted { (halt : Halts) → result ≡ Err (stops.Halt halt) → halt ≡ IsMemoryOut }
     {
         match self.dump_refusal(client, acl) {

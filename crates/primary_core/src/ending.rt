@@ -17,13 +17,13 @@ use store_files::laws::what_is_kept_is_recovered;
 use store_switches::destroy_files;
 
 impl Primary {
-    /// Ends the database: its slots are closed, the older one first, and then all its files are cut to nothing. No memory
-    /// is taken.
+    /// Ends the database: its slots are closed, the older one first, and then all its files are cut to nothing. No
+    /// memory is taken.
     ///
     /// # Errors
     ///
-    /// `DiskFault` where the disk failed. Of a primary that is not closed, on a disk that tells of its files, nothing is
-    /// refused.
+    /// `DiskFault` where the disk failed. Of a primary that is not closed, on a disk that tells of its files, nothing
+    /// is refused.
     pub fn destroy<D: Disk>(self, disk: &mut D) -> Result<(), Stop>
         requires on { D.tells → self.kept.broken ≡ false → IsOnDisk self.kept (D.view disk.old) }
         ensures none { D.tells → OnOk result (RecoversToNone (D.view disk.new)) }

@@ -55,14 +55,17 @@ impl Primary {
         requires whole { self.old.kept.broken ≡ false }
         // The rows show a state with these master keys, which is valid at the base.
         requires shown { HasStateOf (judged masters self.old.kept.realm base.time.secs) rows base }
-        ensures place { OnOk result (place_of self.new ≡ replaced (place_of self.old).realm rows base (place_of self.old)) }
+        ensures place { OnOk result
+            (place_of self.new ≡ replaced (place_of self.old).realm rows base (place_of self.old)) }
         ensures masters { OnOk result (self.new.masters ≡ masters) }
-        ensures state { (t : State) → ShowsValid (judged masters self.old.kept.realm base.time.secs) rows base t → OnOk result (HasState self.new t) }
+        ensures state { (t : State) → ShowsValid (judged masters self.old.kept.realm base.time.secs) rows base t
+            → OnOk result (HasState self.new t) }
         ensures err { OnErr result (place_of self.new ≡ place_of self.old) }
         ensures err_masters { OnErr result (self.new.masters ≡ self.old.masters) }
         ensures dumps { (self.new.dumps ≡ self.old.dumps) × (self.new.room ≡ self.old.room) }
         ensures on { D.tells → OnOk result (IsOnDisk self.new.kept (D.view disk.new)) }
-        ensures crash { IsCrashSafe D.Disk disk.old disk.new (LeavesPart (place_of self.old) (replaced (place_of self.old).realm rows base (place_of self.old) ∷ [])) }
+        ensures crash { IsCrashSafe D.Disk disk.old disk.new
+            (LeavesPart (place_of self.old) (replaced (place_of self.old).realm rows base (place_of self.old) ∷ [])) }
         ensures memory { result ≡ Err IsMemoryOut → disk.new ≡ disk.old }
         ensures still { D.tells → result ≡ Err IsMemoryOut → IsOnDisk self.new.kept (D.view disk.new) }
         ensures whole { OnOk result (self.new.kept.broken ≡ false) }
@@ -98,14 +101,17 @@ impl Primary {
         requires whole { self.old.kept.broken ≡ false }
         // The rows show a state with these master keys, which is valid at the base.
         requires shown { HasStateOf (judged masters self.old.kept.realm base.time.secs) rows base }
-        ensures place { OnOk result (place_of self.new ≡ replaced (place_of self.old).realm rows base (place_of self.old)) }
+        ensures place { OnOk result
+            (place_of self.new ≡ replaced (place_of self.old).realm rows base (place_of self.old)) }
         ensures masters { OnOk result (self.new.masters ≡ masters) }
-        ensures state { (t : State) → ShowsValid (judged masters self.old.kept.realm base.time.secs) rows base t → OnOk result (HasState self.new t) }
+        ensures state { (t : State) → ShowsValid (judged masters self.old.kept.realm base.time.secs) rows base t
+            → OnOk result (HasState self.new t) }
         ensures err { OnErr result (place_of self.new ≡ place_of self.old) }
         ensures err_masters { OnErr result (self.new.masters ≡ self.old.masters) }
         ensures dumps { (self.new.dumps ≡ self.old.dumps) × (self.new.room ≡ self.old.room) }
         ensures on { D.tells → OnOk result (IsOnDisk self.new.kept (D.view disk.new)) }
-        ensures crash { IsCrashSafe D.Disk disk.old disk.new (LeavesPart (place_of self.old) (replaced (place_of self.old).realm rows base (place_of self.old) ∷ [])) }
+        ensures crash { IsCrashSafe D.Disk disk.old disk.new
+            (LeavesPart (place_of self.old) (replaced (place_of self.old).realm rows base (place_of self.old) ∷ [])) }
         ensures memory { result ≡ Err IsMemoryOut → disk.new ≡ disk.old }
         ensures still { D.tells → result ≡ Err IsMemoryOut → IsOnDisk self.new.kept (D.view disk.new) }
         ensures whole { OnOk result (self.new.kept.broken ≡ false) }

@@ -21,7 +21,8 @@ ghost use Rattle.kdb_places.specs.Places.{Place};
 ghost use Rattle.kdb_plain.specs.declared.states.State.{State};
 ghost use Rattle.mkey_admin.specs.Plans.{IsMasterChange, is_master_command};
 ghost use Rattle.mkey_admin.specs.declared.planned.MasterChange.{MasterChange};
-ghost use Rattle.primary_core.specs.Opened.{HasState, IsDecided, Opened, made_for, masters_behind, masters_brought, place_of};
+ghost use Rattle.primary_core.specs.Opened.{HasState, IsDecided, Opened, made_for};
+ghost use Rattle.primary_core.specs.Opened.{masters_behind, masters_brought, place_of};
 ghost use Rattle.primary_core.specs.declared.decided.DecidedChange.{DecidedChange};
 ghost use Rattle.princ_rows.specs.declared.entries.Op.{Op};
 ghost use Rattle.princ_name.specs.Names.{NameParts};
@@ -33,14 +34,23 @@ use kdb_model::laws::{
 use kdb_plain::laws::spared_keys_stay;
 
 /// What was decided is what the ask comes to, in the state that the rows show: the answer is its own, the places that
-/// are made end at its place, and the state behind it is the one that the rows show there, with the master keys behind the
-/// change.
+/// are made end at its place, and the state behind it is the one that the rows show there, with the master keys behind
+/// the change.
 pub fn decisions_are_asked()
-    ensures answers { (o : Opened) (ask : Ask) (reply : Reply) (change : Option DecidedChange) (s : State) → IsDecided o ask reply change → HasState o s → answer_at ask (seen (place_of o) s) ≡ Replied reply }
-    ensures place { (o : Opened) (ask : Ask) (reply : Reply) (change : Option DecidedChange) (s : State) → IsDecided o ask reply change → HasState o s → (after_ask ask (seen (place_of o) s)).place ≡ end_of (place_of o) (places (made_for ask change (place_of o))) }
-    ensures keeps { (o : Opened) (ask : Ask) (reply : Reply) (s : State) → IsDecided o ask reply None → HasState o s → after_ask ask (seen (place_of o) s) ≡ seen (place_of o) s }
-    ensures leaves { (o : Opened) (ask : Ask) (reply : Reply) (change : DecidedChange) (s : State) → IsDecided o ask reply (Some change) → HasState o s → IsLeft (place_of o).realm (entry_point (clock_of ask) change.op (place_of o)) change.op (place_of o).rows (after_ask ask (seen (place_of o) s)).state }
-    ensures masters { (o : Opened) (ask : Ask) (reply : Reply) (change : Option DecidedChange) (s : State) → IsDecided o ask reply change → HasState o s → (after_ask ask (seen (place_of o) s)).state.masters ≡ masters_behind o (masters_brought change) }
+    ensures answers { (o : Opened) (ask : Ask) (reply : Reply) (change : Option DecidedChange) (s : State)
+        → IsDecided o ask reply change → HasState o s → answer_at ask (seen (place_of o) s) ≡ Replied reply }
+    ensures place { (o : Opened) (ask : Ask) (reply : Reply) (change : Option DecidedChange) (s : State)
+        → IsDecided o ask reply change → HasState o s → (after_ask ask (seen (place_of o) s)).place
+        ≡ end_of (place_of o) (places (made_for ask change (place_of o))) }
+    ensures keeps { (o : Opened) (ask : Ask) (reply : Reply) (s : State) → IsDecided o ask reply None → HasState o s
+        → after_ask ask (seen (place_of o) s) ≡ seen (place_of o) s }
+    ensures leaves { (o : Opened) (ask : Ask) (reply : Reply) (change : DecidedChange) (s : State)
+        → IsDecided o ask reply (Some change) → HasState o s
+        → IsLeft (place_of o).realm (entry_point (clock_of ask) change.op (place_of o)) change.op (place_of o).rows
+        (after_ask ask (seen (place_of o) s)).state }
+    ensures masters { (o : Opened) (ask : Ask) (reply : Reply) (change : Option DecidedChange) (s : State)
+        → IsDecided o ask reply change → HasState o s
+        → (after_ask ask (seen (place_of o) s)).state.masters ≡ masters_behind o (masters_brought change) }
 {}
 
 /// A command that rows alone decide leaves the master keys as they are.
@@ -56,8 +66,10 @@ pub(crate) fn planned_commands_keep_the_masters()
 
 /// A change for which the log is to begin anew is refused where no later time is left, and makes no place.
 pub(crate) fn changes_end_with_time()
-    ensures { (p : Place) (s : State) (client : NameParts) (access : Option (List AclLine)) (cmd : Command) (clock : Moment) (random : List ℕ) (op : Op)
-        → is_due op p ≡ true → is_last s.point.time ≡ true → IsChange p.rows s (call_of client access cmd clock random false) op
+    ensures { (p : Place) (s : State) (client : NameParts) (access : Option (List AclLine)) (cmd : Command)
+        (clock : Moment) (random : List ℕ) (op : Op)
+        → is_due op p ≡ true → is_last s.point.time ≡ true
+        → IsChange p.rows s (call_of client access cmd clock random false) op
         → Performs p s (Commanded (call_of client access cmd clock random false)) (Replied (Refused TimeEnd)) [] }
 {
     new_log_moves_the_point_alone();
@@ -66,8 +78,10 @@ pub(crate) fn changes_end_with_time()
 
 /// The same of a change of master keys.
 pub(crate) fn master_changes_end_with_time()
-    ensures { (p : Place) (s : State) (client : NameParts) (access : Option (List AclLine)) (cmd : Command) (clock : Moment) (random : List ℕ) (c : MasterChange)
-        → is_master_command cmd ≡ true → is_due c.op p ≡ true → is_last s.point.time ≡ true → IsMasterChange p.rows s (call_of client access cmd clock random false) c
+    ensures { (p : Place) (s : State) (client : NameParts) (access : Option (List AclLine)) (cmd : Command)
+        (clock : Moment) (random : List ℕ) (c : MasterChange)
+        → is_master_command cmd ≡ true → is_due c.op p ≡ true → is_last s.point.time ≡ true
+        → IsMasterChange p.rows s (call_of client access cmd clock random false) c
         → Performs p s (Commanded (call_of client access cmd clock random false)) (Replied (Refused TimeEnd)) [] }
 {
     new_log_moves_the_point_alone();

@@ -1,6 +1,7 @@
 //! A primary opened.
 
-ghost use Rattle.std.specs.Prelude.{◌≡◌, ◌≢◌, ◌≤◌, ◌⊎◌, ◌&&◌, ◌∷◌, [], false, Err, IfOk, IfSome, List, MatchResult, Ok, OnOk, nat_eq};
+ghost use Rattle.std.specs.Prelude.{◌≡◌, ◌≢◌, ◌≤◌, ◌⊎◌, ◌&&◌, ◌∷◌, [], false, Err};
+ghost use Rattle.std.specs.Prelude.{IfOk, IfSome, List, MatchResult, Ok, OnOk, nat_eq};
 ghost use Rattle.iprop_truths.specs.Parts.{end_of};
 ghost use Rattle.kdb_base.specs.declared.outcomes.Halt.{Halt as Halting};
 ghost use Rattle.kdb_base.specs.declared.outcomes.Halt.TheVariants.{MemoryOut as IsMemoryOut, DiskFault as IsDiskFault};
@@ -14,7 +15,9 @@ ghost use Rattle.kdb_histories.specs.Stages.{places};
 ghost use Rattle.kdb_places.specs.Places.{log_anew};
 ghost use Rattle.kdb_store.specs.Reading.{IsFoundAs};
 ghost use Rattle.primary_core.specs.Opened.{IsShown};
-ghost use Rattle.primary_core.specs.Opening.{EndsTime, IsHalt, IsRefusedAs, MayOpen, OpeningRefused, OpensAt, OpensFrom, OpensHaving, OpensTo, OpensWith, RecoversAs, RefusesAt, RowsRefused, place_found};
+ghost use Rattle.primary_core.specs.Opening.{EndsTime, IsHalt, IsRefusedAs, MayOpen, OpeningRefused};
+ghost use Rattle.primary_core.specs.Opening.{OpensAt, OpensFrom, OpensHaving, OpensTo, OpensWith};
+ghost use Rattle.primary_core.specs.Opening.{RecoversAs, RefusesAt, RowsRefused, place_found};
 ghost use Rattle.stash_opening.specs.Answers.{Gives, Refuses as RefusesFor};
 ghost use Rattle.store_files.specs.Found.{Found, found_in};
 ghost use Rattle.store_files.specs.Kept.{IsOnDisk, place_kept};
@@ -35,8 +38,10 @@ use store_files::laws::what_is_kept_is_recovered;
 fn masters_of(alloc: Global, database: &Database) -> Result<Masters, Stop>
     ensures opens { IfOk result (OpensAt (place_kept database.now)) }
     ensures complete { (masters : List Masterly) → OpensAt (place_kept database.now) masters → Gives result masters }
-    ensures refused { (why : Refuses) → result ≡ Err (Refused why) → RefusesAt (place_kept database.now) database.now.control.stash why }
-    ensures only_refused { (why : Refuses) → RefusesAt (place_kept database.now) database.now.control.stash why → RefusesFor result why }
+    ensures refused { (why : Refuses) → result ≡ Err (Refused why)
+        → RefusesAt (place_kept database.now) database.now.control.stash why }
+    ensures only_refused { (why : Refuses) → RefusesAt (place_kept database.now) database.now.control.stash why
+        → RefusesFor result why }
     ensures halted { (halt : Halting) → result ≡ Err (Halts halt) → halt ≡ IsMemoryOut }
 {
     find_masters(
@@ -53,12 +58,16 @@ fn masters_of(alloc: Global, database: &Database) -> Result<Masters, Stop>
 fn open_rows<D: Disk>(alloc: Global, disk: &mut D) -> Result<(Database, Masters), Stop>
     ensures found { D.tells → IfOk result (λ both. IsFoundAs both.0 (found_in (D.view disk.old).seen)) }
     ensures opens { IfOk result (λ both. OpensAt (place_kept both.0) both.1) }
-    ensures refused { D.tells → (why : Refuses) → result ≡ Err (Refused why) → RowsRefused (found_in (D.view disk.old).seen) why }
-    ensures complete { D.tells → (f : Found) (masters : List Masterly) → found_in (D.view disk.old).seen ≡ Ok f → OpensWith f masters → MatchResult result (λ both. both.1 ≡ masters) IsHalt }
-    ensures only_refused { D.tells → (why : Refuses) → RowsRefused (found_in (D.view disk.old).seen) why → IsRefusedAs result why }
+    ensures refused { D.tells → (why : Refuses) → result ≡ Err (Refused why)
+        → RowsRefused (found_in (D.view disk.old).seen) why }
+    ensures complete { D.tells → (f : Found) (masters : List Masterly) → found_in (D.view disk.old).seen ≡ Ok f
+        → OpensWith f masters → MatchResult result (λ both. both.1 ≡ masters) IsHalt }
+    ensures only_refused { D.tells → (why : Refuses) → RowsRefused (found_in (D.view disk.old).seen) why
+        → IsRefusedAs result why }
     ensures whole { IfOk result (λ both. both.0.broken ≡ false) }
     ensures on { D.tells → IfOk result (λ both. IsOnDisk both.0 (D.view disk.new)) }
-    ensures refused_stays { D.tells → (why : Refuses) → result ≡ Err (Refused why) → RecoversAs (D.view disk.old).seen (D.view disk.new) }
+    ensures refused_stays { D.tells → (why : Refuses) → result ≡ Err (Refused why)
+        → RecoversAs (D.view disk.old).seen (D.view disk.new) }
     ensures moments { D.tells → LeavesOnly (D.view disk.old) (D.view disk.new) (IsLike (D.view disk.old)) }
     ensures call { IsCall D.Disk disk.old disk.new (result ≡ Err (Halts IsDiskFault)) }
 {
@@ -105,9 +114,11 @@ fn begin_anew<D: Disk>(
     requires on { D.tells → IsOnDisk database.old (D.view disk.old) }
     requires whole { database.old.broken ≡ false }
     requires size { (2 ≤ size) × (size ≤ 10000) }
-    ensures place { OnOk result (place_kept database.new ≡ log_anew base size (place_kept database.old).block (place_kept database.old)) }
+    ensures place { OnOk result
+        (place_kept database.new ≡ log_anew base size (place_kept database.old).block (place_kept database.old)) }
     ensures on { D.tells → OnOk result (IsOnDisk database.new (D.view disk.new)) }
-    ensures crash { IsCrashSafe D.Disk disk.old disk.new (LeavesPart (place_kept database.old) (log_anew base size (place_kept database.old).block (place_kept database.old) ∷ [])) }
+    ensures crash { IsCrashSafe D.Disk disk.old disk.new (LeavesPart (place_kept database.old)
+        (log_anew base size (place_kept database.old).block (place_kept database.old) ∷ [])) }
     ensures memory { result ≡ Err IsMemoryOut → disk.new ≡ disk.old }
     ensures whole { OnOk result (database.new.broken ≡ false) }
     ensures call { IsCall D.Disk disk.old disk.new (result ≡ Err IsDiskFault) }
@@ -130,13 +141,17 @@ fn renew<D: Disk>(
     requires on { D.tells → IsOnDisk database.old (D.view disk.old) }
     requires whole { database.old.broken ≡ false }
     requires size { IfSome size (λ n. (2 ≤ n) × (n ≤ 10000)) }
-    ensures place { OnOk result (place_kept database.new ≡ end_of (place_kept database.old) (places (resized size now (place_kept database.old)))) }
-    ensures left { OnOk result (resized size now (place_kept database.old) ≢ [] → HasTimeLeft (place_kept database.old)) }
+    ensures place { OnOk result (place_kept database.new
+        ≡ end_of (place_kept database.old) (places (resized size now (place_kept database.old)))) }
+    ensures left { OnOk result
+        (resized size now (place_kept database.old) ≢ [] → HasTimeLeft (place_kept database.old)) }
     ensures refused { (why : Refuses) → result ≡ Err (Refused why) → EndsTime size now (place_kept database.old) why }
     // Where no later time is left, nothing is written.
-    ensures late { (resized size now (place_kept database.old) ≢ [] → HasTimeLeft (place_kept database.old)) ⊎ (disk.new ≡ disk.old) }
+    ensures late { (resized size now (place_kept database.old) ≢ [] → HasTimeLeft (place_kept database.old))
+        ⊎ (disk.new ≡ disk.old) }
     ensures on { D.tells → OnOk result (IsOnDisk database.new (D.view disk.new)) }
-    ensures crash { IsCrashSafe D.Disk disk.old disk.new (LeavesPart (place_kept database.old) (places (resized size now (place_kept database.old)))) }
+    ensures crash { IsCrashSafe D.Disk disk.old disk.new
+        (LeavesPart (place_kept database.old) (places (resized size now (place_kept database.old)))) }
     ensures memory { result ≡ Err (Halts IsMemoryOut) → disk.new ≡ disk.old }
     ensures whole { OnOk result (database.new.broken ≡ false) }
     ensures call { IsCall D.Disk disk.old disk.new (result ≡ Err (Halts IsDiskFault)) }
@@ -186,11 +201,13 @@ fn open_as<D: Disk>(
     requires room { (1 ≤ room) × (room ≤ 16) }
     ensures opens { IfOk result (OpensFrom (place_kept database) masters size now) }
     ensures refused { (why : Refuses) → result ≡ Err (Refused why) → EndsTime size now (place_kept database) why }
-    ensures late { (resized size now (place_kept database) ≢ [] → HasTimeLeft (place_kept database)) ⊎ (disk.new ≡ disk.old) }
+    ensures late { (resized size now (place_kept database) ≢ [] → HasTimeLeft (place_kept database))
+        ⊎ (disk.new ≡ disk.old) }
     ensures room { IfOk result (λ o. (o.dumps ≡ 0) × (o.room ≡ room)) }
     ensures whole { IfOk result (λ o. o.kept.broken ≡ false) }
     ensures on { D.tells → IfOk result (λ o. IsOnDisk o.kept (D.view disk.new)) }
-    ensures crash { IsCrashSafe D.Disk disk.old disk.new (LeavesPart (place_kept database) (places (resized size now (place_kept database)))) }
+    ensures crash { IsCrashSafe D.Disk disk.old disk.new
+        (LeavesPart (place_kept database) (places (resized size now (place_kept database)))) }
     ensures memory { result ≡ Err (Halts IsMemoryOut) → disk.new ≡ disk.old }
     ensures call { IsCall D.Disk disk.old disk.new (result ≡ Err (Halts IsDiskFault)) }
 {
@@ -223,19 +240,28 @@ impl Primary {
         requires size { IfSome size (λ n. (2 ≤ n) × (n ≤ 10000)) }
         requires room { (1 ≤ room) × (room ≤ 16) }
         ensures opens { D.tells → IfOk result (OpensTo (found_in (D.view disk.old).seen) size now) }
-        ensures refused { D.tells → (why : Refuses) → result ≡ Err (Refused why) → OpeningRefused (found_in (D.view disk.old).seen) size now why }
-        // Where there is a cause it is told, and where there is none it opens, unless memory runs out or the disk fails.
-        ensures only_refused { D.tells → (why : Refuses) → OpeningRefused (found_in (D.view disk.old).seen) size now why → IsRefusedAs result why }
-        ensures complete { D.tells → (f : Found) (masters : List Masterly) → found_in (D.view disk.old).seen ≡ Ok f → OpensWith f masters → (resized size now (place_found f) ≢ [] → HasTimeLeft (place_found f)) → OpensHaving result masters }
+        ensures refused { D.tells → (why : Refuses) → result ≡ Err (Refused why)
+            → OpeningRefused (found_in (D.view disk.old).seen) size now why }
+        // Where there is a cause it is told, and where there is none it opens, unless memory runs out or the disk
+        // fails.
+        ensures only_refused { D.tells → (why : Refuses) → OpeningRefused (found_in (D.view disk.old).seen) size now why
+            → IsRefusedAs result why }
+        ensures complete { D.tells → (f : Found) (masters : List Masterly) → found_in (D.view disk.old).seen ≡ Ok f
+            → OpensWith f masters → (resized size now (place_found f) ≢ [] → HasTimeLeft (place_found f))
+            → OpensHaving result masters }
         ensures room { IfOk result (λ o. (o.dumps ≡ 0) × (o.room ≡ room)) }
         ensures whole { IfOk result (λ o. o.kept.broken ≡ false) }
         ensures on { D.tells → IfOk result (λ o. IsOnDisk o.kept (D.view disk.new)) }
-        ensures moments { D.tells → LeavesOnly (D.view disk.old) (D.view disk.new) (MayOpen (D.view disk.old) (found_in (D.view disk.old).seen) size now) }
+        ensures moments { D.tells → LeavesOnly (D.view disk.old) (D.view disk.new)
+            (MayOpen (D.view disk.old) (found_in (D.view disk.old).seen) size now) }
         // Want of memory begins no log anew.
-        ensures memory { D.tells → result ≡ Err (Halts IsMemoryOut) → LeavesOnly (D.view disk.old) (D.view disk.new) (IsLike (D.view disk.old)) }
-        ensures refusals { D.tells → (why : Refuses) → OpeningRefused (found_in (D.view disk.old).seen) size now why → LeavesOnly (D.view disk.old) (D.view disk.new) (IsLike (D.view disk.old)) }
+        ensures memory { D.tells → result ≡ Err (Halts IsMemoryOut)
+            → LeavesOnly (D.view disk.old) (D.view disk.new) (IsLike (D.view disk.old)) }
+        ensures refusals { D.tells → (why : Refuses) → OpeningRefused (found_in (D.view disk.old).seen) size now why
+            → LeavesOnly (D.view disk.old) (D.view disk.new) (IsLike (D.view disk.old)) }
         // After a refusal whatever a crash leaves recovers to what was read.
-        ensures refused_stays { D.tells → (why : Refuses) → result ≡ Err (Refused why) → RecoversAs (D.view disk.old).seen (D.view disk.new) }
+        ensures refused_stays { D.tells → (why : Refuses) → result ≡ Err (Refused why)
+            → RecoversAs (D.view disk.old).seen (D.view disk.new) }
         ensures call { IsCall D.Disk disk.old disk.new (result ≡ Err (Halts IsDiskFault)) }
     {
         match open_rows(alloc, disk) {

@@ -1,6 +1,7 @@
 //! Commands: what each comes to is made.
 
-ghost use Rattle.std.specs.Prelude.{◌≡◌, ◌≢◌, [], true, false, Err, Ok, IfErr, IfOk, None, OnErr, OnOk, Some, length, option_map};
+ghost use Rattle.std.specs.Prelude.{◌≡◌, ◌≢◌, [], true, false, Err, Ok, IfErr, IfOk};
+ghost use Rattle.std.specs.Prelude.{None, OnErr, OnOk, Some, length, option_map};
 ghost use Rattle.iprop_truths.specs.Parts.{IsPart, end_of};
 ghost use Rattle.kadm_commands.specs.Commands.{IsCommand};
 ghost use Rattle.kadm_commands.specs.declared.replies.Reply.TheVariants.{Refused};
@@ -50,14 +51,19 @@ impl Primary {
         requires on { D.tells → IsOnDisk self.old.kept (D.view disk.old) }
         requires whole { self.old.kept.broken ≡ false }
         requires may { MayMake self.old now change }
-        ensures place { OnOk result (place_of self.new ≡ end_of (place_of self.old) (change_places now change.op (place_of self.old))) }
+        ensures place { OnOk result
+            (place_of self.new ≡ end_of (place_of self.old) (change_places now change.op (place_of self.old))) }
         ensures masters { OnOk result (self.new.masters ≡ masters_behind self.old change.masters) }
         ensures masters_stay { OnErr result (self.new.masters ≡ self.old.masters) }
         ensures dumps { (self.new.dumps ≡ self.old.dumps) × (self.new.room ≡ self.old.room) }
-        ensures state { (t : State) → IsLeft (place_of self.old).realm (entry_point now change.op (place_of self.old)) change.op (place_of self.old).rows t → t.masters ≡ masters_behind self.old change.masters → OnOk result (HasState self.new t) }
+        ensures state { (t : State) → IsLeft (place_of self.old).realm (entry_point now change.op (place_of self.old))
+            change.op (place_of self.old).rows t → t.masters ≡ masters_behind self.old change.masters
+            → OnOk result (HasState self.new t) }
         ensures on { D.tells → OnOk result (IsOnDisk self.new.kept (D.view disk.new)) }
-        ensures crash { IsCrashSafe D.Disk disk.old disk.new (LeavesPart (place_of self.old) (change_places now change.op (place_of self.old))) }
-        ensures part { OnErr result (IsPart (place_of self.old) (change_places now change.op (place_of self.old)) (place_of self.new)) }
+        ensures crash { IsCrashSafe D.Disk disk.old disk.new
+            (LeavesPart (place_of self.old) (change_places now change.op (place_of self.old))) }
+        ensures part { OnErr result
+            (IsPart (place_of self.old) (change_places now change.op (place_of self.old)) (place_of self.new)) }
         ensures rows { OnErr result ((place_of self.new).rows ≡ (place_of self.old).rows) }
         ensures memory { result ≡ Err IsMemoryOut → disk.new ≡ disk.old }
         ensures memory_place { result ≡ Err IsMemoryOut → place_of self.new ≡ place_of self.old }
@@ -92,14 +98,21 @@ impl Primary {
         requires whole { change_of decided ≢ None → self.old.kept.broken ≡ false }
         requires may { (change : ToMake) → change_of decided ≡ Some change → MayMake self.old now change }
         ensures reply { IfOk result (λ reply. reply ≡ reply_of decided) }
-        ensures keeps { change_of decided ≡ None → (result ≡ Ok (reply_of decided)) × (self.new ≡ self.old) × (disk.new ≡ disk.old) }
-        ensures place { OnOk result (place_of self.new ≡ end_of (place_of self.old) (places_decided now (change_of decided) (place_of self.old))) }
+        ensures keeps { change_of decided ≡ None
+            → (result ≡ Ok (reply_of decided)) × (self.new ≡ self.old) × (disk.new ≡ disk.old) }
+        ensures place { OnOk result (place_of self.new
+            ≡ end_of (place_of self.old) (places_decided now (change_of decided) (place_of self.old))) }
         ensures masters { OnErr result (self.new.masters ≡ self.old.masters) }
         ensures dumps { (self.new.dumps ≡ self.old.dumps) × (self.new.room ≡ self.old.room) }
-        ensures state { (change : ToMake) (t : State) → change_of decided ≡ Some change → IsLeft (place_of self.old).realm (entry_point now change.op (place_of self.old)) change.op (place_of self.old).rows t → t.masters ≡ masters_behind self.old change.masters → OnOk result (HasState self.new t) }
+        ensures state { (change : ToMake) (t : State) → change_of decided ≡ Some change
+            → IsLeft (place_of self.old).realm (entry_point now change.op (place_of self.old)) change.op
+            (place_of self.old).rows t → t.masters ≡ masters_behind self.old change.masters
+            → OnOk result (HasState self.new t) }
         ensures on { D.tells → self.old.kept.broken ≡ false → OnOk result (IsOnDisk self.new.kept (D.view disk.new)) }
-        ensures crash { self.old.kept.broken ≡ false → IsCrashSafe D.Disk disk.old disk.new (LeavesPart (place_of self.old) (places_decided now (change_of decided) (place_of self.old))) }
-        ensures part { OnErr result (IsPart (place_of self.old) (places_decided now (change_of decided) (place_of self.old)) (place_of self.new)) }
+        ensures crash { self.old.kept.broken ≡ false → IsCrashSafe D.Disk disk.old disk.new
+            (LeavesPart (place_of self.old) (places_decided now (change_of decided) (place_of self.old))) }
+        ensures part { OnErr result (IsPart (place_of self.old)
+            (places_decided now (change_of decided) (place_of self.old)) (place_of self.new)) }
         ensures rows { OnErr result ((place_of self.new).rows ≡ (place_of self.old).rows) }
         ensures memory { result ≡ Err IsMemoryOut → disk.new ≡ disk.old }
         ensures memory_place { result ≡ Err IsMemoryOut → place_of self.new ≡ place_of self.old }
@@ -139,16 +152,27 @@ impl Primary {
         requires on { D.tells → self.old.kept.broken ≡ false → IsOnDisk self.old.kept (D.view disk.old) }
         requires command { IsCommand self.old.kept.realm ready.now.command }
         requires judged { is_judged ready.now.command ≡ true }
-        ensures does { (s : State) → self.old.kept.broken ≡ false → HasState self.old s → IfOk result (λ reply. Does (place_of self.old) s (Perform (command_ask client.now (option_map (λ acl. acl.now) acl.entry) ready.now.command now random.now)) (Replied reply) (place_of self.new)) }
-        ensures state { (s : State) → self.old.kept.broken ≡ false → HasState self.old s → OnOk result (HasState self.new (after_ask (command_ask client.now (option_map (λ acl. acl.now) acl.entry) ready.now.command now random.now) (seen (place_of self.old) s)).state) }
+        ensures does { (s : State)
+            → self.old.kept.broken ≡ false → HasState self.old s → IfOk result (λ reply. Does (place_of self.old) s
+            (Perform (command_ask client.now (option_map (λ acl. acl.now) acl.entry) ready.now.command now random.now))
+            (Replied reply) (place_of self.new)) }
+        ensures state { (s : State)
+            → self.old.kept.broken ≡ false → HasState self.old s → OnOk result (HasState self.new
+            (after_ask (command_ask client.now (option_map (λ acl. acl.now) acl.entry) ready.now.command now random.now)
+            (seen (place_of self.old) s)).state) }
         ensures closed { self.old.kept.broken ≡ true → result ≡ Ok (Refused Closed) }
         ensures closed_keeps { self.old.kept.broken ≡ true → (self.new ≡ self.old) × (disk.new ≡ disk.old) }
         // A command that makes no place, as one that is refused or that reads, changes nothing.
         ensures keeps { (s : State) → self.old.kept.broken ≡ false → HasState self.old s
-            → made_at (command_ask client.now (option_map (λ acl. acl.now) acl.entry) ready.now.command now random.now) (seen (place_of self.old) s) ≡ []
+            → made_at (command_ask client.now (option_map (λ acl. acl.now) acl.entry) ready.now.command now random.now)
+            (seen (place_of self.old) s) ≡ []
             → (self.new ≡ self.old) × (disk.new ≡ disk.old) }
-        ensures crash { (s : State) → self.old.kept.broken ≡ false → HasState self.old s → IsCrashSafe D.Disk disk.old disk.new (MayLeave (place_of self.old) s (Perform (command_ask client.now (option_map (λ acl. acl.now) acl.entry) ready.now.command now random.now))) }
-        ensures reach { (s : State) → HasState self.old s → OnErr result (MayReach (place_of self.old) s (Perform (command_ask client.now (option_map (λ acl. acl.now) acl.entry) ready.now.command now random.now)) (place_of self.new)) }
+        ensures crash { (s : State) → self.old.kept.broken ≡ false
+            → HasState self.old s → IsCrashSafe D.Disk disk.old disk.new (MayLeave (place_of self.old) s (Perform
+            (command_ask client.now (option_map (λ acl. acl.now) acl.entry) ready.now.command now random.now))) }
+        ensures reach { (s : State) → HasState self.old s → OnErr result (MayReach (place_of self.old) s
+            (Perform (command_ask client.now (option_map (λ acl. acl.now) acl.entry) ready.now.command now random.now))
+            (place_of self.new)) }
         ensures rows { OnErr result ((place_of self.new).rows ≡ (place_of self.old).rows) }
         ensures masters { OnErr result (self.new.masters ≡ self.old.masters) }
         ensures dumps { (self.new.dumps ≡ self.old.dumps) × (self.new.room ≡ self.old.room) }

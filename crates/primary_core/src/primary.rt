@@ -28,7 +28,8 @@ impl Model for Primary {
 
     ghost view = { λ p. record { kept = p.database; masters = p.masters; dumps = p.dumps; room = p.room } };
 
-    ghost invariant = { λ p. IsOpened (record { kept = p.database; masters = p.masters; dumps = p.dumps; room = p.room }) };
+    ghost invariant = { λ p.
+        IsOpened (record { kept = p.database; masters = p.masters; dumps = p.dumps; room = p.room }) };
 }
 
 impl Primary {

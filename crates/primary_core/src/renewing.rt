@@ -32,13 +32,17 @@ impl Primary {
         requires on { D.tells → IsOnDisk self.old.kept (D.view disk.old) }
         requires whole { self.old.kept.broken ≡ false }
         requires left { is_last (point_of (place_of self.old)).time ≡ false }
-        ensures place { OnOk result (place_of self.new ≡ log_anew (reset_point now (place_of self.old)) (place_of self.old).size (place_of self.old).block (place_of self.old)) }
+        ensures place { OnOk result (place_of self.new ≡ log_anew (reset_point now (place_of self.old))
+            (place_of self.old).size (place_of self.old).block (place_of self.old)) }
         ensures err { OnErr result (place_of self.new ≡ place_of self.old) }
-        ensures state { (s : State) → HasState self.old s → OnOk result (HasState self.new (at_point (reset_point now (place_of self.old)) s)) }
+        ensures state { (s : State) → HasState self.old s
+            → OnOk result (HasState self.new (at_point (reset_point now (place_of self.old)) s)) }
         ensures masters { self.new.masters ≡ self.old.masters }
         ensures dumps { (self.new.dumps ≡ self.old.dumps) × (self.new.room ≡ self.old.room) }
         ensures on { D.tells → OnOk result (IsOnDisk self.new.kept (D.view disk.new)) }
-        ensures crash { IsCrashSafe D.Disk disk.old disk.new (LeavesPart (place_of self.old) (log_anew (reset_point now (place_of self.old)) (place_of self.old).size (place_of self.old).block (place_of self.old) ∷ [])) }
+        ensures crash { IsCrashSafe D.Disk disk.old disk.new
+            (LeavesPart (place_of self.old) (log_anew (reset_point now (place_of self.old)) (place_of self.old).size
+            (place_of self.old).block (place_of self.old) ∷ [])) }
         ensures memory { result ≡ Err IsMemoryOut → disk.new ≡ disk.old }
         ensures still { D.tells → result ≡ Err IsMemoryOut → IsOnDisk self.new.kept (D.view disk.new) }
         ensures whole { OnOk result (self.new.kept.broken ≡ false) }
@@ -71,14 +75,19 @@ impl Primary {
     ) -> Result<Point, Stop>
         requires on { D.tells → self.old.kept.broken ≡ false → IsOnDisk self.old.kept (D.view disk.old) }
         // A history leaves the answer to it free: it is the point.
-        ensures does { (s : State) (answer : Answers) → HasState self.old s → OnOk result (Does (place_of self.old) s (ResetLog now) answer (place_of self.new)) }
+        ensures does { (s : State) (answer : Answers) → HasState self.old s
+            → OnOk result (Does (place_of self.old) s (ResetLog now) answer (place_of self.new)) }
         ensures point { IfOk result (λ point. point ≡ reset_point now (place_of self.old)) }
-        ensures state { (s : State) → HasState self.old s → OnOk result (HasState self.new (at_point (reset_point now (place_of self.old)) s)) }
+        ensures state { (s : State) → HasState self.old s
+            → OnOk result (HasState self.new (at_point (reset_point now (place_of self.old)) s)) }
         ensures refused { (why : Refuses) → result ≡ Err (stops.Refused why) → reset_refused self.old ≡ Some why }
         ensures only_refused { (why : Refuses) → reset_refused self.old ≡ Some why → result ≡ Err (stops.Refused why) }
-        ensures refused_keeps { (why : Refuses) → result ≡ Err (stops.Refused why) → (self.new ≡ self.old) × (disk.new ≡ disk.old) }
-        ensures crash { (s : State) → self.old.kept.broken ≡ false → HasState self.old s → IsCrashSafe D.Disk disk.old disk.new (MayLeave (place_of self.old) s (ResetLog now)) }
-        ensures reach { (s : State) → HasState self.old s → OnErr result (MayReach (place_of self.old) s (ResetLog now) (place_of self.new)) }
+        ensures refused_keeps { (why : Refuses) → result ≡ Err (stops.Refused why)
+            → (self.new ≡ self.old) × (disk.new ≡ disk.old) }
+        ensures crash { (s : State) → self.old.kept.broken ≡ false → HasState self.old s
+            → IsCrashSafe D.Disk disk.old disk.new (MayLeave (place_of self.old) s (ResetLog now)) }
+        ensures reach { (s : State) → HasState self.old s
+            → OnErr result (MayReach (place_of self.old) s (ResetLog now) (place_of self.new)) }
         ensures err { OnErr result (place_of self.new ≡ place_of self.old) }
         ensures masters { self.new.masters ≡ self.old.masters }
         ensures dumps { (self.new.dumps ≡ self.old.dumps) × (self.new.room ≡ self.old.room) }

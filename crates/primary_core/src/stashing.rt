@@ -1,6 +1,7 @@
 //! The stash written anew, with all master keys.
 
-ghost use Rattle.std.specs.Prelude.{◌≡◌, ◌∷◌, [], true, false, Err, Ok, IfErr, IfOk, OnErr, OnOk, List, ℕ, Some, option_map};
+ghost use Rattle.std.specs.Prelude.{◌≡◌, ◌∷◌, [], true, false, Err, Ok, IfErr};
+ghost use Rattle.std.specs.Prelude.{IfOk, OnErr, OnOk, List, ℕ, Some, option_map};
 ghost use Rattle.kadm_commands.specs.declared.commands.Command.TheVariants.{Stash as StashLine};
 ghost use Rattle.kadm_commands.specs.declared.replies.Reply.TheVariants.{Refused};
 ghost use Rattle.kdb_base.specs.declared.outcomes.Halt.{Halt as Halts};
@@ -46,7 +47,8 @@ fn told(stop: Stop) -> Result<Reply, Halt>
 impl Primary {
     // The bytes of a stash with the master keys, at the clock's moment.
     fn stash_text(&self, alloc: Global, now: Time) -> Result<Blob, MemoryOut>
-        ensures { IfOk result (λ text. text ≡ stash_text self.now.kept.realm (moment_at now (place_of self.now)).secs self.now.masters) }
+        ensures { IfOk result
+            (λ text. text ≡ stash_text self.now.kept.realm (moment_at now (place_of self.now)).secs self.now.masters) }
     {
         let moment = self.database.point().time.later(now);
         let realm = self.database.realm().as_slice();
@@ -63,7 +65,8 @@ impl Primary {
         ensures masters { self.new.masters ≡ self.old.masters }
         ensures dumps { (self.new.dumps ≡ self.old.dumps) × (self.new.room ≡ self.old.room) }
         ensures on { D.tells → OnOk result (IsOnDisk self.new.kept (D.view disk.new)) }
-        ensures crash { IsCrashSafe D.Disk disk.old disk.new (LeavesPart (place_of self.old) (restashed text.now (place_of self.old) ∷ [])) }
+        ensures crash { IsCrashSafe D.Disk disk.old disk.new
+            (LeavesPart (place_of self.old) (restashed text.now (place_of self.old) ∷ [])) }
         ensures memory { result ≡ Err IsMemoryOut → disk.new ≡ disk.old }
         ensures still { D.tells → result ≡ Err IsMemoryOut → IsOnDisk self.new.kept (D.view disk.new) }
         ensures whole { OnOk result (self.new.kept.broken ≡ false) }
@@ -84,7 +87,8 @@ impl Primary {
         ensures masters { self.new.masters ≡ self.old.masters }
         ensures dumps { (self.new.dumps ≡ self.old.dumps) × (self.new.room ≡ self.old.room) }
         ensures on { D.tells → OnOk result (IsOnDisk self.new.kept (D.view disk.new)) }
-        ensures crash { IsCrashSafe D.Disk disk.old disk.new (LeavesPart (place_of self.old) (restashed_at now self.old ∷ [])) }
+        ensures crash { IsCrashSafe D.Disk disk.old disk.new
+            (LeavesPart (place_of self.old) (restashed_at now self.old ∷ [])) }
         ensures memory { result ≡ Err IsMemoryOut → disk.new ≡ disk.old }
         ensures still { D.tells → result ≡ Err IsMemoryOut → IsOnDisk self.new.kept (D.view disk.new) }
         ensures whole { OnOk result (self.new.kept.broken ≡ false) }
@@ -104,8 +108,8 @@ impl Primary {
     ///
     /// # Errors
     ///
-    /// `Closed` after a fault of the disk, and `Halt` where memory is wanted and not given, and then nothing is changed,
-    /// or the disk failed, after which the primary is closed.
+    /// `Closed` after a fault of the disk, and `Halt` where memory is wanted and not given, and then nothing is
+    /// changed, or the disk failed, after which the primary is closed.
     pub fn write_stash<D: Disk>(
         &mut self,
         alloc: Global,
@@ -114,13 +118,17 @@ impl Primary {
     ) -> Result<(), Stop>
         requires on { D.tells → self.old.kept.broken ≡ false → IsOnDisk self.old.kept (D.view disk.old) }
         // A history leaves the answer to it free.
-        ensures does { (s : State) (answer : Answers) → HasState self.old s → OnOk result (Does (place_of self.old) s (Stash now) answer (place_of self.new)) }
+        ensures does { (s : State) (answer : Answers) → HasState self.old s
+            → OnOk result (Does (place_of self.old) s (Stash now) answer (place_of self.new)) }
         ensures state { (s : State) → HasState self.old s → HasState self.new s }
         ensures refused { (why : Refuses) → result ≡ Err (stops.Refused why) → stash_refused self.old ≡ Some why }
         ensures closed { self.old.kept.broken ≡ true → result ≡ Err (stops.Refused Closed) }
-        ensures refused_keeps { (why : Refuses) → result ≡ Err (stops.Refused why) → (self.new ≡ self.old) × (disk.new ≡ disk.old) }
-        ensures crash { (s : State) → self.old.kept.broken ≡ false → HasState self.old s → IsCrashSafe D.Disk disk.old disk.new (MayLeave (place_of self.old) s (Stash now)) }
-        ensures reach { (s : State) → HasState self.old s → OnErr result (MayReach (place_of self.old) s (Stash now) (place_of self.new)) }
+        ensures refused_keeps { (why : Refuses) → result ≡ Err (stops.Refused why)
+            → (self.new ≡ self.old) × (disk.new ≡ disk.old) }
+        ensures crash { (s : State) → self.old.kept.broken ≡ false → HasState self.old s
+            → IsCrashSafe D.Disk disk.old disk.new (MayLeave (place_of self.old) s (Stash now)) }
+        ensures reach { (s : State) → HasState self.old s
+            → OnErr result (MayReach (place_of self.old) s (Stash now) (place_of self.new)) }
         ensures err { OnErr result (place_of self.new ≡ place_of self.old) }
         ensures masters { self.new.masters ≡ self.old.masters }
         ensures dumps { (self.new.dumps ≡ self.old.dumps) × (self.new.room ≡ self.old.room) }
@@ -142,8 +150,8 @@ impl Primary {
         }
     }
 
-    /// The command `stash`: it writes the stash anew with all master keys. It draws no random bytes. After a fault of the
-    /// disk it is refused by `Closed`.
+    /// The command `stash`: it writes the stash anew with all master keys. It draws no random bytes. After a fault of
+    /// the disk it is refused by `Closed`.
     ///
     /// # Errors
     ///
@@ -157,14 +165,22 @@ impl Primary {
         now: Time,
     ) -> Result<Reply, Halt>
         requires on { D.tells → self.old.kept.broken ≡ false → IsOnDisk self.old.kept (D.view disk.old) }
-        ensures does { (s : State) (random : List ℕ) → self.old.kept.broken ≡ false → HasState self.old s → IfOk result (λ reply. Does (place_of self.old) s (Perform (command_ask client.now (option_map (λ acl. acl.now) acl.entry) StashLine now random)) (Replied reply) (place_of self.new)) }
+        ensures does { (s : State) (random : List ℕ) → self.old.kept.broken ≡ false → HasState self.old s
+            → IfOk result (λ reply. Does (place_of self.old) s
+            (Perform (command_ask client.now (option_map (λ acl. acl.now) acl.entry) StashLine now random))
+            (Replied reply) (place_of self.new)) }
         ensures state { (s : State) → HasState self.old s → HasState self.new s }
         ensures closed { self.old.kept.broken ≡ true → result ≡ Ok (Refused Closed) }
         ensures closed_keeps { self.old.kept.broken ≡ true → (self.new ≡ self.old) × (disk.new ≡ disk.old) }
         ensures told { IfOk result IsStashReply }
-        ensures refused_keeps { (why : Refuses) → result ≡ Ok (Refused why) → (self.new ≡ self.old) × (disk.new ≡ disk.old) }
-        ensures crash { (s : State) (random : List ℕ) → self.old.kept.broken ≡ false → HasState self.old s → IsCrashSafe D.Disk disk.old disk.new (MayLeave (place_of self.old) s (Perform (command_ask client.now (option_map (λ acl. acl.now) acl.entry) StashLine now random))) }
-        ensures reach { (s : State) (random : List ℕ) → HasState self.old s → OnErr result (MayReach (place_of self.old) s (Perform (command_ask client.now (option_map (λ acl. acl.now) acl.entry) StashLine now random)) (place_of self.new)) }
+        ensures refused_keeps { (why : Refuses) → result ≡ Ok (Refused why)
+            → (self.new ≡ self.old) × (disk.new ≡ disk.old) }
+        ensures crash { (s : State) (random : List ℕ) → self.old.kept.broken ≡ false
+            → HasState self.old s → IsCrashSafe D.Disk disk.old disk.new (MayLeave (place_of self.old) s
+            (Perform (command_ask client.now (option_map (λ acl. acl.now) acl.entry) StashLine now random))) }
+        ensures reach { (s : State) (random : List ℕ) → HasState self.old s → OnErr result (MayReach (place_of self.old)
+            s (Perform (command_ask client.now (option_map (λ acl. acl.now) acl.entry) StashLine now random))
+            (place_of self.new)) }
         ensures err { OnErr result (place_of self.new ≡ place_of self.old) }
         ensures masters { self.new.masters ≡ self.old.masters }
         ensures dumps { (self.new.dumps ≡ self.old.dumps) × (self.new.room ≡ self.old.room) }

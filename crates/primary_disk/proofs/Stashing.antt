@@ -58,45 +58,63 @@ as_stash P cmd is holds = subst P (sym (stash_is cmd is)) holds
 -- ---- the state stays
 
 -- whatever is written, the state stays
-stays_by : (kind : Kind) (clock : Moment) (p : Place) (before after : State) (bytes : List ℕ) → Leads clock p before after (planned kind None bytes) → after ≡ before
+stays_by : (kind : Kind) (clock : Moment) (p : Place) (before after : State) (bytes : List ℕ)
+    → Leads clock p before after (planned kind None bytes) → after ≡ before
 stays_by Keeps clock p before after bytes e = e
 stays_by Enters clock p before after bytes e = e
 stays_by Stashes clock p before after bytes e = e
 
-stash_stays : (p : Place) (s : State) (client : NameParts) (access : Option (List AclLine)) (clock : Moment) (random : List ℕ) (answer : Answer) (made : List Stage)
+stash_stays : (p : Place) (s : State) (client : NameParts) (access : Option (List AclLine)) (clock : Moment)
+    (random : List ℕ) (answer : Answer) (made : List Stage)
     → Performs p s (command_ask client access command.Stash clock random) answer made
     → (outcome_at (command_ask client access command.Stash clock random) (seen p s)).state ≡ s
 unfolding kept_op kept_entry_of kept_masters_of
 stash_stays p s client access clock random answer made h =
     let ask = command_ask client access command.Stash clock random in
-    stays_by (outcome_at ask (seen p s)).kind clock p s (outcome_at ask (seen p s)).state (stash_of s (moment_at clock p)) h.leads
+    stays_by (outcome_at ask (seen p s)).kind clock p s (outcome_at ask (seen p s)).state
+    (stash_of s (moment_at clock p)) h.leads
 
-stash_done : {D E : Type 0} (old new : Held D) (s : State) (client : NameParts) (access : Option (List AclLine)) (clock : Moment) (random : List ℕ) (r : Result Reply E)
-    → IfOk r (λ reply. Does (place_in old) s (Perform (command_ask client access command.Stash clock random)) (Replied reply) (place_in new))
+stash_done : {D E : Type 0} (old new : Held D) (s : State) (client : NameParts) (access : Option (List AclLine))
+    (clock : Moment) (random : List ℕ) (r : Result Reply E)
+    → IfOk r (λ reply. Does (place_in old) s (Perform (command_ask client access command.Stash clock random))
+    (Replied reply) (place_in new))
     → HasState new.opened s
     → IfOk r (λ reply. IsDone old new s (command_ask client access command.Stash clock random) (Replied reply))
 stash_done old new s client access clock random (Ok reply) does has = record {
   does = does;
-  state = subst (HasState new.opened) (sym (stash_stays (place_in old) s client access clock random (Replied reply) does.made does.makes)) has;
+  state = subst (HasState new.opened)
+      (sym (stash_stays (place_in old) s client access clock random (Replied reply) does.made does.makes)) has;
 }
 stash_done old new s client access clock random (Err e) does has = does
 
 -- ---- the line
 
 -- it is done as what this command asks
-pub stash_line : {D E : Type 0} (held old new : Held D) → held ≡ old → (cmd : Command) → is_stash cmd ≡ true → (client : NameParts) (access : Option (List AclLine)) (clock : Moment) (random : List ℕ) (r : Result Reply E)
-    → ((s : State) (bytes : List ℕ) → is_broken held ≡ false → HasState held.opened s → IfOk r (λ reply. Does (place_in held) s (Perform (command_ask client access command.Stash clock bytes)) (Replied reply) (place_in new)))
+pub stash_line : {D E : Type 0} (held old new : Held D) → held ≡ old → (cmd : Command) → is_stash cmd ≡ true
+    → (client : NameParts) (access : Option (List AclLine)) (clock : Moment) (random : List ℕ) (r : Result Reply E)
+    → ((s : State) (bytes : List ℕ) → is_broken held ≡ false → HasState held.opened s → IfOk r (λ reply. Does
+    (place_in held) s (Perform (command_ask client access command.Stash clock bytes)) (Replied reply) (place_in new)))
     → ((s : State) → HasState held.opened s → HasState new.opened s)
-    → (s : State) → is_broken old ≡ false → HasState old.opened s → IfOk r (λ reply. IsDone old new s (command_ask client access cmd clock random) (Replied reply))
+    → (s : State) → is_broken old ≡ false → HasState old.opened s
+    → IfOk r (λ reply. IsDone old new s (command_ask client access cmd clock random) (Replied reply))
 stash_line {D} {E} held old new same cmd is client access clock random r does state =
-    subst (λ (h : Held D). (s : State) → is_broken h ≡ false → HasState h.opened s → IfOk r (λ reply. IsDone h new s (command_ask client access cmd clock random) (Replied reply))) same
-    (λ s whole has. as_stash (λ (c : Command). IfOk r (λ reply. IsDone held new s (command_ask client access c clock random) (Replied reply))) cmd is (stash_done held new s client access clock random r (does s random whole has) (state s has)))
+    subst (λ (h : Held D). (s : State) → is_broken h ≡ false → HasState h.opened s
+    → IfOk r (λ reply. IsDone h new s (command_ask client access cmd clock random) (Replied reply))) same
+    (λ s whole has. as_stash
+    (λ (c : Command). IfOk r (λ reply. IsDone held new s (command_ask client access c clock random) (Replied reply)))
+    cmd is (stash_done held new s client access clock random r (does s random whole has) (state s has)))
 
 -- and stopped as that
-pub stash_stops : {D E : Type 0} (g : Ghosts D) (held old new : Held D) → held ≡ old → (cmd : Command) → is_stash cmd ≡ true → (client : NameParts) (access : Option (List AclLine)) (clock : Moment) (random : List ℕ) (r : Result Reply E)
-    → ((s : State) (bytes : List ℕ) → is_broken held ≡ false → HasState held.opened s → IsCrashSafe g held.disk new.disk (MayLeave (place_in held) s (Perform (command_ask client access command.Stash clock bytes))))
-    → ((s : State) (bytes : List ℕ) → HasState held.opened s → OnErr r (MayReach (place_in held) s (Perform (command_ask client access command.Stash clock bytes)) (place_in new)))
+pub stash_stops : {D E : Type 0} (g : Ghosts D) (held old new : Held D) → held ≡ old
+    → (cmd : Command) → is_stash cmd ≡ true
+    → (client : NameParts) (access : Option (List AclLine)) (clock : Moment) (random : List ℕ) (r : Result Reply E)
+    → ((s : State) (bytes : List ℕ) → is_broken held ≡ false → HasState held.opened s → IsCrashSafe g held.disk new.disk
+    (MayLeave (place_in held) s (Perform (command_ask client access command.Stash clock bytes))))
+    → ((s : State) (bytes : List ℕ) → HasState held.opened s → OnErr r
+    (MayReach (place_in held) s (Perform (command_ask client access command.Stash clock bytes)) (place_in new)))
     → (s : State) → HasState old.opened s → MayStop g old new s (Perform (command_ask client access cmd clock random)) r
 stash_stops {D} {E} g held old new same cmd is client access clock random r crash reach =
-    subst (λ (h : Held D). (s : State) → HasState h.opened s → MayStop g h new s (Perform (command_ask client access cmd clock random)) r) same
-    (λ s has. as_stash (λ (c : Command). MayStop g held new s (Perform (command_ask client access c clock random)) r) cmd is (record { crash = λ whole. crash s random whole has; reach = reach s random has }))
+    subst (λ (h : Held D). (s : State) → HasState h.opened s
+    → MayStop g h new s (Perform (command_ask client access cmd clock random)) r) same
+    (λ s has. as_stash (λ (c : Command). MayStop g held new s (Perform (command_ask client access c clock random)) r)
+    cmd is (record { crash = λ whole. crash s random whole has; reach = reach s random has }))

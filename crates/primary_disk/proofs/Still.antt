@@ -18,16 +18,21 @@ use Rattle.primary_disk.specs.Leaving.{MayStop}
 use Rattle.store_files.specs.Kept.{IsOnDisk, Kept, place_kept}
 use Rattle.store_files.specs.Recovery.{RecoversTo}
 
-still_safe : {D : Type 0} (g : Ghosts D) (disk : D) (p : Place) (s : State) (call : Call) → (g.tells → RecoversTo p (g.view disk)) → IsCrashSafe g disk disk (MayLeave p s call)
+still_safe : {D : Type 0} (g : Ghosts D) (disk : D) (p : Place) (s : State) (call : Call)
+    → (g.tells → RecoversTo p (g.view disk)) → IsCrashSafe g disk disk (MayLeave p s call)
 still_safe g disk p s call stands = record { told = λ t. started _ _ (λ f i. call_stays p s call f (stands t f i)) }
 
 -- a call that stops before it does anything
 pub still_stops : {D A E : Type 0} (g : Ghosts D) (held old : Held D) → held ≡ old → (s : State) (call : Call) (e : E)
-    → Stands g held.disk held.opened → ((k : Kept) → IsOnDisk k (g.view held.disk) → RecoversTo (place_kept k) (g.view held.disk))
+    → Stands g held.disk held.opened
+    → ((k : Kept) → IsOnDisk k (g.view held.disk) → RecoversTo (place_kept k) (g.view held.disk))
     → MayStop {A = A} g old old s call (Err e)
 still_stops {D} {A} {E} g held old same s call e stands recovers =
     subst (λ (h : Held D). MayStop {A = A} g h h s call (Err e)) same
-    (record { crash = λ whole. still_safe g held.disk (place_in held) s call (λ t. recovers held.opened.kept (stands t whole)); reach = inl refl })
+    (record {
+      crash = λ whole. still_safe g held.disk (place_in held) s call (λ t. recovers held.opened.kept (stands t whole));
+      reach = inl refl;
+    })
 
 -- ---- what is open stands on the disk
 
@@ -48,4 +53,5 @@ stands_after {D} {A} g disk disk_new old new (Err (stop.Refused why)) stands kee
     let same = keeps why refl in
     subst (λ (d : D). Stands g d new) (sym same.1) (subst (λ (o : Opened). Stands g disk o) (sym same.0) stands)
 stands_after g disk disk_new old new (Err (stop.Halt MemoryOut)) stands keeps on still broken = λ t whole. still t refl
-stands_after g disk disk_new old new (Err (stop.Halt DiskFault)) stands keeps on still broken = λ t whole. not_both new.kept.broken (broken refl) whole
+stands_after g disk disk_new old new (Err (stop.Halt DiskFault)) stands keeps on still broken =
+    λ t whole. not_both new.kept.broken (broken refl) whole

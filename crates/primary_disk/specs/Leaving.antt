@@ -10,8 +10,8 @@ use Rattle.kdb_plain.specs.declared.states.State.{State}
 use Rattle.primary_core.specs.Opened.{HasState, MayLeave}
 use Rattle.primary_disk.specs.Held.{Held, is_broken, place_in}
 
--- Whatever it answers: the dumps under way stay; where memory was wanted, the disk and the place are as before; where the disk failed, the
--- primary is closed; and what each call says of a disk.
+-- Whatever it answers: the dumps under way stay; where memory was wanted, the disk and the place are as before; where
+-- the disk failed, the primary is closed; and what each call says of a disk.
 pub record Leaves {D : Type 0} (g : Ghosts D) (old new : Held D) (wanted failed : Type 0) : Type 0 where
   pub dumps : new.opened.dumps ≡ old.opened.dumps
   pub room : new.opened.room ≡ old.opened.room
@@ -21,8 +21,10 @@ pub record Leaves {D : Type 0} (g : Ghosts D) (old new : Held D) (wanted failed 
   pub broken : failed → is_broken new ≡ true
   pub call : IsCall g old.disk new.disk failed
 
--- Where it is stopped or fails: a crash at any moment of it, and a fault, leave a place to which the call may have come.
-pub record MayStop {D A E : Type 0} (g : Ghosts D) (old new : Held D) (s : State) (call : Call) (result : Result A E) : Type 0 where
+-- Where it is stopped or fails: a crash at any moment of it, and a fault, leave a place to which the call may have
+-- come.
+pub record MayStop {D A E : Type 0} (g : Ghosts D) (old new : Held D) (s : State) (call : Call)
+    (result : Result A E) : Type 0 where
   pub crash : is_broken old ≡ false → IsCrashSafe g old.disk new.disk (MayLeave (place_in old) s call)
   pub reach : OnErr result (MayReach (place_in old) s call (place_in new))
 

@@ -46,13 +46,18 @@ impl<D: Disk> DiskPrimary<D> {
         acl: Option<&Acl>,
         glob: &Option<Blob>,
     ) -> Result<NameList, Stop>
-        ensures names { IfOk result (λ names. names ≡ names_told glob.now (princ_keys (place_in self.now).rows.princs)) }
+        ensures names { IfOk result
+            (λ names. names ≡ names_told glob.now (princ_keys (place_in self.now).rows.princs)) }
         // They are the names of the state that the rows show.
-        ensures state { (s : State) → HasState self.now.opened s → IfOk result (λ names. names ≡ names_told glob.now (princ_names s.princs)) }
+        ensures state { (s : State) → HasState self.now.opened s
+            → IfOk result (λ names. names ≡ names_told glob.now (princ_names s.princs)) }
         ensures others { IfOk result (λ names. All (λ name. is_master name ≡ false) names) }
-        ensures refused { (why : Refuses) → result ≡ Err (stops.Refused why) → names_refused self.now.opened client.now (option_map (λ acl. acl.now) acl.entry) ≡ Some why }
+        ensures refused { (why : Refuses) → result ≡ Err (stops.Refused why)
+            → names_refused self.now.opened client.now (option_map (λ acl. acl.now) acl.entry) ≡ Some why }
         // Where there is a cause it is told, unless memory runs out.
-        ensures only_refused { (why : Refuses) → names_refused self.now.opened client.now (option_map (λ acl. acl.now) acl.entry) ≡ Some why → IsRefusedAs result why }
+        ensures only_refused { (why : Refuses)
+            → names_refused self.now.opened client.now (option_map (λ acl. acl.now) acl.entry) ≡ Some why
+            → IsRefusedAs result why }
         ensures closed { is_broken self.now ≡ true → result ≡ Err (stops.Refused Closed) }
         ensures halted { (halt : Halts) → result ≡ Err (stops.Halt halt) → halt ≡ IsMemoryOut }
     {
@@ -73,7 +78,9 @@ impl<D: Disk> DiskPrimary<D> {
         acl: Option<&Acl>,
         asked: Point,
     ) -> Result<PollReply, Stop>
-        ensures reply { IfOk result (λ r. told_reply r ≡ poll_reply (denies_pull (option_map (λ acl. acl.now) acl.entry) client.now) (is_full self.now.opened) asked (place_in self.now).held) }
+        ensures reply { IfOk result
+            (λ r. told_reply r ≡ poll_reply (denies_pull (option_map (λ acl. acl.now) acl.entry) client.now)
+            (is_full self.now.opened) asked (place_in self.now).held) }
         ensures refused { (why : Refuses) → result ≡ Err (stops.Refused why) → poll_refused self.now.opened ≡ Some why }
         ensures closed { is_broken self.now ≡ true → result ≡ Err (stops.Refused Closed) }
         ensures halted { (halt : Halts) → result ≡ Err (stops.Halt halt) → halt ≡ IsMemoryOut }
@@ -99,8 +106,11 @@ impl<D: Disk> DiskPrimary<D> {
         ensures begun { OnOk result (self.new ≡ dumping (self.old.opened.dumps + 1) self.old) }
         ensures free { OnOk result (is_full self.old.opened ≡ false) }
         ensures err { OnErr result (self.new ≡ self.old) }
-        ensures refused { (why : Refuses) → result ≡ Err (stops.Refused why) → dump_refused self.old.opened client.now (option_map (λ acl. acl.now) acl.entry) ≡ Some why }
-        ensures only_refused { (why : Refuses) → dump_refused self.old.opened client.now (option_map (λ acl. acl.now) acl.entry) ≡ Some why → result ≡ Err (stops.Refused why) }
+        ensures refused { (why : Refuses) → result ≡ Err (stops.Refused why)
+            → dump_refused self.old.opened client.now (option_map (λ acl. acl.now) acl.entry) ≡ Some why }
+        ensures only_refused { (why : Refuses)
+            → dump_refused self.old.opened client.now (option_map (λ acl. acl.now) acl.entry) ≡ Some why
+            → result ≡ Err (stops.Refused why) }
         ensures halted { (halt : Halts) → result ≡ Err (stops.Halt halt) → halt ≡ IsMemoryOut }
     {
         self.primary.begin_dump(alloc, client, acl)

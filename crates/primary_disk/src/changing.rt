@@ -37,17 +37,23 @@ impl<D: Disk> DiskPrimary<D> {
     /// not given, and then nothing is changed, or the disk failed, after which the primary is closed.
     pub fn reset_log(&mut self, alloc: Global, now: Time) -> Result<Point, Stop>
         // A history leaves the answer to it free: it is the point.
-        ensures does { (s : State) (answer : Answers) → HasState self.old.opened s → OnOk result (Does (place_in self.old) s (ResetLog now) answer (place_in self.new)) }
+        ensures does { (s : State) (answer : Answers) → HasState self.old.opened s
+            → OnOk result (Does (place_in self.old) s (ResetLog now) answer (place_in self.new)) }
         ensures point { IfOk result (λ point. point ≡ reset_point now (place_in self.old)) }
-        ensures state { (s : State) → HasState self.old.opened s → OnOk result (HasState self.new.opened (at_point (reset_point now (place_in self.old)) s)) }
-        ensures refused { (why : Refuses) → result ≡ Err (stops.Refused why) → reset_refused self.old.opened ≡ Some why }
-        ensures only_refused { (why : Refuses) → reset_refused self.old.opened ≡ Some why → result ≡ Err (stops.Refused why) }
+        ensures state { (s : State) → HasState self.old.opened s
+            → OnOk result (HasState self.new.opened (at_point (reset_point now (place_in self.old)) s)) }
+        ensures refused { (why : Refuses) → result ≡ Err (stops.Refused why)
+            → reset_refused self.old.opened ≡ Some why }
+        ensures only_refused { (why : Refuses) → reset_refused self.old.opened ≡ Some why
+            → result ≡ Err (stops.Refused why) }
         ensures refused_keeps { (why : Refuses) → result ≡ Err (stops.Refused why) → self.new ≡ self.old }
-        ensures stops { (s : State) → HasState self.old.opened s → MayStop D.Disk self.old self.new s (ResetLog now) result }
+        ensures stops { (s : State) → HasState self.old.opened s
+            → MayStop D.Disk self.old self.new s (ResetLog now) result }
         ensures err { OnErr result (place_in self.new ≡ place_in self.old) }
         ensures masters { self.new.opened.masters ≡ self.old.opened.masters }
         ensures whole { OnOk result (is_broken self.new ≡ false) }
-        ensures leaves { Leaves D.Disk self.old self.new (result ≡ Err (stops.Halt IsMemoryOut)) (result ≡ Err (stops.Halt IsDiskFault)) }
+        ensures leaves { Leaves D.Disk self.old self.new (result ≡ Err (stops.Halt IsMemoryOut))
+            (result ≡ Err (stops.Halt IsDiskFault)) }
     {
         self.primary.reset_log(alloc, &mut self.disk, now)
     }
@@ -57,56 +63,66 @@ impl<D: Disk> DiskPrimary<D> {
     ///
     /// # Errors
     ///
-    /// `Closed` after a fault of the disk, and `Halt` where memory is wanted and not given, and then nothing is changed,
-    /// or the disk failed, after which the primary is closed.
+    /// `Closed` after a fault of the disk, and `Halt` where memory is wanted and not given, and then nothing is
+    /// changed, or the disk failed, after which the primary is closed.
     pub fn write_stash(&mut self, alloc: Global, now: Time) -> Result<(), Stop>
         // A history leaves the answer to it free.
-        ensures does { (s : State) (answer : Answers) → HasState self.old.opened s → OnOk result (Does (place_in self.old) s (Stash now) answer (place_in self.new)) }
+        ensures does { (s : State) (answer : Answers) → HasState self.old.opened s
+            → OnOk result (Does (place_in self.old) s (Stash now) answer (place_in self.new)) }
         ensures state { (s : State) → HasState self.old.opened s → HasState self.new.opened s }
-        ensures refused { (why : Refuses) → result ≡ Err (stops.Refused why) → stash_refused self.old.opened ≡ Some why }
+        ensures refused { (why : Refuses) → result ≡ Err (stops.Refused why)
+            → stash_refused self.old.opened ≡ Some why }
         ensures closed { is_broken self.old ≡ true → result ≡ Err (stops.Refused Closed) }
         ensures refused_keeps { (why : Refuses) → result ≡ Err (stops.Refused why) → self.new ≡ self.old }
-        ensures stops { (s : State) → HasState self.old.opened s → MayStop D.Disk self.old self.new s (Stash now) result }
+        ensures stops { (s : State) → HasState self.old.opened s
+            → MayStop D.Disk self.old self.new s (Stash now) result }
         ensures err { OnErr result (place_in self.new ≡ place_in self.old) }
         ensures masters { self.new.opened.masters ≡ self.old.opened.masters }
         ensures whole { OnOk result (is_broken self.new ≡ false) }
-        ensures leaves { Leaves D.Disk self.old self.new (result ≡ Err (stops.Halt IsMemoryOut)) (result ≡ Err (stops.Halt IsDiskFault)) }
+        ensures leaves { Leaves D.Disk self.old self.new (result ≡ Err (stops.Halt IsMemoryOut))
+            (result ≡ Err (stops.Halt IsDiskFault)) }
     {
         self.primary.write_stash(alloc, &mut self.disk, now)
     }
 
     /// Loads a dump: its rows are put in the place of all rows, and the log begins anew, at the clock's time or a
     /// microsecond behind the last change. The dump is to be of the database's realm, the stash is to open the master
-    /// keys among its rows, and these are to be sound at that time. The dump's own point is not used. The stash, the size
-    /// of the log and the length of its blocks stay, and so do the dumps that are under way. It gives the point of the
-    /// log's base marker.
+    /// keys among its rows, and these are to be sound at that time. The dump's own point is not used. The stash, the
+    /// size of the log and the length of its blocks stay, and so do the dumps that are under way. It gives the point of
+    /// the log's base marker.
     ///
     /// # Errors
     ///
     /// In this order: `Closed` after a fault of the disk; `Damaged` and `StashMissing` of the stash; `DumpBad` with the
     /// line of another realm; `UnknownMaster` and `StashWrong` of the stash and the dump's K/M; `DumpBad` with the line
     /// of the first record that is not sound, or with that of the end where K/M or kadmin/history is missing; `TimeEnd`
-    /// where no later time is left. `Halt` where memory is wanted and not given, and then nothing is changed, or the disk
-    /// failed, after which the primary is closed.
+    /// where no later time is left. `Halt` where memory is wanted and not given, and then nothing is changed, or the
+    /// disk failed, after which the primary is closed.
     pub fn load(&mut self, alloc: Global, dump: Dump, now: Time) -> Result<Point, Stop>
         // A history leaves the answer to it free: it is the point.
-        ensures does { (s : State) (answer : Answers) → OnOk result (Does (place_in self.old) s (Load dump.rows now) answer (place_in self.new)) }
+        ensures does { (s : State) (answer : Answers)
+            → OnOk result (Does (place_in self.old) s (Load dump.rows now) answer (place_in self.new)) }
         ensures point { IfOk result (λ point. point ≡ reset_point now (place_in self.old)) }
         ensures loaded { OnOk result (HasLoaded self.old.opened self.new.opened dump.rows now) }
         // The master keys are those that the stash opens.
         ensures taken { OnOk result (MayLoad self.old.opened now dump self.new.opened.masters) }
         // A dump that may be loaded is loaded, unless memory runs out or the disk fails.
-        ensures complete { (masters : List Master) → MayLoad self.old.opened now dump masters → LoadsWith result self.new.opened.masters masters }
-        ensures refused { (why : Refuses) → result ≡ Err (stops.Refused why) → LoadRefused self.old.opened now dump why }
+        ensures complete { (masters : List Master) → MayLoad self.old.opened now dump masters
+            → LoadsWith result self.new.opened.masters masters }
+        ensures refused { (why : Refuses) → result ≡ Err (stops.Refused why)
+            → LoadRefused self.old.opened now dump why }
         // Where there is a cause it is told, unless memory runs out.
         ensures only_refused { (why : Refuses) → LoadRefused self.old.opened now dump why → RefusesFor result why }
         ensures refused_keeps { (why : Refuses) → result ≡ Err (stops.Refused why) → self.new ≡ self.old }
-        ensures crash { (s : State) → is_broken self.old ≡ false → IsCrashSafe D.Disk self.old.disk self.new.disk (MayLeave (place_in self.old) s (Load dump.rows now)) }
-        ensures reach { (s : State) → OnErr result (MayReach (place_in self.old) s (Load dump.rows now) (place_in self.new)) }
+        ensures crash { (s : State) → is_broken self.old ≡ false
+            → IsCrashSafe D.Disk self.old.disk self.new.disk (MayLeave (place_in self.old) s (Load dump.rows now)) }
+        ensures reach { (s : State)
+            → OnErr result (MayReach (place_in self.old) s (Load dump.rows now) (place_in self.new)) }
         ensures err { OnErr result (place_in self.new ≡ place_in self.old) }
         ensures err_masters { OnErr result (self.new.opened.masters ≡ self.old.opened.masters) }
         ensures whole { OnOk result (is_broken self.new ≡ false) }
-        ensures leaves { Leaves D.Disk self.old self.new (result ≡ Err (stops.Halt IsMemoryOut)) (result ≡ Err (stops.Halt IsDiskFault)) }
+        ensures leaves { Leaves D.Disk self.old self.new (result ≡ Err (stops.Halt IsMemoryOut))
+            (result ≡ Err (stops.Halt IsDiskFault)) }
     {
         load(alloc, &mut self.primary, &mut self.disk, dump, now)
     }

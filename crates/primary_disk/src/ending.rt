@@ -15,17 +15,19 @@ use kdb_base::Stop;
 use kdb_disk::Disk;
 
 impl<D: Disk> DiskPrimary<D> {
-    /// Ends the database: its slots are closed, the older one first, and then all its files are cut to nothing. No memory
-    /// is taken. The disk is handed back in any case.
+    /// Ends the database: its slots are closed, the older one first, and then all its files are cut to nothing. No
+    /// memory is taken. The disk is handed back in any case.
     ///
     /// # Errors
     ///
-    /// `DiskFault` where the disk failed. Of a primary that is not closed, on a disk that tells of its files, nothing is
-    /// refused.
+    /// `DiskFault` where the disk failed. Of a primary that is not closed, on a disk that tells of its files, nothing
+    /// is refused.
     pub fn destroy(self) -> Result<D, (D, Stop)>
         ensures none { D.tells → IfOk result (λ disk. RecoversToNone (D.view disk)) }
-        ensures crash { is_broken self ≡ false → IsCrashSafe D.Disk self.disk (disk_back result) (MayEnd (place_in self)) }
-        ensures refused { D.tells → is_broken self ≡ false → (why : Refuses) → ended_in result ≡ Err (stops.Refused why) → ⊥ }
+        ensures crash { is_broken self ≡ false
+            → IsCrashSafe D.Disk self.disk (disk_back result) (MayEnd (place_in self)) }
+        ensures refused { D.tells → is_broken self ≡ false → (why : Refuses)
+            → ended_in result ≡ Err (stops.Refused why) → ⊥ }
         ensures memory { ended_in result ≡ Err (stops.Halt IsMemoryOut) → ⊥ }
         ensures call { IsCall D.Disk self.disk (disk_back result) (ended_in result ≡ Err (stops.Halt IsDiskFault)) }
     {

@@ -12,7 +12,8 @@ ghost use Rattle.kdb_disk.specs.Frames.{IsCall};
 ghost use Rattle.kdb_disk.specs.Moments.{Keeps, LeavesOnly};
 ghost use Rattle.kdb_histories.specs.Calls.{HasTimeLeft, resized};
 ghost use Rattle.primary_core.specs.Opened.{HasState};
-ghost use Rattle.primary_core.specs.Opening.{IsRefusedAs, MayOpen, OpeningRefused, OpensHaving, OpensTo, OpensWith, RecoversAs, first_control, first_file, first_place, place_found};
+ghost use Rattle.primary_core.specs.Opening.{IsRefusedAs, MayOpen, OpeningRefused, OpensHaving, OpensTo, OpensWith};
+ghost use Rattle.primary_core.specs.Opening.{RecoversAs, first_control, first_file, first_place, place_found};
 ghost use Rattle.primary_disk.specs.Handing.{disk_behind, opened_in};
 ghost use Rattle.primary_disk.specs.Held.{is_broken, place_in};
 ghost use Rattle.store_files.specs.Found.{Found, found_in};
@@ -51,9 +52,12 @@ impl<D: Disk> DiskPrimary<D> {
         ensures state { IfOk result (λ h. HasState h.opened (first_state spec.now now random.now)) }
         ensures room { IfOk result (λ h. (h.opened.dumps ≡ 0) × (h.opened.room ≡ 1)) }
         ensures whole { IfOk result (λ h. is_broken h ≡ false) }
-        ensures moments { D.tells → LeavesOnly (D.view disk) (D.view (disk_behind result)) (Creates (D.view disk) (first_place spec.now now random.now)) }
-        ensures refused { D.tells → (why : Refuses) → opened_in result ≡ Err (Refused why) → Keeps (D.view disk) (D.view (disk_behind result)) }
-        ensures there { D.tells → in_force ((D.view disk).seen 0) ≢ Nothing → Keeps (D.view disk) (D.view (disk_behind result)) }
+        ensures moments { D.tells → LeavesOnly (D.view disk) (D.view (disk_behind result))
+            (Creates (D.view disk) (first_place spec.now now random.now)) }
+        ensures refused { D.tells → (why : Refuses) → opened_in result ≡ Err (Refused why)
+            → Keeps (D.view disk) (D.view (disk_behind result)) }
+        ensures there { D.tells → in_force ((D.view disk).seen 0) ≢ Nothing
+            → Keeps (D.view disk) (D.view (disk_behind result)) }
         ensures memory { opened_in result ≡ Err (Halts IsMemoryOut) → disk_behind result ≡ disk }
         ensures call { IsCall D.Disk disk (disk_behind result) (opened_in result ≡ Err (Halts IsDiskFault)) }
     {
@@ -82,18 +86,27 @@ impl<D: Disk> DiskPrimary<D> {
         requires size { IfSome size (λ n. (2 ≤ n) × (n ≤ 10000)) }
         requires places { (1 ≤ places) × (places ≤ 16) }
         ensures opens { D.tells → IfOk result (λ h. OpensTo (found_in (D.view disk).seen) size now h.opened) }
-        ensures refused { D.tells → (why : Refuses) → opened_in result ≡ Err (Refused why) → OpeningRefused (found_in (D.view disk).seen) size now why }
-        // Where there is a cause it is told, and where there is none it opens, unless memory runs out or the disk fails.
-        ensures only_refused { D.tells → (why : Refuses) → OpeningRefused (found_in (D.view disk).seen) size now why → IsRefusedAs (opened_in result) why }
-        ensures complete { D.tells → (f : Found) (masters : List Masterly) → found_in (D.view disk).seen ≡ Ok f → OpensWith f masters → (resized size now (place_found f) ≢ [] → HasTimeLeft (place_found f)) → OpensHaving (opened_in result) masters }
+        ensures refused { D.tells → (why : Refuses) → opened_in result ≡ Err (Refused why)
+            → OpeningRefused (found_in (D.view disk).seen) size now why }
+        // Where there is a cause it is told, and where there is none it opens, unless memory runs out or the disk
+        // fails.
+        ensures only_refused { D.tells → (why : Refuses) → OpeningRefused (found_in (D.view disk).seen) size now why
+            → IsRefusedAs (opened_in result) why }
+        ensures complete { D.tells → (f : Found) (masters : List Masterly) → found_in (D.view disk).seen ≡ Ok f
+            → OpensWith f masters → (resized size now (place_found f) ≢ [] → HasTimeLeft (place_found f))
+            → OpensHaving (opened_in result) masters }
         ensures room { IfOk result (λ h. (h.opened.dumps ≡ 0) × (h.opened.room ≡ places)) }
         ensures whole { IfOk result (λ h. is_broken h ≡ false) }
-        ensures moments { D.tells → LeavesOnly (D.view disk) (D.view (disk_behind result)) (MayOpen (D.view disk) (found_in (D.view disk).seen) size now) }
+        ensures moments { D.tells → LeavesOnly (D.view disk) (D.view (disk_behind result))
+            (MayOpen (D.view disk) (found_in (D.view disk).seen) size now) }
         // Want of memory begins no log anew.
-        ensures memory { D.tells → opened_in result ≡ Err (Halts IsMemoryOut) → LeavesOnly (D.view disk) (D.view (disk_behind result)) (IsLike (D.view disk)) }
-        ensures refusals { D.tells → (why : Refuses) → OpeningRefused (found_in (D.view disk).seen) size now why → LeavesOnly (D.view disk) (D.view (disk_behind result)) (IsLike (D.view disk)) }
+        ensures memory { D.tells → opened_in result ≡ Err (Halts IsMemoryOut)
+            → LeavesOnly (D.view disk) (D.view (disk_behind result)) (IsLike (D.view disk)) }
+        ensures refusals { D.tells → (why : Refuses) → OpeningRefused (found_in (D.view disk).seen) size now why
+            → LeavesOnly (D.view disk) (D.view (disk_behind result)) (IsLike (D.view disk)) }
         // After a refusal whatever a crash leaves recovers to what was read.
-        ensures refused_stays { D.tells → (why : Refuses) → opened_in result ≡ Err (Refused why) → RecoversAs (D.view disk).seen (D.view (disk_behind result)) }
+        ensures refused_stays { D.tells → (why : Refuses) → opened_in result ≡ Err (Refused why)
+            → RecoversAs (D.view disk).seen (D.view (disk_behind result)) }
         ensures call { IsCall D.Disk disk (disk_behind result) (opened_in result ≡ Err (Halts IsDiskFault)) }
     {
         match Primary::recover(alloc, &mut disk, size, places, now) {

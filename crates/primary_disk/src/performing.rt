@@ -34,8 +34,8 @@ fn is_stash(command: &Command) -> bool
 impl<D: Disk> DiskPrimary<D> {
     /// Does a command at a moment of the clock, with a block of random bytes: it is judged against the rows, and its
     /// change is made, behind a log that is begun anew where that is due, or the stash is written. It is given neither
-    /// `update_princ_encryption` nor `dump`, which are several calls. After a fault of the disk every command is refused
-    /// by `Closed`.
+    /// `update_princ_encryption` nor `dump`, which are several calls. After a fault of the disk every command is
+    /// refused by `Closed`.
     ///
     /// # Errors
     ///
@@ -51,15 +51,21 @@ impl<D: Disk> DiskPrimary<D> {
     ) -> Result<Reply, Halt>
         requires command { IsCommand self.old.opened.kept.realm ready.now.command }
         requires one { is_one_step ready.now.command ≡ true }
-        ensures does { (s : State) → is_broken self.old ≡ false → HasState self.old.opened s → IfOk result (λ reply. IsDone self.old self.new s (command_ask client.now (option_map (λ acl. acl.now) acl.entry) ready.now.command now random.now) (Replied reply)) }
+        ensures does { (s : State) → is_broken self.old ≡ false
+            → HasState self.old.opened s → IfOk result (λ reply. IsDone self.old self.new s (command_ask client.now
+            (option_map (λ acl. acl.now) acl.entry) ready.now.command now random.now) (Replied reply)) }
         ensures closed { is_broken self.old ≡ true → result ≡ Ok (Refused Closed) }
         ensures closed_keeps { is_broken self.old ≡ true → self.new ≡ self.old }
         // A command that makes no place, as one that is refused or that reads, changes nothing.
-        ensures keeps { (s : State) → is_stash ready.now.command ≡ false → is_broken self.old ≡ false → HasState self.old.opened s
-            → made_at (command_ask client.now (option_map (λ acl. acl.now) acl.entry) ready.now.command now random.now) (seen (place_in self.old) s) ≡ []
+        ensures keeps { (s : State) → is_stash ready.now.command ≡ false → is_broken self.old ≡ false
+            → HasState self.old.opened s
+            → made_at (command_ask client.now (option_map (λ acl. acl.now) acl.entry) ready.now.command now random.now)
+            (seen (place_in self.old) s) ≡ []
             → self.new ≡ self.old }
-        ensures stash_keeps { (why : Refuses) → is_stash ready.now.command ≡ true → result ≡ Ok (Refused why) → self.new ≡ self.old }
-        ensures stops { (s : State) → HasState self.old.opened s → MayStop D.Disk self.old self.new s (Perform (command_ask client.now (option_map (λ acl. acl.now) acl.entry) ready.now.command now random.now)) result }
+        ensures stash_keeps { (why : Refuses) → is_stash ready.now.command ≡ true → result ≡ Ok (Refused why)
+            → self.new ≡ self.old }
+        ensures stops { (s : State) → HasState self.old.opened s → MayStop D.Disk self.old self.new s (Perform
+            (command_ask client.now (option_map (λ acl. acl.now) acl.entry) ready.now.command now random.now)) result }
         ensures rows { OnErr result ((place_in self.new).rows ≡ (place_in self.old).rows) }
         ensures masters { OnErr result (self.new.opened.masters ≡ self.old.opened.masters) }
         ensures whole { is_broken self.old ≡ false → OnOk result (is_broken self.new ≡ false) }

@@ -38,7 +38,8 @@ impl<D: Disk> DiskPrimary<D> {
     /// `MemoryOut` where memory is wanted and not given.
     pub fn rekey_take(&self, alloc: Global, name: &[u8], now: Time) -> Result<TakeAnswer, MemoryOut>
         requires { is_master name.now ≡ false }
-        ensures take { (s : State) → is_broken self.now ≡ false → HasState self.now.opened s → IfOk result (λ answer. IsTake answer (take_of s (at_clock now false) (record_named name.now self.now.opened.kept.rows.princs))) }
+        ensures take { (s : State) → is_broken self.now ≡ false → HasState self.now.opened s → IfOk result (λ answer.
+            IsTake answer (take_of s (at_clock now false) (record_named name.now self.now.opened.kept.rows.princs))) }
         ensures closed { is_broken self.now ≡ true → result ≡ Ok IsClosed }
     {
         rekey_take(alloc, &self.primary, name, now)
@@ -59,15 +60,19 @@ impl<D: Disk> DiskPrimary<D> {
         made: Rewrapped,
         now: Time,
     ) -> Result<Settled, Stop>
-        ensures does { (s : State) (who : NameParts) (answer : Answers) → is_broken self.old ≡ false → HasState self.old.opened s → printed who ≡ made.taken.princ.name → answer_of result ≡ Some answer → IsDone self.old self.new s (Settles who now made) answer }
+        ensures does { (s : State) (who : NameParts) (answer : Answers) → is_broken self.old ≡ false
+            → HasState self.old.opened s → printed who ≡ made.taken.princ.name → answer_of result ≡ Some answer
+            → IsDone self.old self.new s (Settles who now made) answer }
         ensures closed { is_broken self.old ≡ true → result ≡ Err (stops.Refused Closed) }
         ensures keeps { (told : Found) → result ≡ Ok told → is_updated told ≡ false → self.new ≡ self.old }
         ensures refused_keeps { (why : Refuses) → result ≡ Err (stops.Refused why) → self.new ≡ self.old }
-        ensures stops { (s : State) (who : NameParts) → HasState self.old.opened s → printed who ≡ made.taken.princ.name → MayStop D.Disk self.old self.new s (Perform (Settles who now made)) result }
+        ensures stops { (s : State) (who : NameParts) → HasState self.old.opened s → printed who ≡ made.taken.princ.name
+            → MayStop D.Disk self.old self.new s (Perform (Settles who now made)) result }
         ensures rows { OnErr result ((place_in self.new).rows ≡ (place_in self.old).rows) }
         ensures masters { self.new.opened.masters ≡ self.old.opened.masters }
         ensures whole { OnOk result (is_broken self.new ≡ false) }
-        ensures leaves { Leaves D.Disk self.old self.new (result ≡ Err (stops.Halt IsMemoryOut)) (result ≡ Err (stops.Halt IsDiskFault)) }
+        ensures leaves { Leaves D.Disk self.old self.new (result ≡ Err (stops.Halt IsMemoryOut))
+            (result ≡ Err (stops.Halt IsDiskFault)) }
     {
         rekey_settle(alloc, &mut self.primary, &mut self.disk, made, now)
     }
@@ -87,16 +92,21 @@ impl<D: Disk> DiskPrimary<D> {
         random: &[u8; 512],
     ) -> Result<Settled, Stop>
         requires { is_master name.now ≡ false }
-        ensures does { (s : State) (who : NameParts) (answer : Answers) → is_broken self.old ≡ false → HasState self.old.opened s → printed who ≡ name.now → answer_of result ≡ Some answer → IsDone self.old self.new s (RekeyedNow who now random.now) answer }
+        ensures does { (s : State) (who : NameParts) (answer : Answers) → is_broken self.old ≡ false
+            → HasState self.old.opened s → printed who ≡ name.now → answer_of result ≡ Some answer
+            → IsDone self.old self.new s (RekeyedNow who now random.now) answer }
         ensures closed { is_broken self.old ≡ true → result ≡ Err (stops.Refused Closed) }
-        ensures absent { is_broken self.old ≡ false → record_named name.now self.old.opened.kept.rows.princs ≡ None → result ≢ Err (stops.Halt IsMemoryOut) → result ≡ Ok Gone }
+        ensures absent { is_broken self.old ≡ false → record_named name.now self.old.opened.kept.rows.princs ≡ None
+            → result ≢ Err (stops.Halt IsMemoryOut) → result ≡ Ok Gone }
         ensures keeps { (told : Found) → result ≡ Ok told → is_updated told ≡ false → self.new ≡ self.old }
         ensures refused_keeps { (why : Refuses) → result ≡ Err (stops.Refused why) → self.new ≡ self.old }
-        ensures stops { (s : State) (who : NameParts) → HasState self.old.opened s → printed who ≡ name.now → MayStop D.Disk self.old self.new s (Perform (RekeyedNow who now random.now)) result }
+        ensures stops { (s : State) (who : NameParts) → HasState self.old.opened s → printed who ≡ name.now
+            → MayStop D.Disk self.old self.new s (Perform (RekeyedNow who now random.now)) result }
         ensures rows { OnErr result ((place_in self.new).rows ≡ (place_in self.old).rows) }
         ensures masters { self.new.opened.masters ≡ self.old.opened.masters }
         ensures whole { OnOk result (is_broken self.new ≡ false) }
-        ensures leaves { Leaves D.Disk self.old self.new (result ≡ Err (stops.Halt IsMemoryOut)) (result ≡ Err (stops.Halt IsDiskFault)) }
+        ensures leaves { Leaves D.Disk self.old self.new (result ≡ Err (stops.Halt IsMemoryOut))
+            (result ≡ Err (stops.Halt IsDiskFault)) }
     {
         what_is_kept_is_recovered(&self.disk);
         if self.primary.is_closed() {

@@ -1,5 +1,6 @@
 -- What a primary answers with no change, as events.
-use Rattle.std.proofs.Common.{◌≡◌, ◌+◌, ◌-◌, ◌&&◌, ℕ, Bool, true, false, not, List, [], ◌∷◌, Option, Some, None, refl, sym, ◌∙◌, ap, subst}
+use Rattle.std.proofs.Common.{◌≡◌, ◌+◌, ◌-◌, ◌&&◌, ℕ, Bool, true, false, not, List}
+use Rattle.std.proofs.Common.{[], ◌∷◌, Option, Some, None, refl, sym, ◌∙◌, ap, subst}
 use Rattle.std.specs.Prelude.{is_some, nat_eq, if◌then◌else◌}
 use Rattle.acl_text.specs.Decisions.{decision}
 use Rattle.acl_text.specs.declared.rules.AclLine.{AclLine}
@@ -34,7 +35,8 @@ allowed_in lines client h =
     let d = decision lines client pull_letter None in
     allowed_by d.allowed (is_some d.limits) (Denied d.line) h
 
-pulls : (access : Option (List AclLine)) (client : NameParts) → denial_of access client (asking_alone propagating ∷ []) ≡ None
+pulls : (access : Option (List AclLine)) (client : NameParts)
+    → denial_of access client (asking_alone propagating ∷ []) ≡ None
     → denies_pull access client ≡ false
 pulls None client h = refl
 pulls (Some lines) client h = ap not (allowed_in lines client h)
@@ -45,7 +47,8 @@ never : (x : Option Refusal) → ((why : Refusal) → x ≡ Some why → ⊥) �
 never None h = refl
 never (Some why) h = absurd (h why refl)
 
-open_none : (broken : Bool) (x : Option Refusal) → broken ≡ false → (if broken then Some Closed else x) ≡ None → x ≡ None
+open_none : (broken : Bool) (x : Option Refusal) → broken ≡ false
+    → (if broken then Some Closed else x) ≡ None → x ≡ None
 open_none true x whole h = let both : true ≡ false = whole in absurd cc
 open_none false x whole h = h
 
@@ -78,15 +81,22 @@ dumping_at o s n m h same = record {
 
 -- ---- events
 
-pub polled : (o : Opened) (s : Site) (client : NameParts) (access : Option (List AclLine)) (asked : Point) (r : PollReply) → IsAt o s
-    → r ≡ poll_reply (denies_pull access client) (is_full o) asked (place_of o).held → LeadsTo s (Polls client access asked) (Some (Reply r)) o
+pub polled : (o : Opened) (s : Site) (client : NameParts) (access : Option (List AclLine)) (asked : Point)
+    (r : PollReply) → IsAt o s
+    → r ≡ poll_reply (denies_pull access client) (is_full o) asked (place_of o).held
+    → LeadsTo s (Polls client access asked) (Some (Reply r)) o
 polled o s client access asked r h is =
     let denied = denies_pull access client in
     let same = is ∙ ap (λ (b : Bool). poll_reply denied b asked (place_of o).held) (sym (busy_is o s h))
     ∙ ap (λ (p : Place). poll_reply denied (is_busy s) asked p.held) (sym h.place) in
-    record { new = s; happens = record { at = h.at; ready = h.up; is = refl; says = ap (λ (x : PollReply). Some (Reply x)) same }; at = h }
+    record {
+      new = s;
+      happens = record { at = h.at; ready = h.up; is = refl; says = ap (λ (x : PollReply). Some (Reply x)) same };
+      at = h;
+    }
 
-pub dumped : (o : Opened) (s : Site) (client : NameParts) (access : Option (List AclLine)) (contents : Contents) → IsAt o s
+pub dumped : (o : Opened) (s : Site) (client : NameParts) (access : Option (List AclLine)) (contents : Contents)
+    → IsAt o s
     → ((why : Refusal) → dump_refused o client access ≡ Some why → ⊥) → contents ≡ contents_of (place_of o)
     → LeadsTo s (Dumps client access) (Some (Dumped contents)) (with_dumps (o.dumps + 1) o)
 dumped o s client access contents h refused is =

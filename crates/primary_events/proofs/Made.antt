@@ -23,14 +23,22 @@ creation_of : (s : Site) (spec : SpecParts) (clock : Moment) (random : List ℕ)
     → IsCreation (places s.ended) (first_stage spec clock random)
 creation_of s spec clock random h = created_stage spec clock random (places s.ended) h.is h.long h.bytes h.later
 
-pub creation_returns : (o : Opened) (s : Site) (spec : SpecParts) (clock : Moment) (random : List ℕ) → MayCreate s spec clock random
-    → place_of o ≡ first_place spec clock random → HasState o (first_state spec clock random) → (o.dumps ≡ 0) × (o.room ≡ 1) → o.kept.broken ≡ false
+pub creation_returns : (o : Opened) (s : Site) (spec : SpecParts) (clock : Moment) (random : List ℕ)
+    → MayCreate s spec clock random
+    → place_of o ≡ first_place spec clock random → HasState o (first_state spec clock random)
+    → (o.dumps ≡ 0) × (o.room ≡ 1) → o.kept.broken ≡ false
     → LeadsTo s (Creates (first_stage spec clock random) true) None o
 creation_returns o s spec clock random h place has same whole =
     let t : Stage = first_stage spec clock random in
     record {
       new = begun t true s;
-      happens = record { none = h.none; creation = creation_of s spec clock random h; newer = λ up. refl; is = refl; silent = refl };
+      happens = record {
+        none = h.none;
+        creation = creation_of s spec clock random h;
+        newer = λ up. refl;
+        is = refl;
+        silent = refl;
+      };
       at = record {
         at = record { last = t; others = []; is = refl };
         place = sym place;
@@ -43,18 +51,26 @@ creation_returns o s spec clock random h place has same whole =
     }
 
 -- its place was made, and then it stopped
-pub creation_stops : (s : Site) (spec : SpecParts) (clock : Moment) (random : List ℕ) (c : Files) → MayCreate s spec clock random
+pub creation_stops : (s : Site) (spec : SpecParts) (clock : Moment) (random : List ℕ) (c : Files)
+    → MayCreate s spec clock random
     → recovers c ≡ Ok (first_place spec clock random) → ComesTo s c
 creation_stops s spec clock random c h is =
     let t : Stage = first_stage spec clock random in
     one_event IsQuiet s (begun t false s) (Creates t false) c refl
-    (record { none = h.none; creation = creation_of s spec clock random h; newer = λ (up : false ≡ true). absurd cc; is = refl; silent = refl }) refl is
+    (record {
+      none = h.none;
+      creation = creation_of s spec clock random h;
+      newer = λ (up : false ≡ true). absurd cc;
+      is = refl;
+      silent = refl;
+    }) refl is
 
 -- or none is there yet
 pub none_comes : (s : Site) (c : Files) → s.history ≡ [] → HasNone c → StopsTo s c
 none_comes s c none is = crash_comes s c (subst (λ (h : List Stage). LastIn h c) (sym none) is)
 
-pub images_made : (v : View) (s : Site) (spec : SpecParts) (clock : Moment) (random : List ℕ) (c : Files) → MayCreate s spec clock random
+pub images_made : (v : View) (s : Site) (spec : SpecParts) (clock : Moment) (random : List ℕ) (c : Files)
+    → MayCreate s spec clock random
     → ((b : Files) → v.images b → ComesTo s b) → MayMake v (first_place spec clock random) c → ComesTo s c
 images_made v s spec clock random c h each (inl like) = images_like IsQuiet v s c each like
 images_made v s spec clock random c h each (inr (inl none)) = comes_quiet s c (none_comes s c h.none none)

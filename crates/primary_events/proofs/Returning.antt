@@ -12,7 +12,8 @@ use Rattle.kdb_histories.specs.Asks.{Answer, Ask, Enters, Keeps, Kind, Stashes, 
 use Rattle.kdb_histories.specs.Calls.{Call, CallMakes, Leads, Load, Loads, Open, Perform, Performs, ResetLog, Stash}
 use Rattle.kdb_histories.specs.Leaving.{Does}
 use Rattle.kdb_histories.specs.Seen.{after_ask, moment_at, outcome_at, planned, reset_point, seen, stash_of}
-use Rattle.kdb_histories.specs.Sites.{Calls, Site, Stands, after_call, clock_at, dumps_after, room_after, state_of, story_of, wants_open}
+use Rattle.kdb_histories.specs.Sites.{Calls, Site, Stands, after_call, clock_at, dumps_after}
+use Rattle.kdb_histories.specs.Sites.{room_after, state_of, story_of, wants_open}
 use Rattle.kdb_histories.specs.Stages.{Filled, ShowsAt, Stage, fold, onto, places, stage}
 use Rattle.kdb_model.specs.Laws.{IsMoment, at_point}
 use Rattle.kdb_places.proofs.Points.{first_point}
@@ -32,11 +33,13 @@ pub record Tip (stages : List Stage) (q : Place) : Type 0 where
   pub is : stages ≡ last ∷ others
   pub place : last.place ≡ q
 
-tip_of : (made : List Stage) (t : Stage) (older : List Stage) → Tip (onto made (t ∷ older)) (end_of t.place (places made))
+tip_of : (made : List Stage) (t : Stage) (older : List Stage)
+    → Tip (onto made (t ∷ older)) (end_of t.place (places made))
 tip_of [] t older = record { last = t; others = older; is = refl; place = refl }
 tip_of (u ∷ made) t older = tip_of made u (t ∷ older)
 
-pub tip_at : (s : Site) (at : Stands s) (made : List Stage) → Tip (onto made s.history) (end_of at.last.place (places made))
+pub tip_at : (s : Site) (at : Stands s) (made : List Stage)
+    → Tip (onto made s.history) (end_of at.last.place (places made))
 tip_at s at made =
     let tip = tip_of made at.last at.others in
     record { last = tip.last; others = tip.others; is = ap (onto made) at.is ∙ tip.is; place = tip.place }
@@ -57,9 +60,12 @@ room_stays (ResetLog clock) n h = refl
 room_stays (Load rows clock) n h = refl
 room_stays (Open size room clock) n h = let both : false ≡ true = h in absurd cc
 
-pub call_returns : (o new : Opened) (s : Site) (call : Call) (answer : Answer) (made : List Stage) → IsAt o s → wants_open call ≡ true
-    → IsMoment (clock_at call) → CallMakes (place_of o) (state_of s) call answer made → place_of new ≡ end_of (place_of o) (places made)
-    → HasState new (fold (onto made (story_of s))) → (new.dumps ≡ o.dumps) × (new.room ≡ o.room) → new.kept.broken ≡ false
+pub call_returns : (o new : Opened) (s : Site) (call : Call) (answer : Answer) (made : List Stage) → IsAt o s
+    → wants_open call ≡ true
+    → IsMoment (clock_at call) → CallMakes (place_of o) (state_of s) call answer made
+    → place_of new ≡ end_of (place_of o) (places made)
+    → HasState new (fold (onto made (story_of s))) → (new.dumps ≡ o.dumps) × (new.room ≡ o.room)
+    → new.kept.broken ≡ false
     → LeadsTo s (Calls call answer made) None new
 call_returns o new s call answer made h open_ clock makes place has same whole =
     let tip = tip_at s h.at made in
@@ -82,51 +88,61 @@ call_returns o new s call answer made h open_ clock makes place has same whole =
 -- ---- a command, a rekeying or a settling
 
 -- what the history comes to behind an ask is the ask's outcome
-story_state : (history others ended : List Stage) (t : Stage) (p : Place) (ask : Ask) (answer : Answer) (made : List Stage) → history ≡ t ∷ others
+story_state : (history others ended : List Stage) (t : Stage) (p : Place) (ask : Ask) (answer : Answer)
+    (made : List Stage) → history ≡ t ∷ others
     → t.place ≡ p → ShowsAt p (fold (history ++ ended)) → Performs p (fold (history ++ ended)) ask answer made
     → fold (onto made (history ++ ended)) ≡ (outcome_at ask (seen p (fold (history ++ ended)))).state
 story_state history others ended t p ask answer made is here =
     subst (λ (x : List Stage). ShowsAt p (fold (x ++ ended)) → Performs p (fold (x ++ ended)) ask answer made
     → fold (onto made (x ++ ended)) ≡ (outcome_at ask (seen p (fold (x ++ ended)))).state) (sym is)
-    (subst (λ (q : Place). ShowsAt q (fold (t ∷ others ++ ended)) → Performs q (fold (t ∷ others ++ ended)) ask answer made
+    (subst (λ (q : Place). ShowsAt q (fold (t ∷ others ++ ended))
+    → Performs q (fold (t ∷ others ++ ended)) ask answer made
     → fold (onto made (t ∷ others ++ ended)) ≡ (outcome_at ask (seen q (fold (t ∷ others ++ ended)))).state) here
     (ask_state t (others ++ ended) ask answer made))
 
 pub ask_returns : (o new : Opened) (s : Site) (ask : Ask) (answer : Answer) → IsAt o s → IsMoment (clock_of ask)
-    → Does (place_of o) (state_of s) (Perform ask) answer (place_of new) → HasState new (after_ask ask (seen (place_of o) (state_of s))).state
+    → Does (place_of o) (state_of s) (Perform ask) answer (place_of new)
+    → HasState new (after_ask ask (seen (place_of o) (state_of s))).state
     → (new.dumps ≡ o.dumps) × (new.room ≡ o.room) → new.kept.broken ≡ false → Returns s (Perform ask) answer new
 ask_returns o new s ask answer h clock does has same whole =
-    let state = story_state s.history h.at.others s.ended h.at.last (place_of o) ask answer does.made h.at.is h.place h.has.shows does.makes in
+    let state = story_state s.history h.at.others s.ended h.at.last
+    (place_of o) ask answer does.made h.at.is h.place h.has.shows does.makes in
     record {
       made = does.made;
-      leads = call_returns o new s (Perform ask) answer does.made h refl clock does.makes does.is (subst (HasState new) (sym state) has) same whole;
+      leads = call_returns o new s (Perform ask) answer does.made h refl clock does.makes does.is
+          (subst (HasState new) (sym state) has) same whole;
     }
 
 -- ---- the command that writes the stash
 
 -- whatever it writes, the state stays
-stays_by : (kind : Kind) (clock : Moment) (p : Place) (before after : State) (bytes : List ℕ) → Leads clock p before after (planned kind None bytes)
+stays_by : (kind : Kind) (clock : Moment) (p : Place) (before after : State) (bytes : List ℕ)
+    → Leads clock p before after (planned kind None bytes)
     → after ≡ before
 stays_by Keeps clock p before after bytes e = e
 stays_by Enters clock p before after bytes e = e
 stays_by Stashes clock p before after bytes e = e
 
-line_stays : (p : Place) (s : State) (client : NameParts) (access : Option (List AclLine)) (clock : Moment) (random : List ℕ) (answer : Answer)
+line_stays : (p : Place) (s : State) (client : NameParts) (access : Option (List AclLine)) (clock : Moment)
+    (random : List ℕ) (answer : Answer)
     (made : List Stage) → Performs p s (command_ask client access StashLine clock random) answer made
     → (outcome_at (command_ask client access StashLine clock random) (seen p s)).state ≡ s
 unfolding kept_op kept_entry_of kept_masters_of
 line_stays p s client access clock random answer made h =
     let ask = command_ask client access StashLine clock random in
-    stays_by (outcome_at ask (seen p s)).kind clock p s (outcome_at ask (seen p s)).state (stash_of s (moment_at clock p)) h.leads
+    stays_by (outcome_at ask (seen p s)).kind clock p s (outcome_at ask (seen p s)).state
+    (stash_of s (moment_at clock p)) h.leads
 
-pub line_returns : (o new : Opened) (s : Site) (client : NameParts) (access : Option (List AclLine)) (clock : Moment) (random : List ℕ)
+pub line_returns : (o new : Opened) (s : Site) (client : NameParts) (access : Option (List AclLine)) (clock : Moment)
+    (random : List ℕ)
     (answer : Answer) → IsAt o s → IsMoment clock
     → Does (place_of o) (state_of s) (Perform (command_ask client access StashLine clock random)) answer (place_of new)
     → HasState new (state_of s) → (new.dumps ≡ o.dumps) × (new.room ≡ o.room) → new.kept.broken ≡ false
     → Returns s (Perform (command_ask client access StashLine clock random)) answer new
 line_returns o new s client access clock random answer h moment does has same whole =
     let state = line_stays (place_of o) (state_of s) client access clock random answer does.made does.makes in
-    ask_returns o new s (command_ask client access StashLine clock random) answer h moment does (subst (HasState new) (sym state) has) same whole
+    ask_returns o new s (command_ask client access StashLine clock random) answer h moment does
+    (subst (HasState new) (sym state) has) same whole
 
 -- ---- the other calls
 
@@ -134,10 +150,12 @@ pub stash_returns : (o new : Opened) (s : Site) (clock : Moment) (answer : Answe
     → Does (place_of o) (state_of s) (Stash clock) answer (place_of new) → HasState new (state_of s)
     → (new.dumps ≡ o.dumps) × (new.room ≡ o.room) → new.kept.broken ≡ false → Returns s (Stash clock) answer new
 stash_returns o new s clock answer h moment does has same whole =
-    let state : fold (onto does.made (story_of s)) ≡ state_of s = ap (λ (made : List Stage). fold (onto made (story_of s))) does.makes.is in
+    let state : fold (onto does.made (story_of s)) ≡ state_of s =
+    ap (λ (made : List Stage). fold (onto made (story_of s))) does.makes.is in
     record {
       made = does.made;
-      leads = call_returns o new s (Stash clock) answer does.made h refl moment does.makes does.is (subst (HasState new) (sym state) has) same whole;
+      leads = call_returns o new s (Stash clock) answer does.made h refl moment does.makes does.is
+          (subst (HasState new) (sym state) has) same whole;
     }
 
 pub reset_returns : (o new : Opened) (s : Site) (clock : Moment) (answer : Answer) → IsAt o s → IsMoment clock
@@ -152,12 +170,15 @@ reset_returns o new s clock answer h moment does has same whole =
     record {
       made = does.made;
       leads =
-          call_returns o new s (ResetLog clock) answer does.made h refl moment does.makes does.is (subst (HasState new) (sym state) has) same whole;
+          call_returns o new s (ResetLog clock) answer does.made h refl moment does.makes does.is
+          (subst (HasState new) (sym state) has) same whole;
     }
 
-pub load_returns : (o new : Opened) (s : Site) (rows : RowLists) (clock : Moment) (answer : Answer) (state : State) → IsAt o s → IsMoment clock
+pub load_returns : (o new : Opened) (s : Site) (rows : RowLists) (clock : Moment) (answer : Answer) (state : State)
+    → IsAt o s → IsMoment clock
     → Loads (place_of o) rows clock (stage (place_of new) (Filled state) ∷ []) → HasState new state
     → (new.dumps ≡ o.dumps) × (new.room ≡ o.room) → new.kept.broken ≡ false
     → LeadsTo s (Calls (Load rows clock) answer (stage (place_of new) (Filled state) ∷ [])) None new
 load_returns o new s rows clock answer state h moment loads has same whole =
-    call_returns o new s (Load rows clock) answer (stage (place_of new) (Filled state) ∷ []) h refl moment loads refl has same whole
+    call_returns o new s (Load rows clock) answer (stage (place_of new) (Filled state) ∷ []) h refl moment loads refl
+    has same whole

@@ -7,7 +7,8 @@ use Rattle.kdb_disk.specs.Files.{Files}
 use Rattle.kdb_histories.proofs.Growing.{StaysValid}
 use Rattle.kdb_histories.proofs.SiteRuns.{primary_holds}
 use Rattle.kdb_histories.specs.Histories.{IsHeldInFull}
-use Rattle.kdb_histories.specs.Sites.{Site, SiteEvent, Creates, Calls, Stops, Crashes, Ends, Looks, Polls, Dumps, EndsDump, SiteHolds, SiteRun, also, no_site, state_of, story_of}
+use Rattle.kdb_histories.specs.Sites.{Site, SiteEvent, Creates, Calls, Stops, Crashes, Ends, Looks, Polls}
+use Rattle.kdb_histories.specs.Sites.{Dumps, EndsDump, SiteHolds, SiteRun, also, no_site, state_of, story_of}
 use Rattle.kdb_histories.specs.Stages.{ShowsAt, Stage, epoch}
 use Rattle.kdb_places.specs.Places.{Place, last_entries}
 use Rattle.kdb_worlds.proofs.Acknowledged.{run_among}
@@ -28,10 +29,12 @@ full_last history others ended t is h =
     let here : IsHeldInFull (t ∷ others ++ ended) = subst (λ (x : List Stage). IsHeldInFull (x ++ ended)) is h in
     subst (λ (x : List Stage). t.place.held ≡ last_entries t.place.size (epoch (x ++ ended))) (sym is) here.0
 
-module _ (Kind : SiteEvent → Type 0) (valid : StaysValid) (events : List SiteEvent) (s : Site) (sent : List Message) (c : Files) (p : Place)
+module _ (Kind : SiteEvent → Type 0) (valid : StaysValid) (events : List SiteEvent) (s : Site) (sent : List Message)
+    (c : Files) (p : Place)
     (run : SiteRun no_site [] events s sent) (h : ComesBy Kind s c) (is : recovers c ≡ Ok p) where
   new_holds : SiteHolds h.new sent
-  new_holds = primary_holds valid (events ++ h.events) h.new sent (run_append events h.events no_site s h.new [] sent sent run (h.run sent))
+  new_holds = primary_holds valid (events ++ h.events) h.new sent
+      (run_append events h.events no_site s h.new [] sent sent run (h.run sent))
 
   pub image_shows : ShowsAt p (state_of h.new)
   image_shows =
@@ -46,7 +49,8 @@ module _ (Kind : SiteEvent → Type 0) (valid : StaysValid) (events : List SiteE
 
 -- ---- a run of a primary is one of a world
 
-pub as_world : (events : List SiteEvent) (w : World) (s : Site) (sent : List Message) → SiteRun w.site w.sent events s sent → ComesIn w events s sent
+pub as_world : (events : List SiteEvent) (w : World) (s : Site) (sent : List Message)
+    → SiteRun w.site w.sent events s sent → ComesIn w events s sent
 as_world [] w s sent run = record {
   events = [];
   new = w;
@@ -70,10 +74,12 @@ as_world (event ∷ events) w s sent run =
     }
 
 -- what comes of a primary sends nothing
-pub comes_in : (Kind : SiteEvent → Type 0) (w : World) (c : Files) (h : ComesBy Kind w.site c) → ComesIn w h.events h.new w.sent
+pub comes_in : (Kind : SiteEvent → Type 0) (w : World) (c : Files) (h : ComesBy Kind w.site c)
+    → ComesIn w h.events h.new w.sent
 comes_in Kind w c h = as_world h.events w h.new w.sent (h.run w.sent)
 
-acknowledged_own : (events : List Event) (before : List Stage) → all_acknowledged events before ≡ acknowledged_in (site_events events) before
+acknowledged_own : (events : List Event) (before : List Stage)
+    → all_acknowledged events before ≡ acknowledged_in (site_events events) before
 acknowledged_own [] before = refl
 acknowledged_own (AtPrimary event said ∷ events) before = acknowledged_own events (acknowledged_at event before)
 acknowledged_own (AtReplica which event said ∷ events) before = acknowledged_own events before
@@ -82,10 +88,12 @@ acknowledged_among : (events : List SiteEvent) (s : Site) (sent : List Message) 
     → IsAmong (acknowledged_in events []) s.history
 acknowledged_among events s sent run =
     let w = as_world events no_world s sent run in
-    let among : IsAmong (all_acknowledged w.events []) w.new.site.history = run_among w.events no_world w.new [] tt w.run in
+    let among : IsAmong (all_acknowledged w.events []) w.new.site.history =
+    run_among w.events no_world w.new [] tt w.run in
     let own : all_acknowledged w.events [] ≡ acknowledged_in events [] =
     acknowledged_own w.events [] ∙ ap (λ (x : List SiteEvent). acknowledged_in x []) w.own_are in
-    subst (λ (x : List Stage). IsAmong x s.history) own (subst (λ (x : Site). IsAmong (all_acknowledged w.events []) x.history) w.is among)
+    subst (λ (x : List Stage). IsAmong x s.history) own
+    (subst (λ (x : Site). IsAmong (all_acknowledged w.events []) x.history) w.is among)
 
 -- ---- what was acknowledged
 
@@ -105,44 +113,58 @@ stop_keeps (Polls client access asked) before h = absurd h
 stop_keeps (Dumps client access) before h = absurd h
 stop_keeps EndsDump before h = absurd h
 
-stops_keep : (events : List SiteEvent) (before : List Stage) → All IsStop events → acknowledged_in events before ≡ before
+stops_keep : (events : List SiteEvent) (before : List Stage) → All IsStop events
+    → acknowledged_in events before ≡ before
 stops_keep [] before h = refl
 stops_keep (event ∷ events) before h =
-    ap (acknowledged_in events) (stop_keeps event before (All-head IsStop event events h)) ∙ stops_keep events before (All-tail IsStop event events h)
+    ap (acknowledged_in events) (stop_keeps event before (All-head IsStop event events h))
+    ∙ stops_keep events before (All-tail IsStop event events h)
 
-pub image_acknowledged : (Kind : SiteEvent → Type 0) (events : List SiteEvent) (s : Site) (sent : List Message) (c : Files)
-    → SiteRun no_site [] events s sent → (h : ComesBy Kind s c) → IsAmong (acknowledged_in (events ++ h.events) []) h.new.history
+pub image_acknowledged : (Kind : SiteEvent → Type 0) (events : List SiteEvent) (s : Site)
+    (sent : List Message) (c : Files)
+    → SiteRun no_site [] events s sent → (h : ComesBy Kind s c)
+    → IsAmong (acknowledged_in (events ++ h.events) []) h.new.history
 image_acknowledged Kind events s sent c run h =
-    acknowledged_among (events ++ h.events) h.new sent (run_append events h.events no_site s h.new [] sent sent run (h.run sent))
+    acknowledged_among (events ++ h.events) h.new sent
+    (run_append events h.events no_site s h.new [] sent sent run (h.run sent))
 
-pub image_kept : (events : List SiteEvent) (s : Site) (sent : List Message) (c : Files) → SiteRun no_site [] events s sent → (h : StopsTo s c)
+pub image_kept : (events : List SiteEvent) (s : Site) (sent : List Message) (c : Files)
+    → SiteRun no_site [] events s sent → (h : StopsTo s c)
     → IsAmong (acknowledged_in events []) h.new.history
 image_kept events s sent c run h =
-    subst (λ (x : List Stage). IsAmong x h.new.history) (acknowledged_append events h.events [] ∙ stops_keep h.events (acknowledged_in events []) h.each)
+    subst (λ (x : List Stage). IsAmong x h.new.history)
+    (acknowledged_append events h.events [] ∙ stops_keep h.events (acknowledged_in events []) h.each)
     (image_acknowledged IsStop events s sent c run h)
 
 -- ---- the primary of a world
 
-module _ (histories : (events : List Event) (w : World) → Run no_world events w → SiteRun no_site [] (site_events events) w.site (sent_by_primary events []))
+module _ (histories : (events : List Event) (w : World) → Run no_world events w
+    → SiteRun no_site [] (site_events events) w.site (sent_by_primary events []))
     (Kind : SiteEvent → Type 0) where
-  pub world_shows : (valid : StaysValid) (events : List Event) (w : World) (c : Files) (p : Place) → Run no_world events w → (h : ComesBy Kind w.site c)
+  pub world_shows : (valid : StaysValid) (events : List Event) (w : World) (c : Files) (p : Place)
+      → Run no_world events w → (h : ComesBy Kind w.site c)
       → recovers c ≡ Ok p → ShowsAt p (state_of h.new)
   world_shows valid events w c p run =
       image_shows Kind valid (site_events events) w.site (sent_by_primary events []) c p (histories events w run)
 
-  pub world_full : (valid : StaysValid) (events : List Event) (w : World) (c : Files) (p : Place) → Run no_world events w → (h : ComesBy Kind w.site c)
+  pub world_full : (valid : StaysValid) (events : List Event) (w : World) (c : Files) (p : Place)
+      → Run no_world events w → (h : ComesBy Kind w.site c)
       → recovers c ≡ Ok p → p.held ≡ last_entries p.size (epoch (story_of h.new))
-  world_full valid events w c p run = image_full Kind valid (site_events events) w.site (sent_by_primary events []) c p (histories events w run)
+  world_full valid events w c p run =
+      image_full Kind valid (site_events events) w.site (sent_by_primary events []) c p (histories events w run)
 
-  pub world_acknowledged : (events : List Event) (w : World) (c : Files) → Run no_world events w → (h : ComesBy Kind w.site c)
+  pub world_acknowledged : (events : List Event) (w : World) (c : Files) → Run no_world events w
+      → (h : ComesBy Kind w.site c)
       → IsAmong (acknowledged_in h.events (all_acknowledged events [])) h.new.history
   world_acknowledged events w c run h =
       subst (λ (x : List Stage). IsAmong x h.new.history)
-      (acknowledged_append (site_events events) h.events [] ∙ ap (acknowledged_in h.events) (sym (acknowledged_own events [])))
+      (acknowledged_append (site_events events) h.events []
+      ∙ ap (acknowledged_in h.events) (sym (acknowledged_own events [])))
       (image_acknowledged Kind (site_events events) w.site (sent_by_primary events []) c (histories events w run) h)
 
   -- by stops alone
-  pub world_kept : (stops : (event : SiteEvent) → Kind event → IsStop event) (events : List Event) (w : World) (c : Files) → Run no_world events w
+  pub world_kept : (stops : (event : SiteEvent) → Kind event → IsStop event) (events : List Event) (w : World)
+      (c : Files) → Run no_world events w
       → (h : ComesBy Kind w.site c) → IsAmong (all_acknowledged events []) h.new.history
   world_kept stops events w c run h =
       subst (λ (x : List Stage). IsAmong x h.new.history)

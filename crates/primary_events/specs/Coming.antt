@@ -3,12 +3,14 @@ use Rattle.std.specs.Prelude.{◌≡◌, false, List, [], ◌∷◌}
 use Rattle.std.specs.List.{All}
 use Rattle.iprop_truths.specs.Truths.{Message}
 use Rattle.kdb_disk.specs.Files.{Files}
-use Rattle.kdb_histories.specs.Sites.{Site, SiteEvent, Creates, Calls, Stops, Crashes, Ends, Looks, Polls, Dumps, EndsDump, SiteRun}
+use Rattle.kdb_histories.specs.Sites.{Site, SiteEvent, Creates, Calls, Stops, Crashes}
+use Rattle.kdb_histories.specs.Sites.{Ends, Looks, Polls, Dumps, EndsDump, SiteRun}
 use Rattle.kdb_histories.specs.Stages.{Stage}
 use Rattle.kdb_worlds.specs.Lawful.{acknowledged_at}
 use Rattle.primary_events.specs.At.{StandsFor}
 
--- a crash, a stop inside a call, an end, and a creation that made its place and was stopped: nothing is acknowledged by them, and nothing sent
+-- a crash, a stop inside a call, an end, and a creation that made its place and was stopped: nothing is acknowledged by
+-- them, and nothing sent
 abbrev pub IsQuiet : SiteEvent → Type 0
 IsQuiet (Creates t up) = up ≡ false
 IsQuiet (Calls call answer made) = ⊥
@@ -32,7 +34,8 @@ IsStop (Polls client access asked) = ⊥
 IsStop (Dumps client access) = ⊥
 IsStop EndsDump = ⊥
 
--- Events of this kind lead to a site that is not open, for which the files stand. What was sent before them is all that was sent.
+-- Events of this kind lead to a site that is not open, for which the files stand. What was sent before them is all that
+-- was sent.
 pub record ComesBy (Kind : SiteEvent → Type 0) (s : Site) (c : Files) : Type 0 where
   pub events : List SiteEvent
   pub each : All Kind events

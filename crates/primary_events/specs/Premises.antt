@@ -22,8 +22,8 @@ pub record MayCreate (s : Site) (spec : SpecParts) (clock : Moment) (random : Li
   pub bytes : AreBytes random
   pub later : All (λ p. micros (point_of p).time < micros clock) (places s.ended)
 
--- The primary is not open, these are the files that it has, and what is read of them. The clock says a moment, and the log size and the
--- number of dump places are within their limits.
+-- The primary is not open, these are the files that it has, and what is read of them. The clock says a moment, and the
+-- log size and the number of dump places are within their limits.
 pub record MayOpenAt (s : Site) (files : Files) (f : Found) (size : Option ℕ) (room : ℕ) (clock : Moment) : Type 0 where
   pub closed : s.up ≡ false
   pub stands : StandsFor s files

@@ -5,7 +5,8 @@ use Rattle.kdb_histories.specs.Sites.{Site, SiteEvent}
 use Rattle.kdb_worlds.specs.Primaries.{site_events}
 use Rattle.kdb_worlds.specs.Worlds.{Event, Run, World}
 
--- Events lead to a world in which the primary is so, and all this was sent. At the primary these happen, and the replicas are as they were.
+-- Events lead to a world in which the primary is so, and all this was sent. At the primary these happen, and the
+-- replicas are as they were.
 pub record ComesIn (w : World) (own : List SiteEvent) (s : Site) (sent : List Message) : Type 0 where
   pub events : List Event
   pub new : World

@@ -20,8 +20,10 @@ use Rattle.row_keys.specs.Sound.{HasState, ShowsValid, judged}
 use Rattle.store_files.specs.Found.{recovers}
 use Rattle.store_files.specs.Recovery.{LeavesPart}
 
-module _ (p : Place) (rows : RowLists) (masters : List Master) (base : Point) (clock : Moment) (at : base ≡ reset_point clock p) (left : HasTimeLeft p) where
-  loads_as : (t : State) (q : Place) → ShowsValid (judged masters p.realm base.time.secs) rows base t → q ≡ replaced p.realm rows base p
+module _ (p : Place) (rows : RowLists) (masters : List Master) (base : Point) (clock : Moment)
+    (at : base ≡ reset_point clock p) (left : HasTimeLeft p) where
+  loads_as : (t : State) (q : Place) → ShowsValid (judged masters p.realm base.time.secs) rows base t
+      → q ≡ replaced p.realm rows base p
       → Loads p rows clock (stage q (Filled t) ∷ [])
   loads_as t q is at_place = record {
     left = left;
@@ -50,10 +52,12 @@ module _ (p : Place) (rows : RowLists) (masters : List Master) (base : Point) (c
   }
 
 -- what stands as before
-pub load_stays : (p : Place) (s : State) (rows : RowLists) (clock : Moment) (c : Files) → recovers c ≡ Ok p → MayLeave p s (Load rows clock) c
+pub load_stays : (p : Place) (s : State) (rows : RowLists) (clock : Moment) (c : Files) → recovers c ≡ Ok p
+    → MayLeave p s (Load rows clock) c
 load_stays p s rows clock c is = record { place = p; is = is; may = inl refl }
 
-pub filled_loads : (old new : Opened) (rows : RowLists) (masters : List Master) (base : Point) (clock : Moment) → base ≡ reset_point clock (place_of old)
+pub filled_loads : (old new : Opened) (rows : RowLists) (masters : List Master) (base : Point) (clock : Moment)
+    → base ≡ reset_point clock (place_of old)
     → HasTimeLeft (place_of old) → IsFilled old new rows masters base → HasLoaded old new rows clock
 filled_loads old new rows masters base clock at left f = record {
   state = f.state;
@@ -61,18 +65,23 @@ filled_loads old new rows masters base clock at left f = record {
   loads = loads_as (place_of old) rows masters base clock at left f.state (place_of new) f.is f.place;
 }
 
-pub load_does : (old new : Opened) (rows : RowLists) (clock : Moment) (s : State) (answer : Answer) → HasLoaded old new rows clock
+pub load_does : (old new : Opened) (rows : RowLists) (clock : Moment) (s : State) (answer : Answer)
+    → HasLoaded old new rows clock
     → Does (place_of old) s (Load rows clock) answer (place_of new)
-load_does old new rows clock s answer h = record { made = stage (place_of new) (Filled h.state) ∷ []; makes = h.loads; is = refl }
+load_does old new rows clock s answer h =
+    record { made = stage (place_of new) (Filled h.state) ∷ []; makes = h.loads; is = refl }
 
 -- ---- by what is answered
 
-pub if_loads : (A E : Type 0) (r : Result A E) (old new : Opened) (rows : RowLists) (masters : List Master) (base : Point) (clock : Moment)
-    → base ≡ reset_point clock (place_of old) → HasTimeLeft (place_of old) → OnOk r (IsFilled old new rows masters base) → OnOk r (HasLoaded old new rows clock)
+pub if_loads : (A E : Type 0) (r : Result A E) (old new : Opened) (rows : RowLists) (masters : List Master)
+    (base : Point) (clock : Moment)
+    → base ≡ reset_point clock (place_of old) → HasTimeLeft (place_of old) → OnOk r (IsFilled old new rows masters base)
+    → OnOk r (HasLoaded old new rows clock)
 if_loads A E (Ok a) old new rows masters base clock at left f = filled_loads old new rows masters base clock at left f
 if_loads A E (Err e) old new rows masters base clock at left f = tt
 
-pub if_does : (A E : Type 0) (r : Result A E) (old new : Opened) (rows : RowLists) (clock : Moment) (s : State) (answer : Answer) → OnOk r (HasLoaded old new rows clock)
+pub if_does : (A E : Type 0) (r : Result A E) (old new : Opened) (rows : RowLists) (clock : Moment) (s : State)
+    (answer : Answer) → OnOk r (HasLoaded old new rows clock)
     → OnOk r (Does (place_of old) s (Load rows clock) answer (place_of new))
 if_does A E (Ok a) old new rows clock s answer h = load_does old new rows clock s answer h
 if_does A E (Err e) old new rows clock s answer h = tt

@@ -1,5 +1,5 @@
--- Which dumps a primary takes in the place of all that it has, and why a dump is refused: the stash is looked at first, then the realm,
--- then the keys that the stash opens, and then each row.
+-- Which dumps a primary takes in the place of all that it has, and why a dump is refused: the stash is looked at first,
+-- then the realm, then the keys that the stash opens, and then each row.
 use Rattle.std.specs.Prelude.{ℕ, ◌≡◌, ◌≢◌, ◌⊎◌, List, [], Option}
 use Rattle.dump_text.specs.declared.dumps.Dump.{Dump}
 use Rattle.kdb_base.specs.declared.outcomes.Refusal.{Refusal}
@@ -57,24 +57,29 @@ IsUnsound j rows why = HasUnsound j rows why ⊎ EndsEarly j rows why
 
 -- ---- rows of the own realm
 
--- The stash opens these master keys, by the record of K/M among the rows, and the rows are sound under them at the seconds.
-pub record AreTaken (stash : Option (List ℕ)) (realm : List ℕ) (secs : ℕ) (rows : RowLists) (masters : List Master) : Type 0 where
+-- The stash opens these master keys, by the record of K/M among the rows, and the rows are sound under them at the
+-- seconds.
+pub record AreTaken (stash : Option (List ℕ)) (realm : List ℕ) (secs : ℕ) (rows : RowLists)
+    (masters : List Master) : Type 0 where
   pub opened : StashOpens stash (own_record realm rows) masters
   pub sound : AreSound (judged masters realm secs) rows
 
 -- the stash opens these master keys, and the rows are not sound under them
-pub record AreUntrue (stash : Option (List ℕ)) (realm : List ℕ) (secs : ℕ) (rows : RowLists) (why : Refusal) : Type 0 where
+pub record AreUntrue (stash : Option (List ℕ)) (realm : List ℕ) (secs : ℕ) (rows : RowLists)
+    (why : Refusal) : Type 0 where
   pub masters : List Master
   pub opened : StashOpens stash (own_record realm rows) masters
   pub unsound : IsUnsound (judged masters realm secs) rows why
 
 abbrev pub IsRowsCause : Option (List ℕ) → ℕ → List ℕ → ℕ → RowLists → Refusal → Type 0
-IsRowsCause stash file realm secs rows why = IsStashCause stash file (own_record realm rows) why ⊎ AreUntrue stash realm secs rows why
+IsRowsCause stash file realm secs rows why =
+    IsStashCause stash file (own_record realm rows) why ⊎ AreUntrue stash realm secs rows why
 
 -- ---- dumps
 
 -- A dump of this realm is taken, with these master keys.
-pub record IsTaken (stash : Option (List ℕ)) (realm : List ℕ) (secs : ℕ) (dump : Dump) (masters : List Master) : Type 0 where
+pub record IsTaken (stash : Option (List ℕ)) (realm : List ℕ) (secs : ℕ) (dump : Dump)
+    (masters : List Master) : Type 0 where
   pub same : dump.realm ≡ realm
   pub rows : AreTaken stash realm secs dump.rows masters
 
@@ -84,10 +89,12 @@ pub record IsForeign (stash : Option (List ℕ)) (file : ℕ) (realm : List ℕ)
   pub cause : IsForeignCause stash file why
 
 -- it is of this realm, and its rows are refused
-pub record IsUntaken (stash : Option (List ℕ)) (file : ℕ) (realm : List ℕ) (secs : ℕ) (dump : Dump) (why : Refusal) : Type 0 where
+pub record IsUntaken (stash : Option (List ℕ)) (file : ℕ) (realm : List ℕ) (secs : ℕ) (dump : Dump)
+    (why : Refusal) : Type 0 where
   pub same : dump.realm ≡ realm
   pub cause : IsRowsCause stash file realm secs dump.rows why
 
 -- why a dump is refused
 abbrev pub IsDumpCause : Option (List ℕ) → ℕ → List ℕ → ℕ → Dump → Refusal → Type 0
-IsDumpCause stash file realm secs dump why = IsForeign stash file realm dump why ⊎ IsUntaken stash file realm secs dump why
+IsDumpCause stash file realm secs dump why =
+    IsForeign stash file realm dump why ⊎ IsUntaken stash file realm secs dump why

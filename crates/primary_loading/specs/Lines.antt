@@ -9,7 +9,8 @@ use Rattle.princ_rows.specs.Rows.{RowLists}
 -- the title, the realm, the point, the principals, the policies and the end
 unfoldable pub dump_lines : Version → List ℕ → Point → RowLists → List (List ℕ)
 dump_lines version realm point rows =
-    title version ∷ realm_line realm ∷ point_line point ∷ (map princ_line rows.princs ++ (map policy_line rows.policies ++ end_line (row_count rows) ∷ []))
+    title version ∷ realm_line realm ∷ point_line point
+    ∷ (map princ_line rows.princs ++ (map policy_line rows.policies ++ end_line (row_count rows) ∷ []))
 
 -- ---- the lines that a refusal names
 

@@ -41,7 +41,8 @@ pub record IsClosed (o : Opened) (why : Refusal) : Type 0 where
 
 pub record IsDumpRefused (o : Opened) (clock : Moment) (dump : Dump) (why : Refusal) : Type 0 where
   pub whole : o.kept.broken ≡ false
-  pub cause : IsDumpCause (place_of o).stash o.kept.control.stash o.kept.realm (load_time clock (place_of o)).secs dump why
+  pub cause : IsDumpCause (place_of o).stash o.kept.control.stash o.kept.realm
+      (load_time clock (place_of o)).secs dump why
 
 -- the dump may be taken, and no later time is left
 pub record EndsTime (o : Opened) (clock : Moment) (dump : Dump) (why : Refusal) : Type 0 where
@@ -56,7 +57,8 @@ LoadRefused o clock dump why = IsClosed o why ⊎ (IsDumpRefused o clock dump wh
 
 -- ---- what it leaves
 
--- The rows and the master keys are these, and what the rows show at the base with the master keys is the primary's state. Some state is.
+-- The rows and the master keys are these, and what the rows show at the base with the master keys is the primary's
+-- state. Some state is.
 pub record IsFilled (old new : Opened) (rows : RowLists) (masters : List Master) (base : Point) : Type 0 where
   pub place : place_of new ≡ replaced (place_of old).realm rows base (place_of old)
   pub masters_are : new.masters ≡ masters
@@ -64,7 +66,8 @@ pub record IsFilled (old new : Opened) (rows : RowLists) (masters : List Master)
   pub is : ShowsValid (judged masters old.kept.realm base.time.secs) rows base state
   pub has : HasState new state
 
--- A state that the dump's rows show, with the master keys that were found, is the primary's, and the load makes its place.
+-- A state that the dump's rows show, with the master keys that were found, is the primary's, and the load makes its
+-- place.
 pub record HasLoaded (old new : Opened) (rows : RowLists) (clock : Moment) : Type 0 where
   pub state : State
   pub has : HasState new state

@@ -6,7 +6,8 @@ ghost use Rattle.kdb_base.specs.declared.outcomes.Refusal.{Refusal as Refuses};
 ghost use Rattle.kdb_base.specs.declared.outcomes.Halt.TheVariants.{MemoryOut as IsMemoryOut};
 ghost use Rattle.kdb_base.specs.declared.outcomes.Stop.TheVariants as stops;
 ghost use Rattle.kdb_base.specs.declared.versions.Master.{Master};
-ghost use Rattle.primary_loading.specs.Judging.{AreTaken, HasKey, IsDumpCause, IsForeignCause, IsNoStash, IsRowsCause, IsTaken, IsUnsound};
+ghost use Rattle.primary_loading.specs.Judging.{AreTaken, HasKey, IsDumpCause, IsForeignCause};
+ghost use Rattle.primary_loading.specs.Judging.{IsNoStash, IsRowsCause, IsTaken, IsUnsound};
 ghost use Rattle.primary_loading.specs.Lines.{end_place, princ_place};
 ghost use Rattle.row_keys.specs.Sound.{AreSound, judged};
 ghost use Rattle.stash_opening.specs.Answers.{Gives, Refuses as RefusesFor};
@@ -27,7 +28,8 @@ const FIRST_ROW: usize = 4;
 // Looks for a key in the stash that stands in this file.
 fn find_key(alloc: Global, stash: Option<&[u8]>, file: u8) -> Result<(), Stop>
     ensures some { OnOk result (HasKey (option_map (λ s. s.now) stash.entry)) }
-    ensures refused { (why : Refuses) → result ≡ Err (stops.Refused why) → IsNoStash (option_map (λ s. s.now) stash.entry) file why }
+    ensures refused { (why : Refuses) → result ≡ Err (stops.Refused why)
+        → IsNoStash (option_map (λ s. s.now) stash.entry) file why }
     ensures halted { (halt : Halting) → result ≡ Err (stops.Halt halt) → halt ≡ IsMemoryOut }
 {
     let Some(text) = stash else {
@@ -48,8 +50,10 @@ fn find_key(alloc: Global, stash: Option<&[u8]>, file: u8) -> Result<(), Stop>
 // Why a dump of another realm is refused.
 fn refuse_foreign(alloc: Global, stash: Option<&[u8]>, file: u8) -> Result<Masters, Stop>
     ensures never { IfOk result (λ masters. ⊥) }
-    ensures refused { (why : Refuses) → result ≡ Err (stops.Refused why) → IsForeignCause (option_map (λ s. s.now) stash.entry) file why }
-    ensures only_refused { (why : Refuses) → IsForeignCause (option_map (λ s. s.now) stash.entry) file why → RefusesFor result why }
+    ensures refused { (why : Refuses) → result ≡ Err (stops.Refused why)
+        → IsForeignCause (option_map (λ s. s.now) stash.entry) file why }
+    ensures only_refused { (why : Refuses) → IsForeignCause (option_map (λ s. s.now) stash.entry) file why
+        → RefusesFor result why }
     ensures halted { (halt : Halting) → result ≡ Err (stops.Halt halt) → halt ≡ IsMemoryOut }
 {
     match find_key(alloc, stash, file) {
@@ -83,7 +87,8 @@ fn check_lines(
     secs: u32,
 ) -> Result<(), Stop>
     ensures sound { OnOk result (AreSound (judged masters.now realm.now secs) rows.now) }
-    ensures refused { (why : Refuses) → result ≡ Err (stops.Refused why) → IsUnsound (judged masters.now realm.now secs) rows.now why }
+    ensures refused { (why : Refuses) → result ≡ Err (stops.Refused why)
+        → IsUnsound (judged masters.now realm.now secs) rows.now why }
     ensures halted { (halt : Halting) → result ≡ Err (stops.Halt halt) → halt ≡ IsMemoryOut }
 {
     match check_rows(alloc, rows, masters, realm, secs) {
@@ -110,9 +115,12 @@ fn judge_rows(
     secs: u32,
 ) -> Result<Masters, Stop>
     ensures taken { IfOk result (AreTaken (option_map (λ s. s.now) stash.entry) realm.now secs rows.now) }
-    ensures complete { (masters : List Master) → AreTaken (option_map (λ s. s.now) stash.entry) realm.now secs rows.now masters → Gives result masters }
-    ensures refused { (why : Refuses) → result ≡ Err (stops.Refused why) → IsRowsCause (option_map (λ s. s.now) stash.entry) file realm.now secs rows.now why }
-    ensures only_refused { (why : Refuses) → IsRowsCause (option_map (λ s. s.now) stash.entry) file realm.now secs rows.now why → RefusesFor result why }
+    ensures complete { (masters : List Master)
+        → AreTaken (option_map (λ s. s.now) stash.entry) realm.now secs rows.now masters → Gives result masters }
+    ensures refused { (why : Refuses) → result ≡ Err (stops.Refused why)
+        → IsRowsCause (option_map (λ s. s.now) stash.entry) file realm.now secs rows.now why }
+    ensures only_refused { (why : Refuses)
+        → IsRowsCause (option_map (λ s. s.now) stash.entry) file realm.now secs rows.now why → RefusesFor result why }
     ensures halted { (halt : Halting) → result ≡ Err (stops.Halt halt) → halt ≡ IsMemoryOut }
 {
     let masters = match stash_masters(alloc, rows, realm, stash, file) {
@@ -131,9 +139,9 @@ fn judge_rows(
 /// # Errors
 ///
 /// `Damaged` and `StashMissing` of the stash; `DumpBad` with the line of the realm where that is another one;
-/// `UnknownMaster` and `StashWrong` of the stash and K/M; `DumpBad` with the line of the first record that is not sound,
-/// or with that of the end where K/M or kadmin/history is missing; and `MemoryOut` where memory is wanted and not given.
-/// They come in this order.
+/// `UnknownMaster` and `StashWrong` of the stash and K/M; `DumpBad` with the line of the first record that is not
+/// sound, or with that of the end where K/M or kadmin/history is missing; and `MemoryOut` where memory is wanted and
+/// not given. They come in this order.
 pub fn judge_dump(
     alloc: Global,
     dump: &Dump,
@@ -144,10 +152,13 @@ pub fn judge_dump(
 ) -> Result<Masters, Stop>
     ensures taken { IfOk result (IsTaken (option_map (λ s. s.now) stash.entry) realm.now secs dump.now) }
     // A dump that may be taken is taken, unless memory runs out.
-    ensures complete { (masters : List Master) → IsTaken (option_map (λ s. s.now) stash.entry) realm.now secs dump.now masters → Gives result masters }
-    ensures refused { (why : Refuses) → result ≡ Err (stops.Refused why) → IsDumpCause (option_map (λ s. s.now) stash.entry) file realm.now secs dump.now why }
+    ensures complete { (masters : List Master)
+        → IsTaken (option_map (λ s. s.now) stash.entry) realm.now secs dump.now masters → Gives result masters }
+    ensures refused { (why : Refuses) → result ≡ Err (stops.Refused why)
+        → IsDumpCause (option_map (λ s. s.now) stash.entry) file realm.now secs dump.now why }
     // Where there is a cause it is told, unless memory runs out.
-    ensures only_refused { (why : Refuses) → IsDumpCause (option_map (λ s. s.now) stash.entry) file realm.now secs dump.now why → RefusesFor result why }
+    ensures only_refused { (why : Refuses)
+        → IsDumpCause (option_map (λ s. s.now) stash.entry) file realm.now secs dump.now why → RefusesFor result why }
     ensures halted { (halt : Halting) → result ≡ Err (stops.Halt halt) → halt ≡ IsMemoryOut }
 {
     if dump.realm.as_slice() != realm {

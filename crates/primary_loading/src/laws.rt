@@ -11,8 +11,13 @@ ghost use Rattle.princ_rows.specs.Rows.{RowLists};
 
 /// The text of a dump is these lines, each with its line feed, and each line that a refusal names is what it is called.
 pub fn lines_have_their_numbers()
-    ensures text { (version : Version) (realm : List ℕ) (point : Point) (rows : RowLists) → dump_text version realm point rows ≡ flat_map ended (dump_lines version realm point rows) }
-    ensures realm { (version : Version) (realm : List ℕ) (point : Point) (rows : RowLists) (d : List ℕ) (at : ℕ) → at + 1 ≡ realm_place → get_or (dump_lines version realm point rows) at d ≡ realm_line realm }
-    ensures princ { (version : Version) (realm : List ℕ) (point : Point) (rows : RowLists) (d : List ℕ) (e : Princ) (at place : ℕ) → place < length rows.princs → at + 1 ≡ princ_place place → get_or (dump_lines version realm point rows) at d ≡ princ_line (get_or rows.princs place e) }
-    ensures last { (version : Version) (realm : List ℕ) (point : Point) (rows : RowLists) (d : List ℕ) (at : ℕ) → at + 1 ≡ end_place rows → get_or (dump_lines version realm point rows) at d ≡ end_line (row_count rows) }
+    ensures text { (version : Version) (realm : List ℕ) (point : Point) (rows : RowLists)
+        → dump_text version realm point rows ≡ flat_map ended (dump_lines version realm point rows) }
+    ensures realm { (version : Version) (realm : List ℕ) (point : Point) (rows : RowLists) (d : List ℕ) (at : ℕ)
+        → at + 1 ≡ realm_place → get_or (dump_lines version realm point rows) at d ≡ realm_line realm }
+    ensures princ { (version : Version) (realm : List ℕ) (point : Point) (rows : RowLists) (d : List ℕ)
+        (e : Princ) (at place : ℕ) → place < length rows.princs → at + 1 ≡ princ_place place
+        → get_or (dump_lines version realm point rows) at d ≡ princ_line (get_or rows.princs place e) }
+    ensures last { (version : Version) (realm : List ℕ) (point : Point) (rows : RowLists) (d : List ℕ) (at : ℕ)
+        → at + 1 ≡ end_place rows → get_or (dump_lines version realm point rows) at d ≡ end_line (row_count rows) }
 {}

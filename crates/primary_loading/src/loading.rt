@@ -51,7 +51,8 @@ fn judge_load(
     requires whole { primary.now.kept.broken ≡ false }
     ensures may { IfOk result (λ both. MayLoad primary.now now dump.now both.0) }
     ensures base { IfOk result (λ both. both.1 ≡ reset_point now (place_of primary.now)) }
-    ensures complete { (masters : List Master) → MayLoad primary.now now dump.now masters → MatchResult result (λ both. both.0 ≡ masters) (λ stop. stop ≡ stops.Halt IsMemoryOut) }
+    ensures complete { (masters : List Master) → MayLoad primary.now now dump.now masters
+        → MatchResult result (λ both. both.0 ≡ masters) (λ stop. stop ≡ stops.Halt IsMemoryOut) }
     ensures refused { (why : Refuses) → result ≡ Err (stops.Refused why) → LoadRefused primary.now now dump.now why }
     ensures only_refused { (why : Refuses) → LoadRefused primary.now now dump.now why → RefusesFor result why }
     ensures halted { (halt : Halting) → result ≡ Err (stops.Halt halt) → halt ≡ IsMemoryOut }
@@ -106,7 +107,8 @@ fn put_rows<D: Disk>(
     ensures err_masters { OnErr result (primary.new.masters ≡ primary.old.masters) }
     ensures dumps { (primary.new.dumps ≡ primary.old.dumps) × (primary.new.room ≡ primary.old.room) }
     ensures on { D.tells → OnOk result (IsOnDisk primary.new.kept (D.view disk.new)) }
-    ensures crash { IsCrashSafe D.Disk disk.old disk.new (LeavesPart (place_of primary.old) (replaced (place_of primary.old).realm rows base (place_of primary.old) ∷ [])) }
+    ensures crash { IsCrashSafe D.Disk disk.old disk.new (LeavesPart (place_of primary.old)
+        (replaced (place_of primary.old).realm rows base (place_of primary.old) ∷ [])) }
     ensures memory { result ≡ Err (stops.Halt IsMemoryOut) → disk.new ≡ disk.old }
     ensures still { D.tells → result ≡ Err (stops.Halt IsMemoryOut) → IsOnDisk primary.new.kept (D.view disk.new) }
     ensures whole { OnOk result (primary.new.kept.broken ≡ false) }
@@ -121,18 +123,19 @@ fn put_rows<D: Disk>(
     }
 }
 
-/// Loads a dump: its rows are put in the place of all rows, and the log begins anew, at the clock's time or a microsecond
-/// behind the last change. The dump is to be of the database's realm, the stash is to open the master keys among its
-/// rows, and these are to be sound at that time. The dump's own point is not used. The stash, the size of the log and the
-/// length of its blocks stay, and so do the dumps that are under way. It gives the point of the log's base marker.
+/// Loads a dump: its rows are put in the place of all rows, and the log begins anew, at the clock's time or a
+/// microsecond behind the last change. The dump is to be of the database's realm, the stash is to open the master keys
+/// among its rows, and these are to be sound at that time. The dump's own point is not used. The stash, the size of the
+/// log and the length of its blocks stay, and so do the dumps that are under way. It gives the point of the log's base
+/// marker.
 ///
 /// # Errors
 ///
-/// In this order: `Closed` after a fault of the disk; `Damaged` and `StashMissing` of the stash; `DumpBad` with the line of
-/// another realm; `UnknownMaster` and `StashWrong` of the stash and the dump's K/M; `DumpBad` with the line of the first
-/// record that is not sound, or with that of the end where K/M or kadmin/history is missing; `TimeEnd` where no later time
-/// is left. `Halt` where memory is wanted and not given, and then nothing is changed, or the disk failed, after which the
-/// primary is closed.
+/// In this order: `Closed` after a fault of the disk; `Damaged` and `StashMissing` of the stash; `DumpBad` with the
+/// line of another realm; `UnknownMaster` and `StashWrong` of the stash and the dump's K/M; `DumpBad` with the line of
+/// the first record that is not sound, or with that of the end where K/M or kadmin/history is missing; `TimeEnd` where
+/// no later time is left. `Halt` where memory is wanted and not given, and then nothing is changed, or the disk failed,
+/// after which the primary is closed.
 pub fn load<D: Disk>(
     alloc: Global,
     primary: &mut Primary,
@@ -142,19 +145,24 @@ pub fn load<D: Disk>(
 ) -> Result<Point, Stop>
     requires on { D.tells → primary.old.kept.broken ≡ false → IsOnDisk primary.old.kept (D.view disk.old) }
     // A history leaves the answer to it free: it is the point.
-    ensures does { (s : State) (answer : Answers) → OnOk result (Does (place_of primary.old) s (Load dump.rows now) answer (place_of primary.new)) }
+    ensures does { (s : State) (answer : Answers)
+        → OnOk result (Does (place_of primary.old) s (Load dump.rows now) answer (place_of primary.new)) }
     ensures point { IfOk result (λ point. point ≡ reset_point now (place_of primary.old)) }
     ensures loaded { OnOk result (HasLoaded primary.old primary.new dump.rows now) }
     // The master keys are those that the stash opens.
     ensures taken { OnOk result (MayLoad primary.old now dump primary.new.masters) }
     // A dump that may be loaded is loaded, unless memory runs out or the disk fails.
-    ensures complete { (masters : List Master) → MayLoad primary.old now dump masters → LoadsWith result primary.new.masters masters }
+    ensures complete { (masters : List Master) → MayLoad primary.old now dump masters
+        → LoadsWith result primary.new.masters masters }
     ensures refused { (why : Refuses) → result ≡ Err (stops.Refused why) → LoadRefused primary.old now dump why }
     // Where there is a cause it is told, unless memory runs out.
     ensures only_refused { (why : Refuses) → LoadRefused primary.old now dump why → RefusesFor result why }
-    ensures refused_keeps { (why : Refuses) → result ≡ Err (stops.Refused why) → (primary.new ≡ primary.old) × (disk.new ≡ disk.old) }
-    ensures crash { (s : State) → primary.old.kept.broken ≡ false → IsCrashSafe D.Disk disk.old disk.new (MayLeave (place_of primary.old) s (Load dump.rows now)) }
-    ensures reach { (s : State) → OnErr result (MayReach (place_of primary.old) s (Load dump.rows now) (place_of primary.new)) }
+    ensures refused_keeps { (why : Refuses) → result ≡ Err (stops.Refused why)
+        → (primary.new ≡ primary.old) × (disk.new ≡ disk.old) }
+    ensures crash { (s : State) → primary.old.kept.broken ≡ false
+        → IsCrashSafe D.Disk disk.old disk.new (MayLeave (place_of primary.old) s (Load dump.rows now)) }
+    ensures reach { (s : State)
+        → OnErr result (MayReach (place_of primary.old) s (Load dump.rows now) (place_of primary.new)) }
     ensures err { OnErr result (place_of primary.new ≡ place_of primary.old) }
     ensures err_masters { OnErr result (primary.new.masters ≡ primary.old.masters) }
     ensures dumps { (primary.new.dumps ≡ primary.old.dumps) × (primary.new.room ≡ primary.old.room) }

@@ -1,5 +1,7 @@
--- One principal under another version of the master key: its row, the state with it, and what an ask comes to that stores it.
-use Rattle.std.proofs.Common.{◌≡◌, ◌≢◌, ◌<◌, ◌≤◌, ◌+◌, ℕ, Bool, true, false, ◌&&◌, List, length, Option, Some, None, refl, sym, ap, subst, ◌∙◌, arith}
+-- One principal under another version of the master key: its row, the state with it, and what an ask comes to that
+-- stores it.
+use Rattle.std.proofs.Common.{◌≡◌, ◌≢◌, ◌<◌, ◌≤◌, ◌+◌, ℕ, Bool, true, false, ◌&&◌, List}
+use Rattle.std.proofs.Common.{length, Option, Some, None, refl, sym, ap, subst, ◌∙◌, arith}
 use Rattle.std.specs.Prelude.{find, is_some, nat_lt, if◌then◌else◌, option_and_then}
 use Rattle.command_plans.proofs.Rooms.{may_replace}
 use Rattle.kdb_base.specs.Key.{Key}
@@ -19,13 +21,15 @@ use Rattle.kdb_model.specs.Calls.{is_last, next_moment, point_after}
 use Rattle.kdb_model.specs.Laws.{IsMoment, IsPoint, at_point}
 use Rattle.kdb_model.specs.Refusals.{etype_of, len_by, len_in, len_under}
 use Rattle.kdb_model.specs.Rekeying as model
-use Rattle.kdb_model.specs.Rekeying.{Rekeyed, Updated, Already, Gone, Refused, active_at, rekey, rekey_to, under_version}
+use Rattle.kdb_model.specs.Rekeying.{Rekeyed, Updated, Already, Gone, Refused}
+use Rattle.kdb_model.specs.Rekeying.{active_at, rekey, rekey_to, under_version}
 use Rattle.kdb_places.specs.Applying.{may_apply}
 use Rattle.kdb_places.specs.Places.{Place, next_point, point_of}
 use Rattle.kdb_plain.proofs.Valid.{put_valid}
 use Rattle.kdb_plain.specs.Changes.{MayBePut, effect_on, name_of, put_princ}
 use Rattle.kdb_plain.specs.Lengths.{in_64_bits, row_len}
-use Rattle.kdb_plain.specs.States.{HasItsPolicy, IsValid, NeverRise, first_key, history_key, history_name, is_named, master_of, princ_named}
+use Rattle.kdb_plain.specs.States.{HasItsPolicy, IsValid, NeverRise, first_key, history_key}
+use Rattle.kdb_plain.specs.States.{history_name, is_named, master_of, princ_named}
 use Rattle.kdb_plain.specs.declared.changes.PlainOp.TheVariants as plain
 use Rattle.kdb_plain.specs.declared.princs.PlainPrinc.{PlainPrinc}
 use Rattle.kdb_plain.specs.declared.states.State.{State}
@@ -66,7 +70,8 @@ outcome_by s made (Refused why) = kept s (NotMoved why)
 -- the laws by which a record has its length
 pub record RowLaws : Type 0 where
   pub valid : StaysValid
-  pub row : (master history : Key) (p : Princ) (q : PlainPrinc) → ShowsUnder master history p q → p.chain ≡ None → length (princ p) ≡ row_len master.etype history.etype q
+  pub row : (master history : Key) (p : Princ) (q : PlainPrinc) → ShowsUnder master history p q → p.chain ≡ None
+      → length (princ p) ≡ row_len master.etype history.etype q
 
 pub no_some : {A : Type 0} (x : Option A) (b : Bool) → is_some x ≡ b → b ≡ false → x ≡ None
 no_some None b e none = refl
@@ -82,7 +87,8 @@ lower a b lt = grind arith
 not_lower : (a b : ℕ) → b ≤ a → nat_lt a b ≡ false
 not_lower a b le = grind arith
 
-module _ (laws : RowLaws) (o : Opened) (s : State) (has : HasState o s) (name : List ℕ) (clock : Moment) (made : Princ) (moment : IsMoment clock)
+module _ (laws : RowLaws) (o : Opened) (s : State) (has : HasState o s) (name : List ℕ) (clock : Moment) (made : Princ)
+    (moment : IsMoment clock)
     (m : IsMoving o s name clock made) (f : IsInPlace o name made) where
   abbrev p : Place
   p = place_of o
@@ -133,7 +139,8 @@ module _ (laws : RowLaws) (o : Opened) (s : State) (has : HasState o s) (name : 
   first_history : m.plain.name ≡ history_name s.realm → first_key m.plain.keys ≡ history_key s.realm s.princs
   unfolding history_key
   first_history e =
-      let there : princ_named (history_name s.realm) s.princs ≡ Some m.plain = ap (λ (n : List ℕ). princ_named n s.princs) (sym e ∙ plain_name) ∙ m.named in
+      let there : princ_named (history_name s.realm) s.princs ≡ Some m.plain =
+      ap (λ (n : List ℕ). princ_named n s.princs) (sym e ∙ plain_name) ∙ m.named in
       sym (ap (option_and_then (λ (q : PlainPrinc). first_key q.keys)) there)
 
   may_put : MayPut s moved_princ
@@ -142,7 +149,8 @@ module _ (laws : RowLaws) (o : Opened) (s : State) (has : HasState o s) (name : 
   one_key : m.plain.name ≡ history_name s.realm → length m.plain.keys ≡ 1
   one_key e =
       let h = has.shows.valid.history in
-      let there : princ_named (history_name s.realm) s.princs ≡ Some m.plain = ap (λ (n : List ℕ). princ_named n s.princs) (sym e ∙ plain_name) ∙ m.named in
+      let there : princ_named (history_name s.realm) s.princs ≡ Some m.plain =
+      ap (λ (n : List ℕ). princ_named n s.princs) (sym e ∙ plain_name) ∙ m.named in
       let same : ◌≡◌ {A = Option PlainPrinc} (Some h.entry) (Some m.plain) = sym h.there ∙ there in
       let at : h.entry ≡ m.plain = cc in
       ap (λ (q : PlainPrinc). length q.keys) (sym at) ∙ h.one
@@ -151,40 +159,58 @@ module _ (laws : RowLaws) (o : Opened) (s : State) (has : HasState o s) (name : 
   may_be_put = record {
     other_than_master = not_master;
     one_history_key = one_key;
-    falling = named_holds name_of (λ (q : PlainPrinc). NeverRise q.keys) name s.princs m.plain found_plain has.shows.valid.falling;
+    falling = named_holds name_of (λ (q : PlainPrinc). NeverRise q.keys) name s.princs m.plain found_plain
+        has.shows.valid.falling;
   }
 
   room : length (put_princ moved_princ s).princs + length s.policies ≤ most_rows
   room =
       let few = has.shows.valid.few in
-      let same : length (put_princ moved_princ s).princs ≡ length s.princs = put_same name_of s.princs moved_princ m.plain has.shows.valid.princ_order found_own in
+      let same : length (put_princ moved_princ s).princs ≡ length s.princs =
+      put_same name_of s.princs moved_princ m.plain has.shows.valid.princ_order found_own in
       omega (arith, few, same)
 
   put_at : (time : Moment) → IsValid time s → IsValid time (put_princ moved_princ s)
   put_at time v =
-      put_valid time s moved_princ v may_be_put (active_listed (point_of p).time s (later_moment s.point.time clock).secs m.version has.shows.valid m.active)
-      (named_holds name_of (HasItsPolicy s.policies) name s.princs m.plain found_plain has.shows.valid.policies_there) room
+      put_valid time s moved_princ v may_be_put
+      (active_listed (point_of p).time s (later_moment s.point.time clock).secs m.version has.shows.valid m.active)
+      (named_holds name_of (HasItsPolicy s.policies) name s.princs m.plain found_plain has.shows.valid.policies_there)
+      room
 
   since : (due : Bool) → is_due op p ≡ due → (point_of p).time.secs ≤ (entry_point clock op p).time.secs
   since false e =
       subst (λ (x : Point). (point_of p).time.secs ≤ x.time.secs)
-      (sym (ap (λ (b : Bool). if b then record { sno = 2; time = (reset_point clock p).time } else next_point (moment_at clock p) p) e))
+      (sym (ap (λ (b : Bool). if b then record {
+        sno = 2;
+        time = (reset_point clock p).time;
+      } else next_point (moment_at clock p) p) e))
       (secs_behind (point_of p).time clock moment.usecs)
   since true e =
       subst (λ (x : Point). (point_of p).time.secs ≤ x.time.secs)
-      (sym (ap (λ (b : Bool). if b then record { sno = 2; time = (reset_point clock p).time } else next_point (moment_at clock p) p) e))
+      (sym (ap (λ (b : Bool). if b then record {
+        sno = 2;
+        time = (reset_point clock p).time;
+      } else next_point (moment_at clock p) p) e))
       (reset_since clock p moment)
 
   point_is : (due : Bool) → is_due op p ≡ due → point_after s clock due ≡ entry_point clock op p
   unfolding point_after
   point_is false e =
       ap (λ (x : Point). record { sno = x.sno + 1; time = later_moment x.time clock }) has.shows.at
-      ∙ sym (ap (λ (b : Bool). if b then record { sno = 2; time = (reset_point clock p).time } else next_point (moment_at clock p) p) e)
+      ∙ sym (ap (λ (b : Bool). if b then record {
+        sno = 2;
+        time = (reset_point clock p).time;
+      } else next_point (moment_at clock p) p) e)
   point_is true e =
-      ap (λ (x : Point). let made_at : Point = record { sno = 2; time = later_moment clock (next_moment x.time) } in made_at) has.shows.at
-      ∙ sym (ap (λ (b : Bool). if b then record { sno = 2; time = (reset_point clock p).time } else next_point (moment_at clock p) p) e)
+      ap (λ (x : Point). let made_at : Point =
+      record { sno = 2; time = later_moment clock (next_moment x.time) } in made_at) has.shows.at
+      ∙ sym (ap (λ (b : Bool). if b then record {
+        sno = 2;
+        time = (reset_point clock p).time;
+      } else next_point (moment_at clock p) p) e)
 
-  put_shows : (point : Point) → point ≡ entry_point clock op p → (point_of p).time.secs ≤ (entry_point clock op p).time.secs
+  put_shows : (point : Point) → point ≡ entry_point clock op p
+      → (point_of p).time.secs ≤ (entry_point clock op p).time.secs
       → IsLeft p.realm (entry_point clock op p) op p.rows (at_point point (put_princ moved_princ s))
   unfolding effect_on
   put_shows point is later =
@@ -194,7 +220,8 @@ module _ (laws : RowLaws) (o : Opened) (s : State) (has : HasState o s) (name : 
         same = has.shows.realm;
         at = is;
         shows = shows_at (effect (Some op) p.rows) point (put_princ moved_princ s)
-            (change_shows_at p.rows s m.history op (plain.PutPrinc moved_princ) has.shows.shows m.history_is m.shows may_put);
+            (change_shows_at p.rows s m.history op (plain.PutPrinc moved_princ) has.shows.shows m.history_is
+            m.shows may_put);
         valid = laws.valid.point (put_princ moved_princ s) at point v;
       }
 
@@ -203,7 +230,8 @@ module _ (laws : RowLaws) (o : Opened) (s : State) (has : HasState o s) (name : 
 
   -- ---- what the model says
 
-  pub rekey_is : (who : NameParts) (due : Bool) → printed who ≡ name → rekey s who (at_clock clock due) ≡ model.moved s (at_clock clock due) moved_princ
+  pub rekey_is : (who : NameParts) (due : Bool) → printed who ≡ name
+      → rekey s who (at_clock clock due) ≡ model.moved s (at_clock clock due) moved_princ
   unfolding rekey rekey_to
   rekey_is who due is =
       ap (λ (n : List ℕ). model.rekey_found s (at_clock clock due) (princ_named n s.princs)) is
@@ -211,19 +239,24 @@ module _ (laws : RowLaws) (o : Opened) (s : State) (has : HasState o s) (name : 
       ∙ ap (λ (v : Option ℕ). rekey_to s (at_clock clock due) v m.plain) m.active
       ∙ ap (λ (b : Bool). if b then Already else model.moved s (at_clock clock due) moved_princ) m.other
 
-  large_is : (due : Bool) → longest_row < length (princ made) → model.moved s (at_clock clock due) moved_princ ≡ Refused (RecordTooLarge (in_64_bits (length (princ made))))
+  large_is : (due : Bool) → longest_row < length (princ made)
+      → model.moved s (at_clock clock due) moved_princ ≡ Refused (RecordTooLarge (in_64_bits (length (princ made))))
   unfolding model.moved
   large_is due lt =
-      ap (λ (n : ℕ). if nat_lt longest_row n then Refused (RecordTooLarge (in_64_bits n)) else if due && is_last s.point.time then Refused TimeEnd else Updated (after due)) row_is
-      ∙ ap (λ (b : Bool). if b then Refused (RecordTooLarge (in_64_bits (length (princ made)))) else if due && is_last s.point.time then Refused TimeEnd else Updated (after due))
+      ap (λ (n : ℕ). if nat_lt longest_row n then Refused (RecordTooLarge (in_64_bits n))
+      else if due && is_last s.point.time then Refused TimeEnd else Updated (after due)) row_is
+      ∙ ap (λ (b : Bool). if b then Refused (RecordTooLarge (in_64_bits (length (princ made))))
+      else if due && is_last s.point.time then Refused TimeEnd else Updated (after due))
       (lower longest_row (length (princ made)) lt)
 
   short_is : (due late : Bool) → (due && is_last s.point.time) ≡ late → length (princ made) ≤ longest_row
       → model.moved s (at_clock clock due) moved_princ ≡ (if late then Refused TimeEnd else Updated (after due))
   unfolding model.moved
   short_is due late e le =
-      ap (λ (n : ℕ). if nat_lt longest_row n then Refused (RecordTooLarge (in_64_bits n)) else if due && is_last s.point.time then Refused TimeEnd else Updated (after due)) row_is
-      ∙ ap (λ (b : Bool). if b then Refused (RecordTooLarge (in_64_bits (length (princ made)))) else if due && is_last s.point.time then Refused TimeEnd else Updated (after due))
+      ap (λ (n : ℕ). if nat_lt longest_row n then Refused (RecordTooLarge (in_64_bits n))
+      else if due && is_last s.point.time then Refused TimeEnd else Updated (after due)) row_is
+      ∙ ap (λ (b : Bool). if b then Refused (RecordTooLarge (in_64_bits (length (princ made))))
+      else if due && is_last s.point.time then Refused TimeEnd else Updated (after due))
       (not_lower longest_row (length (princ made)) le)
       ∙ ap (λ (b : Bool). if b then Refused TimeEnd else Updated (after due)) e
 
@@ -236,24 +269,31 @@ pub record IsReady (o : Opened) (clock : Moment) : Type 0 where
   pub point_is : IsPoint (point_of (place_of o))
   pub rows : AreRows o.kept.rows
 
-applies : (o : Opened) (clock : Moment) (name : List ℕ) (made : Princ) → IsReady o clock → IsInPlace o name made → may_apply (PutPrinc made) o.kept.rows ≡ true
+applies : (o : Opened) (clock : Moment) (name : List ℕ) (made : Princ) → IsReady o clock → IsInPlace o name made
+    → may_apply (PutPrinc made) o.kept.rows ≡ true
 applies o clock name made ready f =
-    may_replace made f.stored o.kept.rows ready.rows (subst (λ (n : List ℕ). record_named n o.kept.rows.princs ≡ Some f.stored) (sym f.name_is) f.there)
+    may_replace made f.stored o.kept.rows ready.rows
+    (subst (λ (n : List ℕ). record_named n o.kept.rows.princs ≡ Some f.stored) (sym f.name_is) f.there)
 
-has_time : (o : Opened) (clock : Moment) (op : Op) → IsReady o clock → ends_time op (place_of o) ≡ false → is_due op (place_of o) ≡ true → HasTimeLeft (place_of o)
+has_time : (o : Opened) (clock : Moment) (op : Op) → IsReady o clock → ends_time op (place_of o) ≡ false
+    → is_due op (place_of o) ≡ true → HasTimeLeft (place_of o)
 has_time o clock op ready e due =
-    time_left (point_of (place_of o)).time ready.point_is.time (not_second (is_due op (place_of o)) (is_last (point_of (place_of o)).time) e due)
+    time_left (point_of (place_of o)).time ready.point_is.time
+    (not_second (is_due op (place_of o)) (is_last (point_of (place_of o)).time) e due)
 
-pub may_store : (laws : RowLaws) (o : Opened) (clock : Moment) (name : List ℕ) (made : Princ) → IsReady o clock → IsInPlace o name made
+pub may_store : (laws : RowLaws) (o : Opened) (clock : Moment) (name : List ℕ) (made : Princ) → IsReady o clock
+    → IsInPlace o name made
     → ((s : State) → HasState o s → IsMoving o s name clock made) → MayStore o clock made
 may_store laws o clock name made ready f moves = record {
   spelled = f.spelled;
   may = λ short more. record {
-    applied = record { spelled = record { fits = f.spelled; short = short }; applies = applies o clock name made ready f };
+    applied =
+        record { spelled = record { fits = f.spelled; short = short }; applies = applies o clock name made ready f };
     left = has_time o clock (PutPrinc made) ready more;
     leads = λ s has. record {
       state = after laws o s has name clock made ready.clock_is (moves s has) f (is_due (PutPrinc made) (place_of o));
-      is = left_after laws o s has name clock made ready.clock_is (moves s has) f (is_due (PutPrinc made) (place_of o)) refl;
+      is = left_after laws o s has name clock made ready.clock_is (moves s has) f
+          (is_due (PutPrinc made) (place_of o)) refl;
       masters_are = has.masters_are;
     };
   };
@@ -261,10 +301,12 @@ may_store laws o clock name made ready f moves = record {
 
 -- ---- an ask that stores it
 
-module _ (laws : RowLaws) (o : Opened) (ask : Ask) (name : List ℕ) (made : Princ) (ready : IsReady o (clock_of ask)) (f : IsInPlace o name made)
+module _ (laws : RowLaws) (o : Opened) (ask : Ask) (name : List ℕ) (made : Princ) (ready : IsReady o (clock_of ask))
+    (f : IsInPlace o name made)
     (moves : (s : State) → HasState o s → IsMoving o s name (clock_of ask) made)
     (comes : (s : State) (has : HasState o s) (due : Bool) → outcome o.kept.rows ask due s
-    ≡ outcome_by s made (model.moved s (at_clock (clock_of ask) due) (under_version (moves s has).version (moves s has).plain)))
+    ≡ outcome_by s made
+    (model.moved s (at_clock (clock_of ask) due) (under_version (moves s has).version (moves s has).plain)))
     (puts : (s : State) → HasState o s → kept_op o.kept.rows s ask ≡ Some (PutPrinc made)) where
   abbrev here : Place
   here = place_of o
@@ -278,35 +320,51 @@ module _ (laws : RowLaws) (o : Opened) (ask : Ask) (name : List ℕ) (made : Pri
   due_is : (s : State) → HasState o s → due_of s ≡ is_due put here
   due_is s has = ap (λ (x : Option Op). is_due_of x here) (puts s has)
 
-  late_is : (s : State) (late : Bool) → HasState o s → ends_time put here ≡ late → (due_of s && is_last s.point.time) ≡ late
+  late_is : (s : State) (late : Bool) → HasState o s → ends_time put here ≡ late
+      → (due_of s && is_last s.point.time) ≡ late
   late_is s late has e =
-      ap (λ (b : Bool). b && is_last s.point.time) (due_is s has) ∙ ap (λ (x : Point). is_due put here && is_last x.time) has.shows.at ∙ e
+      ap (λ (b : Bool). b && is_last s.point.time) (due_is s has)
+      ∙ ap (λ (x : Point). is_due put here && is_last x.time) has.shows.at ∙ e
 
-  refused_as : (why : Refusal) → ((s : State) (has : HasState o s) → model.moved s (at_clock (clock_of ask) (due_of s)) (under_version (moves s has).version (moves s has).plain) ≡ Refused why)
+  refused_as : (why : Refusal)
+      → ((s : State) (has : HasState o s) → model.moved s (at_clock (clock_of ask) (due_of s))
+      (under_version (moves s has).version (moves s has).plain) ≡ Refused why)
       → IsAnswered o ask (NotMoved why) None
   refused_as why refuses = record {
-    performs = λ s has. ask_keeps here s ask (NotMoved why) (comes s has (due_of s) ∙ ap (outcome_by s made) (refuses s has));
-    masters = λ s has. ap (λ (x : Outcome). x.state.masters) (comes s has (due_of s) ∙ ap (outcome_by s made) (refuses s has)) ∙ has.masters_are;
+    performs =
+        λ s has. ask_keeps here s ask (NotMoved why) (comes s has (due_of s) ∙ ap (outcome_by s made) (refuses s has));
+    masters =
+        λ s has. ap (λ (x : Outcome). x.state.masters) (comes s has (due_of s) ∙ ap (outcome_by s made) (refuses s has))
+        ∙ has.masters_are;
   }
 
   stores : (s : State) (has : HasState o s) → length (princ made) ≤ longest_row → ends_time put here ≡ false
       → outcome o.kept.rows ask (due_of s) s
-      ≡ entered (after laws o s has name (clock_of ask) made ready.clock_is (moves s has) f (due_of s)) (Moved (settled.Updated made))
+      ≡ entered (after laws o s has name (clock_of ask) made ready.clock_is (moves s has) f (due_of s))
+      (Moved (settled.Updated made))
   stores s has short more =
       comes s has (due_of s)
-      ∙ ap (outcome_by s made) (short_is laws o s has name (clock_of ask) made ready.clock_is (moves s has) f (due_of s) false (late_is s false has more) short)
+      ∙ ap (outcome_by s made) (short_is laws o s has name (clock_of ask) made ready.clock_is (moves s has) f
+      (due_of s) false (late_is s false has more) short)
 
   pub is_stored : IsStored o ask made
   is_stored = record {
     large = λ lt. refused_as (RecordTooLarge (in_64_bits (length (princ made))))
         (λ s has. large_is laws o s has name (clock_of ask) made ready.clock_is (moves s has) f (due_of s) lt);
     late = λ short e. refused_as TimeEnd
-        (λ s has. short_is laws o s has name (clock_of ask) made ready.clock_is (moves s has) f (due_of s) true (late_is s true has e) short);
+        (λ s has. short_is laws o s has name (clock_of ask) made ready.clock_is (moves s has) f (due_of s) true
+        (late_is s true has e) short);
     stored = λ short more. record {
-      performs = λ s has. ask_puts here s ask (Moved (settled.Updated made)) put (after laws o s has name (clock_of ask) made ready.clock_is (moves s has) f (due_of s))
+      performs = λ s has. ask_puts here s ask (Moved (settled.Updated made)) put
+          (after laws o s has name (clock_of ask) made ready.clock_is (moves s has) f (due_of s))
           (stores s has short more) (puts s has)
-          (left_after laws o s has name (clock_of ask) made ready.clock_is (moves s has) f (due_of s) (sym (due_is s has)))
-          (record { newer = ready.opened.newer; fits = applies o (clock_of ask) name made ready f; left = has_time o (clock_of ask) put ready more });
+          (left_after laws o s has name (clock_of ask) made ready.clock_is (moves s has) f (due_of s)
+          (sym (due_is s has)))
+          (record {
+            newer = ready.opened.newer;
+            fits = applies o (clock_of ask) name made ready f;
+            left = has_time o (clock_of ask) put ready more;
+          });
       masters = λ s has. ap (λ (x : Outcome). x.state.masters) (stores s has short more) ∙ has.masters_are;
     };
   }

@@ -27,27 +27,36 @@ module _ (o : Opened) (ask : Ask) (answer : Answer) (s : State) (has : HasState 
   answers_state d = subst (HasState o) (sym (ap (λ (x : Seen). x.state) (kept_so o ask answer s d has))) has
 
   -- a change is made
-  module _ (clock : Moment) (op : Op) (at : clock_of ask ≡ clock) (d : IsAnswered o ask answer (Some (rows_changed op))) where
-    pub stores_does : (q : Place) → q ≡ end_of (place_of o) (change_places clock op (place_of o)) → Does (place_of o) s (Perform ask) answer q
+  module _ (clock : Moment) (op : Op) (at : clock_of ask ≡ clock)
+      (d : IsAnswered o ask answer (Some (rows_changed op))) where
+    pub stores_does : (q : Place) → q ≡ end_of (place_of o) (change_places clock op (place_of o))
+        → Does (place_of o) s (Perform ask) answer q
     stores_does q is =
-        ask_does o ask answer (Some (rows_changed op)) s (d.performs s has) q (is ∙ ap (λ (c : Moment). end_of (place_of o) (change_places c op (place_of o))) (sym at))
+        ask_does o ask answer (Some (rows_changed op)) s (d.performs s has) q
+        (is ∙ ap (λ (c : Moment). end_of (place_of o) (change_places c op (place_of o))) (sym at))
 
     pub stores_state : (new : Opened)
-        → ((t : State) → IsLeft (place_of o).realm (entry_point clock op (place_of o)) op (place_of o).rows t → t.masters ≡ o.masters → HasState new t)
+        → ((t : State) → IsLeft (place_of o).realm (entry_point clock op (place_of o)) op (place_of o).rows t
+        → t.masters ≡ o.masters → HasState new t)
         → HasState new (after_ask ask (seen (place_of o) s)).state
     stores_state new made =
         made (after_ask ask (seen (place_of o) s)).state
-        (subst (λ (c : Moment). IsLeft (place_of o).realm (entry_point c op (place_of o)) op (place_of o).rows (after_ask ask (seen (place_of o) s)).state) at
+        (subst (λ (c : Moment). IsLeft (place_of o).realm (entry_point c op (place_of o)) op (place_of o).rows
+        (after_ask ask (seen (place_of o) s)).state) at
         (left_so o ask answer s (rows_changed op) d has))
         (mastered_so o ask answer s (Some (rows_changed op)) d has)
 
-    pub stores_leaves : (c : Files) → LeavesPart (place_of o) (change_places clock op (place_of o)) c → MayLeave (place_of o) s (Perform ask) c
+    pub stores_leaves : (c : Files) → LeavesPart (place_of o) (change_places clock op (place_of o)) c
+        → MayLeave (place_of o) s (Perform ask) c
     stores_leaves c h =
-        ask_leaves o ask answer (Some (rows_changed op)) s (d.performs s has) c (subst (λ (m : Moment). LeavesPart (place_of o) (change_places m op (place_of o)) c) (sym at) h)
+        ask_leaves o ask answer (Some (rows_changed op)) s (d.performs s has) c
+        (subst (λ (m : Moment). LeavesPart (place_of o) (change_places m op (place_of o)) c) (sym at) h)
 
-    pub stores_reaches : (q : Place) → IsPart (place_of o) (change_places clock op (place_of o)) q → MayReach (place_of o) s (Perform ask) q
+    pub stores_reaches : (q : Place) → IsPart (place_of o) (change_places clock op (place_of o)) q
+        → MayReach (place_of o) s (Perform ask) q
     stores_reaches q part =
-        ask_reaches o ask answer (Some (rows_changed op)) s (d.performs s has) q (subst (λ (m : Moment). IsPart (place_of o) (change_places m op (place_of o)) q) (sym at) part)
+        ask_reaches o ask answer (Some (rows_changed op)) s (d.performs s has) q
+        (subst (λ (m : Moment). IsPart (place_of o) (change_places m op (place_of o)) q) (sym at) part)
 
 -- ---- by what is answered
 

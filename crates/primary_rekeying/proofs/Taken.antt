@@ -43,12 +43,15 @@ use Rattle.tagged_data.specs.Versions.{IsActivation}
 -- ---- the active version
 
 -- by K/M's record
-pub active_is : (o : Opened) (s : State) (clock : Moment) (entry : Option Princ) → HasState o s → entry ≡ record_named (master_name o.kept.realm) o.kept.rows.princs
+pub active_is : (o : Opened) (s : State) (clock : Moment) (entry : Option Princ) → HasState o s
+    → entry ≡ record_named (master_name o.kept.realm) o.kept.rows.princs
     → active_by entry (later_moment (point_of (place_of o)).time clock).secs ≡ active_at s (at_clock clock false)
 active_is o s clock entry has is =
     let shows = has.shows.shows in
     let secs = (later_moment (point_of (place_of o)).time clock).secs in
-    let there : entry ≡ Some shows.entry = is ∙ ap (λ (realm : List ℕ). record_named (master_name realm) o.kept.rows.princs) (sym has.shows.realm) ∙ shows.there in
+    let there : entry ≡ Some shows.entry =
+    is ∙ ap (λ (realm : List ℕ). record_named (master_name realm) o.kept.rows.princs) (sym has.shows.realm)
+    ∙ shows.there in
     ap (λ (x : Option Princ). active_by x secs) there
     ∙ ap (option_and_then (λ (part : ChainPart). active part.activations secs)) shows.chain.part_is
     ∙ ap (λ (list : List Activation). active list secs) shows.chain.activations_are
@@ -60,17 +63,21 @@ pub known_by : (entry : Princ) (secs version : ℕ) → IsPrinc entry → (chain
 known_by entry secs version fits None there is = absurd cc
 known_by entry secs version fits (Some part) there is =
     let chain : IsChain part = subst IsChainOr there fits.facts.chain in
-    active_holds IsVersion part.activations secs version (All-weaker IsActivation (λ (a : Activation). IsVersion a.version) (λ a f. f.version) part.activations chain.activations.each) is
+    active_holds IsVersion part.activations secs version (All-weaker IsActivation
+    (λ (a : Activation). IsVersion a.version) (λ a f. f.version) part.activations chain.activations.each) is
 
-pub known_if : (entry : Princ) (part : ChainPart) (secs : ℕ) (x : Option ℕ) → IsPrinc entry → entry.chain ≡ Some part → x ≡ active part.activations secs → IfSome x IsVersion
+pub known_if : (entry : Princ) (part : ChainPart) (secs : ℕ) (x : Option ℕ) → IsPrinc entry → entry.chain ≡ Some part
+    → x ≡ active part.activations secs → IfSome x IsVersion
 known_if entry part secs None fits there is = tt
 known_if entry part secs (Some version) fits there is = known_by entry secs version fits (Some part) there (sym is)
 
 -- a record that is found has a spelling
-pub entry_fits : (name : List ℕ) (a b r : RowLists) (p : Princ) → a ≡ r → b ≡ r → AreRows a → Some p ≡ record_named name b.princs → IsPrinc p
+pub entry_fits : (name : List ℕ) (a b r : RowLists) (p : Princ) → a ≡ r → b ≡ r → AreRows a
+    → Some p ≡ record_named name b.princs → IsPrinc p
 entry_fits name a b r p x y rows e = row_fits name b p (subst AreRows (x ∙ sym y) rows) (sym e)
 
-pub stored_fits : {R : Type 0} (x : Option R) (now : R → Princ) (name : List ℕ) (rows : RowLists) → AreRows rows → option_map now x ≡ record_named name rows.princs → IfSome x (λ p. IsPrinc (now p))
+pub stored_fits : {R : Type 0} (x : Option R) (now : R → Princ) (name : List ℕ) (rows : RowLists) → AreRows rows
+    → option_map now x ≡ record_named name rows.princs → IfSome x (λ p. IsPrinc (now p))
 stored_fits None now name rows fit e = tt
 stored_fits (Some p) now name rows fit e = row_fits name rows (now p) fit (sym e)
 
@@ -82,22 +89,30 @@ pub record CanTake (masters : List Master) (p : Princ) : Type 0 where
   pub few : length p.keys ≤ most_keys
   pub opened : IsOpenedBy masters p
 
-items_open : (master : Key) (items : List KeyItem) (keys : List PlainItem) → AllZip (ShowsItem master) items keys → All (HoldsOne master) items
+items_open : (master : Key) (items : List KeyItem) (keys : List PlainItem) → AllZip (ShowsItem master) items keys
+    → All (HoldsOne master) items
 items_open master [] [] h = All-nil (HoldsOne master)
 items_open master [] (k ∷ keys) h = absurd h
 items_open master (i ∷ items) [] h = absurd h
-items_open master (i ∷ items) (k ∷ keys) h = All-cons (HoldsOne master) i items (k.key, h.0.holds) (items_open master items keys h.1)
+items_open master (i ∷ items) (k ∷ keys) h =
+    All-cons (HoldsOne master) i items (k.key, h.0.holds) (items_open master items keys h.1)
 
-opened_by : (masters : List Master) (history : Key) (p : Princ) (stored : Option Princ) (plain : Option PlainPrinc) → stored ≡ Some p
+opened_by : (masters : List Master) (history : Key) (p : Princ) (stored : Option Princ) (plain : Option PlainPrinc)
+    → stored ≡ Some p
     → AreBoth (ShowsPrinc masters history) stored plain → IsOpenedBy masters p
 opened_by masters history p None plain is both = absurd cc
 opened_by masters history p (Some r) None is both = absurd both
 opened_by masters history p (Some r) (Some q) is both =
     let same : r ≡ p = cc in
     let shows = subst (λ (x : Princ). ShowsPrinc masters history x q) same both in
-    record { master = shows.master; listed = shows.named; opens = items_open shows.master p.keys q.keys shows.under.keys }
+    record {
+      master = shows.master;
+      listed = shows.named;
+      opens = items_open shows.master p.keys q.keys shows.under.keys;
+    }
 
-pub can_take : (o : Opened) (s : State) (name : List ℕ) (p : Princ) → HasState o s → AreRows o.kept.rows → is_master name ≡ false
+pub can_take : (o : Opened) (s : State) (name : List ℕ) (p : Princ) → HasState o s → AreRows o.kept.rows
+    → is_master name ≡ false
     → record_named name o.kept.rows.princs ≡ Some p → CanTake o.masters p
 can_take o s name p has rows other there =
     let fits = row_fits name o.kept.rows p rows there in
@@ -108,33 +123,40 @@ can_take o s name p has rows other there =
       ordinary = no_some p.chain (is_master p.name) fits.facts.chain_there (ap is_master named ∙ other);
       few = fits.keys.few;
       opened = subst (λ (masters : List Master). IsOpenedBy masters p) has.masters_are
-          (opened_by s.masters has.shows.shows.history p (record_named name o.kept.rows.princs) (princ_named name s.princs) there both);
+          (opened_by s.masters has.shows.shows.history p (record_named name o.kept.rows.princs)
+          (princ_named name s.princs) there both);
     }
 
 listed_not_none : (x : Option Key) → IsTrue (is_some x) → x ≢ None
 listed_not_none None h = absurd (cc (h))
 listed_not_none (Some k) h = λ e. absurd cc
 
-pub active_there : (o : Opened) (s : State) (clock : Moment) (version : ℕ) → HasState o s → active_at s (at_clock clock false) ≡ Some version
+pub active_there : (o : Opened) (s : State) (clock : Moment) (version : ℕ) → HasState o s
+    → active_at s (at_clock clock false) ≡ Some version
     → master_of o.masters version ≢ None
 active_there o s clock version has is =
     subst (λ (masters : List Master). master_of masters version ≢ None) has.masters_are
-    (listed_not_none (master_of s.masters version) (active_listed (point_of (place_of o)).time s (later_moment s.point.time clock).secs version has.shows.valid is))
+    (listed_not_none (master_of s.masters version)
+    (active_listed (point_of (place_of o)).time s (later_moment s.point.time clock).secs version has.shows.valid is))
 
 -- ---- what a take comes to
 
-pub take_gone : (s : State) (clock : Moment) (stored : Option Princ) → stored ≡ None → IsTake IsGone (take_of s (at_clock clock false) stored)
+pub take_gone : (s : State) (clock : Moment) (stored : Option Princ) → stored ≡ None
+    → IsTake IsGone (take_of s (at_clock clock false) stored)
 unfolding take_of
 take_gone s clock stored is = ap (take_of s (at_clock clock false)) is
 
-pub take_none : (s : State) (clock : Moment) (stored : Option Princ) (p : Princ) → stored ≡ Some p → active_at s (at_clock clock false) ≡ None
+pub take_none : (s : State) (clock : Moment) (stored : Option Princ) (p : Princ) → stored ≡ Some p
+    → active_at s (at_clock clock false) ≡ None
     → IsTake IsAlready (take_of s (at_clock clock false) stored)
 unfolding take_of take_to
 take_none s clock stored p is none = ap (take_of s (at_clock clock false)) is ∙ ap (take_to s.masters p) none
 
-pub take_told : (o : Opened) (s : State) (clock : Moment) (stored : Option Princ) (p : Princ) (version : ℕ) (found : Option Taking) → HasState o s → stored ≡ Some p
+pub take_told : (o : Opened) (s : State) (clock : Moment) (stored : Option Princ) (p : Princ) (version : ℕ)
+    (found : Option Taking) → HasState o s → stored ≡ Some p
     → active_at s (at_clock clock false) ≡ Some version → taken_as found ≡ take_to o.masters p (Some version)
     → take_of s (at_clock clock false) stored ≡ taken_as found
 unfolding take_of
 take_told o s clock stored p version found has is active told =
-    ap (take_of s (at_clock clock false)) is ∙ ap (take_to s.masters p) active ∙ ap (λ (masters : List Master). take_to masters p (Some version)) has.masters_are ∙ sym told
+    ap (take_of s (at_clock clock false)) is ∙ ap (take_to s.masters p) active
+    ∙ ap (λ (masters : List Master). take_to masters p (Some version)) has.masters_are ∙ sym told

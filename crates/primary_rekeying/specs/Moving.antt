@@ -1,5 +1,6 @@
 -- One principal rekeyed: what a take gives, and what a rekeying and a settling answer and make.
-use Rattle.std.specs.Prelude.{ℕ, Bool, ◌≡◌, ◌<◌, ◌≤◌, true, false, nat_eq, List, length, Option, Some, None, Result, Ok, Err, option_and_then}
+use Rattle.std.specs.Prelude.{ℕ, Bool, ◌≡◌, ◌<◌, ◌≤◌, true, false, nat_eq, List, length}
+use Rattle.std.specs.Prelude.{Option, Some, None, Result, Ok, Err, option_and_then}
 use Rattle.kdb_base.specs.Key.{Key}
 use Rattle.kdb_base.specs.Limits.{longest_row}
 use Rattle.kdb_base.specs.Moment.{Moment}
@@ -32,7 +33,8 @@ use Rattle.row_keys.specs.Shows.{ShowsPrinc}
 
 -- the version that is active at these seconds, by K/M's record
 abbrev pub active_by : Option Princ → ℕ → Option ℕ
-active_by entry secs = option_and_then (λ (part : ChainPart). active part.activations secs) (option_and_then (λ (p : Princ). p.chain) entry)
+active_by entry secs = option_and_then (λ (part : ChainPart). active part.activations secs)
+    (option_and_then (λ (p : Princ). p.chain) entry)
 
 -- ---- a take
 
@@ -60,11 +62,13 @@ is_updated (settled.Changed found active) = false
 
 -- ---- a record that is to be stored
 
--- What the ask comes to where this record is to be stored: a refusal where its row is too long or where no later time is left, and else its
--- change.
+-- What the ask comes to where this record is to be stored: a refusal where its row is too long or where no later time
+-- is left, and else its change.
 pub record IsStored (o : Opened) (ask : Ask) (made : Princ) : Type 0 where
-  pub large : longest_row < length (princ made) → IsAnswered o ask (NotMoved (RecordTooLarge (in_64_bits (length (princ made))))) None
-  pub late : length (princ made) ≤ longest_row → ends_time (PutPrinc made) (place_of o) ≡ true → IsAnswered o ask (NotMoved TimeEnd) None
+  pub large : longest_row < length (princ made)
+      → IsAnswered o ask (NotMoved (RecordTooLarge (in_64_bits (length (princ made))))) None
+  pub late : length (princ made) ≤ longest_row → ends_time (PutPrinc made) (place_of o) ≡ true
+      → IsAnswered o ask (NotMoved TimeEnd) None
   pub stored : length (princ made) ≤ longest_row → ends_time (PutPrinc made) (place_of o) ≡ false
       → IsAnswered o ask (Moved (settled.Updated made)) (Some (rows_changed (PutPrinc made)))
 
@@ -78,11 +82,13 @@ IsFoundOut o ask (settled.Changed found active) = IsAnswered o ask (Moved (settl
 -- the record may be stored, where its row is not too long and a later time is left where one is wanted
 pub record MayStore (o : Opened) (clock : Moment) (made : Princ) : Type 0 where
   pub spelled : IsPrinc made
-  pub may : length (princ made) ≤ longest_row → ends_time (PutPrinc made) (place_of o) ≡ false → MayMake o clock (rows_changed (PutPrinc made))
+  pub may : length (princ made) ≤ longest_row → ends_time (PutPrinc made) (place_of o) ≡ false
+      → MayMake o clock (rows_changed (PutPrinc made))
 
 -- ---- of which record that holds
 
--- The record by this name shows a principal under another version than the active one, and this record shows it under that one.
+-- The record by this name shows a principal under another version than the active one, and this record shows it under
+-- that one.
 pub record IsMoving (o : Opened) (s : State) (name : List ℕ) (clock : Moment) (made : Princ) : Type 0 where
   pub history : Key
   pub history_is : history_key s.realm s.princs ≡ Some history

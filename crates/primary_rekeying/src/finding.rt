@@ -33,7 +33,8 @@ fn rewrap_ready(
     requires old { master_of ring.now taken.princ.mkvno ≡ Some taken.old }
     requires fresh { master_of ring.now taken.version ≡ Some taken.fresh }
     ensures taken { IfOk result (λ work. work.taken ≡ taken) }
-    ensures made { IfOk result (λ work. IsRewrapped taken.princ taken.old taken.version taken.fresh random.now work.made) }
+    ensures made { IfOk result
+        (λ work. IsRewrapped taken.princ taken.old taken.version taken.fresh random.now work.made) }
 {
     let old = ring.find(taken.princ().mkvno);
     let fresh = ring.find(taken.version());
@@ -59,7 +60,8 @@ pub(crate) fn rekeyed(
     requires ring { ring.now ≡ primary.now.masters }
     requires name { is_master name.now ≡ false }
     ensures absent { record_named name.now primary.now.kept.rows.princs ≡ None → IfOk result (λ found. found ≡ Gone) }
-    ensures found_out { (who : NameParts) → printed who ≡ name.now → IfOk result (IsFoundOut primary.now (RekeyedNow who now random.now)) }
+    ensures found_out { (who : NameParts) → printed who ≡ name.now
+        → IfOk result (IsFoundOut primary.now (RekeyedNow who now random.now)) }
     ensures may { (made : Record) → result ≡ Ok (Updated made) → MayStore primary.now now made }
 {
     valid_later();
@@ -91,7 +93,8 @@ pub(crate) fn settled(
     work: Rewrapped,
     now: Time,
 ) -> Result<Settled, MemoryOut>
-    ensures found_out { (who : NameParts) → printed who ≡ work.taken.princ.name → IfOk result (IsFoundOut primary.now (Settles who now work)) }
+    ensures found_out { (who : NameParts) → printed who ≡ work.taken.princ.name
+        → IfOk result (IsFoundOut primary.now (Settles who now work)) }
     ensures may { (made : Record) → result ≡ Ok (Updated made) → MayStore primary.now now made }
 {
     valid_later();

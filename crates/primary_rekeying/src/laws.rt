@@ -24,9 +24,12 @@ use row_keys::laws::records_have_their_lengths;
 /// Where the model settles work against the record that stands by its name, what it stores is the record of the work,
 /// and its effect on rows that show a valid state shows the model's next state, which is valid at the entry's time.
 pub fn settled_work_shows_the_next_state()
-    ensures { (o : Opened) (s after : State) (name : NameParts) (clock : Moment) (work : Work) (made : Princ) → HasState o s → AreRows o.kept.rows → IsMoment clock → IsWork work → printed name ≡ work.taken.princ.name
-        → settle s name (at_clock clock (is_due (PutPrinc work.made) (place_of o))) (record_named (printed name) o.kept.rows.princs) work ≡ Stored after made
-        → (made ≡ work.made) × IsLeft (place_of o).realm (entry_point clock (PutPrinc made) (place_of o)) (PutPrinc made) (place_of o).rows after }
+    ensures { (o : Opened) (s after : State) (name : NameParts) (clock : Moment) (work : Work) (made : Princ)
+        → HasState o s → AreRows o.kept.rows → IsMoment clock → IsWork work → printed name ≡ work.taken.princ.name
+        → settle s name (at_clock clock (is_due (PutPrinc work.made) (place_of o)))
+        (record_named (printed name) o.kept.rows.princs) work ≡ Stored after made
+        → (made ≡ work.made) × IsLeft (place_of o).realm (entry_point clock (PutPrinc made) (place_of o))
+        (PutPrinc made) (place_of o).rows after }
 {
     valid_later();
     records_have_their_lengths();

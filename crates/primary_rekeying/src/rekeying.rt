@@ -47,13 +47,22 @@ pub fn rekey_settle<D: Disk>(
     now: Time,
 ) -> Result<Settled, Stop>
     requires on { D.tells → primary.old.kept.broken ≡ false → IsOnDisk primary.old.kept (D.view disk.old) }
-    ensures does { (s : State) (who : NameParts) (answer : Answers) → primary.old.kept.broken ≡ false → HasState primary.old s → printed who ≡ made.taken.princ.name → answer_of result ≡ Some answer → Does (place_of primary.old) s (Perform (Settles who now made)) answer (place_of primary.new) }
-    ensures state { (s : State) (who : NameParts) (answer : Answers) → primary.old.kept.broken ≡ false → HasState primary.old s → printed who ≡ made.taken.princ.name → answer_of result ≡ Some answer → HasState primary.new (after_ask (Settles who now made) (seen (place_of primary.old) s)).state }
+    ensures does { (s : State) (who : NameParts) (answer : Answers) → primary.old.kept.broken ≡ false
+        → HasState primary.old s → printed who ≡ made.taken.princ.name → answer_of result ≡ Some answer
+        → Does (place_of primary.old) s (Perform (Settles who now made)) answer (place_of primary.new) }
+    ensures state { (s : State) (who : NameParts) (answer : Answers) → primary.old.kept.broken ≡ false
+        → HasState primary.old s → printed who ≡ made.taken.princ.name → answer_of result ≡ Some answer
+        → HasState primary.new (after_ask (Settles who now made) (seen (place_of primary.old) s)).state }
     ensures closed { primary.old.kept.broken ≡ true → result ≡ Err (stops.Refused Closed) }
-    ensures keeps { (told : Found) → result ≡ Ok told → is_updated told ≡ false → (primary.new ≡ primary.old) × (disk.new ≡ disk.old) }
-    ensures refused_keeps { (why : Refuses) → result ≡ Err (stops.Refused why) → (primary.new ≡ primary.old) × (disk.new ≡ disk.old) }
-    ensures crash { (s : State) (who : NameParts) → primary.old.kept.broken ≡ false → HasState primary.old s → printed who ≡ made.taken.princ.name → IsCrashSafe D.Disk disk.old disk.new (MayLeave (place_of primary.old) s (Perform (Settles who now made))) }
-    ensures reach { (s : State) (who : NameParts) → HasState primary.old s → printed who ≡ made.taken.princ.name → OnErr result (MayReach (place_of primary.old) s (Perform (Settles who now made)) (place_of primary.new)) }
+    ensures keeps { (told : Found) → result ≡ Ok told → is_updated told ≡ false
+        → (primary.new ≡ primary.old) × (disk.new ≡ disk.old) }
+    ensures refused_keeps { (why : Refuses) → result ≡ Err (stops.Refused why)
+        → (primary.new ≡ primary.old) × (disk.new ≡ disk.old) }
+    ensures crash { (s : State) (who : NameParts)
+        → primary.old.kept.broken ≡ false → HasState primary.old s → printed who ≡ made.taken.princ.name
+        → IsCrashSafe D.Disk disk.old disk.new (MayLeave (place_of primary.old) s (Perform (Settles who now made))) }
+    ensures reach { (s : State) (who : NameParts) → HasState primary.old s → printed who ≡ made.taken.princ.name
+        → OnErr result (MayReach (place_of primary.old) s (Perform (Settles who now made)) (place_of primary.new)) }
     ensures rows { OnErr result ((place_of primary.new).rows ≡ (place_of primary.old).rows) }
     ensures masters { primary.new.masters ≡ primary.old.masters }
     ensures dumps { (primary.new.dumps ≡ primary.old.dumps) × (primary.new.room ≡ primary.old.room) }
@@ -95,14 +104,24 @@ pub fn rekey_now<D: Disk>(
     requires on { D.tells → primary.old.kept.broken ≡ false → IsOnDisk primary.old.kept (D.view disk.old) }
     requires ring { ring.now ≡ primary.old.masters }
     requires name { is_master name.now ≡ false }
-    ensures does { (s : State) (who : NameParts) (answer : Answers) → primary.old.kept.broken ≡ false → HasState primary.old s → printed who ≡ name.now → answer_of result ≡ Some answer → Does (place_of primary.old) s (Perform (RekeyedNow who now random.now)) answer (place_of primary.new) }
-    ensures state { (s : State) (who : NameParts) (answer : Answers) → primary.old.kept.broken ≡ false → HasState primary.old s → printed who ≡ name.now → answer_of result ≡ Some answer → HasState primary.new (after_ask (RekeyedNow who now random.now) (seen (place_of primary.old) s)).state }
+    ensures does { (s : State) (who : NameParts) (answer : Answers) → primary.old.kept.broken ≡ false
+        → HasState primary.old s → printed who ≡ name.now → answer_of result ≡ Some answer
+        → Does (place_of primary.old) s (Perform (RekeyedNow who now random.now)) answer (place_of primary.new) }
+    ensures state { (s : State) (who : NameParts) (answer : Answers) → primary.old.kept.broken ≡ false
+        → HasState primary.old s → printed who ≡ name.now → answer_of result ≡ Some answer
+        → HasState primary.new (after_ask (RekeyedNow who now random.now) (seen (place_of primary.old) s)).state }
     ensures closed { primary.old.kept.broken ≡ true → result ≡ Err (stops.Refused Closed) }
-    ensures absent { primary.old.kept.broken ≡ false → record_named name.now primary.old.kept.rows.princs ≡ None → result ≢ Err (stops.Halt IsMemoryOut) → result ≡ Ok Gone }
-    ensures keeps { (told : Found) → result ≡ Ok told → is_updated told ≡ false → (primary.new ≡ primary.old) × (disk.new ≡ disk.old) }
-    ensures refused_keeps { (why : Refuses) → result ≡ Err (stops.Refused why) → (primary.new ≡ primary.old) × (disk.new ≡ disk.old) }
-    ensures crash { (s : State) (who : NameParts) → primary.old.kept.broken ≡ false → HasState primary.old s → printed who ≡ name.now → IsCrashSafe D.Disk disk.old disk.new (MayLeave (place_of primary.old) s (Perform (RekeyedNow who now random.now))) }
-    ensures reach { (s : State) (who : NameParts) → HasState primary.old s → printed who ≡ name.now → OnErr result (MayReach (place_of primary.old) s (Perform (RekeyedNow who now random.now)) (place_of primary.new)) }
+    ensures absent { primary.old.kept.broken ≡ false → record_named name.now primary.old.kept.rows.princs ≡ None
+        → result ≢ Err (stops.Halt IsMemoryOut) → result ≡ Ok Gone }
+    ensures keeps { (told : Found) → result ≡ Ok told → is_updated told ≡ false
+        → (primary.new ≡ primary.old) × (disk.new ≡ disk.old) }
+    ensures refused_keeps { (why : Refuses) → result ≡ Err (stops.Refused why)
+        → (primary.new ≡ primary.old) × (disk.new ≡ disk.old) }
+    ensures crash { (s : State) (who : NameParts) → primary.old.kept.broken ≡ false
+        → HasState primary.old s → printed who ≡ name.now → IsCrashSafe D.Disk disk.old disk.new
+        (MayLeave (place_of primary.old) s (Perform (RekeyedNow who now random.now))) }
+    ensures reach { (s : State) (who : NameParts) → HasState primary.old s → printed who ≡ name.now → OnErr result
+        (MayReach (place_of primary.old) s (Perform (RekeyedNow who now random.now)) (place_of primary.new)) }
     ensures rows { OnErr result ((place_of primary.new).rows ≡ (place_of primary.old).rows) }
     ensures masters { primary.new.masters ≡ primary.old.masters }
     ensures dumps { (primary.new.dumps ≡ primary.old.dumps) × (primary.new.room ≡ primary.old.room) }

@@ -38,12 +38,22 @@ fn store<D: Disk>(
     requires on { D.tells → IsOnDisk primary.old.kept (D.view disk.old) }
     requires whole { primary.old.kept.broken ≡ false }
     requires may { MayStore primary.old now made }
-    ensures does { (s : State) (ask : Ask) (answer : Answers) → clock_of ask ≡ now → HasState primary.old s → IsStored primary.old ask made → answer_of result ≡ Some answer → Does (place_of primary.old) s (Perform ask) answer (place_of primary.new) }
-    ensures state { (s : State) (ask : Ask) (answer : Answers) → clock_of ask ≡ now → HasState primary.old s → IsStored primary.old ask made → answer_of result ≡ Some answer → HasState primary.new (after_ask ask (seen (place_of primary.old) s)).state }
-    ensures keeps { (told : Settles) → result ≡ Ok told → is_updated told ≡ false → (primary.new ≡ primary.old) × (disk.new ≡ disk.old) }
-    ensures refused_keeps { (why : Refuses) → result ≡ Err (stops.Refused why) → (primary.new ≡ primary.old) × (disk.new ≡ disk.old) }
-    ensures crash { (s : State) (ask : Ask) → clock_of ask ≡ now → HasState primary.old s → IsStored primary.old ask made → IsCrashSafe D.Disk disk.old disk.new (MayLeave (place_of primary.old) s (Perform ask)) }
-    ensures reach { (s : State) (ask : Ask) → clock_of ask ≡ now → HasState primary.old s → IsStored primary.old ask made → OnErr result (MayReach (place_of primary.old) s (Perform ask) (place_of primary.new)) }
+    ensures does { (s : State) (ask : Ask) (answer : Answers)
+        → clock_of ask ≡ now → HasState primary.old s → IsStored primary.old ask made → answer_of result ≡ Some answer
+        → Does (place_of primary.old) s (Perform ask) answer (place_of primary.new) }
+    ensures state { (s : State) (ask : Ask) (answer : Answers)
+        → clock_of ask ≡ now → HasState primary.old s → IsStored primary.old ask made → answer_of result ≡ Some answer
+        → HasState primary.new (after_ask ask (seen (place_of primary.old) s)).state }
+    ensures keeps { (told : Settles) → result ≡ Ok told → is_updated told ≡ false
+        → (primary.new ≡ primary.old) × (disk.new ≡ disk.old) }
+    ensures refused_keeps { (why : Refuses) → result ≡ Err (stops.Refused why)
+        → (primary.new ≡ primary.old) × (disk.new ≡ disk.old) }
+    ensures crash { (s : State) (ask : Ask)
+        → clock_of ask ≡ now → HasState primary.old s → IsStored primary.old ask made
+        → IsCrashSafe D.Disk disk.old disk.new (MayLeave (place_of primary.old) s (Perform ask)) }
+    ensures reach { (s : State) (ask : Ask)
+        → clock_of ask ≡ now → HasState primary.old s → IsStored primary.old ask made
+        → OnErr result (MayReach (place_of primary.old) s (Perform ask) (place_of primary.new)) }
     ensures rows { OnErr result ((place_of primary.new).rows ≡ (place_of primary.old).rows) }
     ensures masters { primary.new.masters ≡ primary.old.masters }
     ensures dumps { (primary.new.dumps ≡ primary.old.dumps) × (primary.new.room ≡ primary.old.room) }
@@ -86,12 +96,22 @@ pub(crate) fn finish<D: Disk>(
     requires whole { primary.old.kept.broken ≡ false }
     requires may { (made : Record) → found ≡ Updated made → MayStore primary.old now made }
     ensures handed_on { is_updated found ≡ false → result ≡ Ok found }
-    ensures does { (s : State) (ask : Ask) (answer : Answers) → clock_of ask ≡ now → HasState primary.old s → IsFoundOut primary.old ask found → answer_of result ≡ Some answer → Does (place_of primary.old) s (Perform ask) answer (place_of primary.new) }
-    ensures state { (s : State) (ask : Ask) (answer : Answers) → clock_of ask ≡ now → HasState primary.old s → IsFoundOut primary.old ask found → answer_of result ≡ Some answer → HasState primary.new (after_ask ask (seen (place_of primary.old) s)).state }
-    ensures keeps { (told : Settles) → result ≡ Ok told → is_updated told ≡ false → (primary.new ≡ primary.old) × (disk.new ≡ disk.old) }
-    ensures refused_keeps { (why : Refuses) → result ≡ Err (stops.Refused why) → (primary.new ≡ primary.old) × (disk.new ≡ disk.old) }
-    ensures crash { (s : State) (ask : Ask) → clock_of ask ≡ now → HasState primary.old s → IsFoundOut primary.old ask found → IsCrashSafe D.Disk disk.old disk.new (MayLeave (place_of primary.old) s (Perform ask)) }
-    ensures reach { (s : State) (ask : Ask) → clock_of ask ≡ now → HasState primary.old s → IsFoundOut primary.old ask found → OnErr result (MayReach (place_of primary.old) s (Perform ask) (place_of primary.new)) }
+    ensures does { (s : State) (ask : Ask) (answer : Answers) → clock_of ask ≡ now
+        → HasState primary.old s → IsFoundOut primary.old ask found → answer_of result ≡ Some answer
+        → Does (place_of primary.old) s (Perform ask) answer (place_of primary.new) }
+    ensures state { (s : State) (ask : Ask) (answer : Answers) → clock_of ask ≡ now
+        → HasState primary.old s → IsFoundOut primary.old ask found → answer_of result ≡ Some answer
+        → HasState primary.new (after_ask ask (seen (place_of primary.old) s)).state }
+    ensures keeps { (told : Settles) → result ≡ Ok told → is_updated told ≡ false
+        → (primary.new ≡ primary.old) × (disk.new ≡ disk.old) }
+    ensures refused_keeps { (why : Refuses) → result ≡ Err (stops.Refused why)
+        → (primary.new ≡ primary.old) × (disk.new ≡ disk.old) }
+    ensures crash { (s : State) (ask : Ask)
+        → clock_of ask ≡ now → HasState primary.old s → IsFoundOut primary.old ask found
+        → IsCrashSafe D.Disk disk.old disk.new (MayLeave (place_of primary.old) s (Perform ask)) }
+    ensures reach { (s : State) (ask : Ask)
+        → clock_of ask ≡ now → HasState primary.old s → IsFoundOut primary.old ask found
+        → OnErr result (MayReach (place_of primary.old) s (Perform ask) (place_of primary.new)) }
     ensures rows { OnErr result ((place_of primary.new).rows ≡ (place_of primary.old).rows) }
     ensures masters { primary.new.masters ≡ primary.old.masters }
     ensures dumps { (primary.new.dumps ≡ primary.old.dumps) × (primary.new.room ≡ primary.old.room) }

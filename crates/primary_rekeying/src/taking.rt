@@ -51,7 +51,8 @@ pub(crate) fn active_version(
     primary: &Primary,
     now: Time,
 ) -> Result<Option<u16>, MemoryOut>
-    ensures version { (s : State) → HasState primary.now s → IfOk result (λ version. version ≡ active_at s (at_clock now false)) }
+    ensures version { (s : State) → HasState primary.now s
+        → IfOk result (λ version. version ≡ active_at s (at_clock now false)) }
     ensures known { IfOk result (λ version. IfSome version IsVersion) }
 {
     let database = primary.database();
@@ -72,7 +73,8 @@ pub(crate) fn take_open(
     now: Time,
 ) -> Result<TakeAnswer, MemoryOut>
     requires { is_master name.now ≡ false }
-    ensures { (s : State) → HasState primary.now s → IfOk result (λ answer. IsTake answer (take_of s (at_clock now false) (record_named name.now primary.now.kept.rows.princs))) }
+    ensures { (s : State) → HasState primary.now s → IfOk result (λ answer.
+        IsTake answer (take_of s (at_clock now false) (record_named name.now primary.now.kept.rows.princs))) }
 {
     primary.holds_opened();
     let rows = primary.database().rows();
@@ -102,7 +104,8 @@ pub fn rekey_take(
     now: Time,
 ) -> Result<TakeAnswer, MemoryOut>
     requires { is_master name.now ≡ false }
-    ensures take { (s : State) → primary.now.kept.broken ≡ false → HasState primary.now s → IfOk result (λ answer. IsTake answer (take_of s (at_clock now false) (record_named name.now primary.now.kept.rows.princs))) }
+    ensures take { (s : State) → primary.now.kept.broken ≡ false → HasState primary.now s → IfOk result (λ answer.
+        IsTake answer (take_of s (at_clock now false) (record_named name.now primary.now.kept.rows.princs))) }
     ensures closed { primary.now.kept.broken ≡ true → result ≡ Ok IsClosed }
 {
     if primary.is_closed() {

@@ -30,7 +30,8 @@ use Rattle.row_keys.specs.Sound.{AreSound, judged}
 use Rattle.stash_file.specs.Stashes.{IsStash}
 use Rattle.stash_file.specs.Written.{IsStashed, stash_keys, stash_text}
 
-pub created_stage : (spec : SpecParts) (now_ : Moment) (random : List ℕ) (before : List Place) → IsSpec spec → length random ≡ 2048 → AreBytes random
+pub created_stage : (spec : SpecParts) (now_ : Moment) (random : List ℕ) (before : List Place) → IsSpec spec
+    → length random ≡ 2048 → AreBytes random
     → All (λ p. micros (point_of p).time < micros now_) before → IsCreation before (first_stage spec now_ random)
 unfolding first_state
 created_stage spec now_ random before is long bytes later = record {
@@ -52,27 +53,44 @@ created_stage spec now_ random before is long bytes later = record {
   valid = first_valid spec now_ random is;
 }
 
-pub created_copied : (spec : SpecParts) (now_ : Moment) (random : List ℕ) (client : NameParts) → IsSpec spec → length random ≡ 2048 → AreBytes random
+pub created_copied : (spec : SpecParts) (now_ : Moment) (random : List ℕ) (client : NameParts) → IsSpec spec
+    → length random ≡ 2048 → AreBytes random
     → LeadsToCopy (first_events (first_stage spec now_ random) client) (first_place spec now_ random)
 created_copied spec now_ random client is long bytes =
-    first_run (first_stage spec now_ random) client (created_stage spec now_ random [] is long bytes (All-nil (λ p. micros (point_of p).time < micros now_))) refl
+    first_run (first_stage spec now_ random) client
+    (created_stage spec now_ random [] is long bytes (All-nil (λ p. micros (point_of p).time < micros now_))) refl
 
 -- ---- it opens
 
-first_stashed : (spec : SpecParts) (now_ : Moment) (random : List ℕ) → length random ≡ 2048 → AreBytes random → All IsStashed (first_state spec now_ random).masters
+first_stashed : (spec : SpecParts) (now_ : Moment) (random : List ℕ) → length random ≡ 2048 → AreBytes random
+    → All IsStashed (first_state spec now_ random).masters
 unfolding first_state master_key_of
 first_stashed spec now_ random long bytes =
-    let whole = master_whole spec.password spec.realm spec.etype random (omega (arith, long)) (random_from random bytes) in
-    All-cons IsStashed (record { version = 1; key = master_key_of spec random }) [] (record { whole = whole.long; version = omega arith }) (All-nil IsStashed)
+    let whole =
+    master_whole spec.password spec.realm spec.etype random (omega (arith, long)) (random_from random bytes) in
+    All-cons IsStashed (record { version = 1; key = master_key_of spec random }) []
+    (record { whole = whole.long; version = omega arith }) (All-nil IsStashed)
 
-first_shown : (spec : SpecParts) (now_ : Moment) (random : List ℕ) → IsSpec spec → length random ≡ 2048 → AreBytes random → ShowsAt (first_place spec now_ random) (first_state spec now_ random)
+first_shown : (spec : SpecParts) (now_ : Moment) (random : List ℕ) → IsSpec spec → length random ≡ 2048
+    → AreBytes random → ShowsAt (first_place spec now_ random) (first_state spec now_ random)
 unfolding first_state last_point
-first_shown spec now_ random is long bytes = record { realm = refl; at = refl; shows = first_shows spec now_ random long bytes; valid = first_valid spec now_ random is }
+first_shown spec now_ random is long bytes = record {
+  realm = refl;
+  at = refl;
+  shows = first_shows spec now_ random long bytes;
+  valid = first_valid spec now_ random is;
+}
 
 pub created_opens : (spec : SpecParts) (now_ : Moment) (random : List ℕ)
-    → ((rows : RowLists) (t : State) (time : Moment) → Shows rows t → IsValid time t → AreSound (judged t.masters t.realm time.secs) rows)
-    → ((realm : List ℕ) (secs : ℕ) (masters : List Master) → length realm ≤ 64 → secs < 2 ^ 32 → All IsStashed masters → IsStash (stash_text realm secs masters) (stash_keys masters))
-    → IsSpec spec → now_.secs < 2 ^ 32 → length random ≡ 2048 → AreBytes random → OpensAt (first_place spec now_ random) (first_state spec now_ random).masters
+    → ((rows : RowLists) (t : State) (time : Moment) → Shows rows t → IsValid time t
+    → AreSound (judged t.masters t.realm time.secs) rows)
+    → ((realm : List ℕ) (secs : ℕ) (masters : List Master) → length realm ≤ 64 → secs < 2 ^ 32 → All IsStashed masters
+    → IsStash (stash_text realm secs masters) (stash_keys masters))
+    → IsSpec spec → now_.secs < 2 ^ 32 → length random ≡ 2048 → AreBytes random
+    → OpensAt (first_place spec now_ random) (first_state spec now_ random).masters
 created_opens spec now_ random sound written is secs long bytes =
-    stash_opens (first_place spec now_ random) (first_state spec now_ random) (stash_text spec.realm now_.secs (first_state spec now_ random).masters) sound (first_shown spec now_ random is long bytes) refl
-    (written spec.realm now_.secs (first_state spec now_ random).masters (realm_length spec.realm is.realm) secs (first_stashed spec now_ random long bytes))
+    stash_opens (first_place spec now_ random)
+    (first_state spec now_ random) (stash_text spec.realm now_.secs (first_state spec now_ random).masters) sound
+    (first_shown spec now_ random is long bytes) refl
+    (written spec.realm now_.secs (first_state spec now_ random).masters (realm_length spec.realm is.realm) secs
+    (first_stashed spec now_ random long bytes))

@@ -22,14 +22,16 @@ same_item =
     eq_of_both (on (λ (k : KeyItem). k.kvno) nat_eq)
     (eq_of_both (on (λ (k : KeyItem). number_of k.etype) nat_eq)
     (eq_of_both (on (λ (k : KeyItem). salt_kind k.salt) nat_eq)
-    (eq_of_both (on (λ (k : KeyItem). salt_bytes k.salt) (pointwise nat_eq)) (on (λ (k : KeyItem). k.wrapped) (pointwise nat_eq)))))
+    (eq_of_both (on (λ (k : KeyItem). salt_bytes k.salt) (pointwise nat_eq))
+    (on (λ (k : KeyItem). k.wrapped) (pointwise nat_eq)))))
 
 pub same_item_equiv : IsEquivalence same_item
 same_item_equiv =
     and_equiv (on_equiv (λ (k : KeyItem). k.kvno) nat_eq_equiv)
     (and_equiv (on_equiv (λ (k : KeyItem). number_of k.etype) nat_eq_equiv)
     (and_equiv (on_equiv (λ (k : KeyItem). salt_kind k.salt) nat_eq_equiv)
-    (and_equiv (on_equiv (λ (k : KeyItem). salt_bytes k.salt) nat_list_eq_equiv) (on_equiv (λ (k : KeyItem). k.wrapped) nat_list_eq_equiv))))
+    (and_equiv (on_equiv (λ (k : KeyItem). salt_bytes k.salt) nat_list_eq_equiv)
+    (on_equiv (λ (k : KeyItem). k.wrapped) nat_list_eq_equiv))))
 
 pub same_item_partial : IsPartialEquivalence same_item
 same_item_partial = partial_equiv_from_equiv same_item_equiv

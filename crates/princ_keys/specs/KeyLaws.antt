@@ -10,9 +10,12 @@ use Rattle.kdb_base.specs.Limits.{most_keys}
 use Rattle.kdb_format.specs.EtypeLaws.{etype_field}
 use Rattle.kdb_format.specs.Spellings.{counted}
 use Rattle.kdb_format.specs.Fields.{IsField}
-use Rattle.kdb_format.specs.Laws.{same_field, first_field, then_field, last_field, made_field, choice_field, refuse_field, big_field, checked_field, counted_field, counted_list_field}
+use Rattle.kdb_format.specs.Laws.{same_field, first_field, then_field, last_field, made_field, choice_field}
+use Rattle.kdb_format.specs.Laws.{refuse_field, big_field, checked_field, counted_field, counted_list_field}
 use Rattle.princ_keys.specs.declared.keys.KeyItem.{KeyItem}
-use Rattle.princ_keys.specs.Keys.{salt_kind, salt_bytes, is_empty, salt_of, salt_at, salt, IsSalt, key_at, key, IsKey, are_ordered, are_keys, keys_at, keys_text, AreKeys, begins_at, are_falling, are_masters, AreMasters, fit_name}
+use Rattle.princ_keys.specs.Keys.{salt_kind, salt_bytes, is_empty, salt_of, salt_at, salt, IsSalt}
+use Rattle.princ_keys.specs.Keys.{key_at, key, IsKey, are_ordered, are_keys, keys_at, keys_text}
+use Rattle.princ_keys.specs.Keys.{AreKeys, begins_at, are_falling, are_masters, AreMasters, fit_name}
 
 -- ---- salts
 
@@ -66,8 +69,10 @@ unfolding key_at key
 key_field = same_field
     (first_field (checked_field (nat_lt 0) (big_field 2)) (λ (k : KeyItem). k.kvno) (λ kvno _.
     then_field {K = λ (k : KeyItem). k.kvno ≡ kvno} etype_field (λ (k : KeyItem). k.etype) (λ etype _.
-    then_field {K = λ (k : KeyItem). (k.etype ≡ etype) × (k.kvno ≡ kvno)} salt_field (λ (k : KeyItem). k.salt) (λ salt _.
-    last_field {K = λ (k : KeyItem). (k.salt ≡ salt) × ((k.etype ≡ etype) × (k.kvno ≡ kvno))} counted_field (λ (k : KeyItem). k.wrapped) (λ wrapped. record { kvno = kvno; etype = etype; salt = salt; wrapped = wrapped })
+    then_field {K = λ (k : KeyItem). (k.etype ≡ etype) × (k.kvno ≡ kvno)} salt_field
+    (λ (k : KeyItem). k.salt) (λ salt _.
+    last_field {K = λ (k : KeyItem). (k.salt ≡ salt) × ((k.etype ≡ etype) × (k.kvno ≡ kvno))} counted_field
+    (λ (k : KeyItem). k.wrapped) (λ wrapped. record { kvno = kvno; etype = etype; salt = salt; wrapped = wrapped })
     (λ _ _. (refl, (refl, (refl, refl))))
     (λ k e. same_key k kvno etype salt e.1.1 e.1.0 e.0)))))
     (λ k f. (refl, record { from_one = ltb-true _ _ f.0.1; kvno = f.0.0; salt = f.1.1.0; wrapped = f.1.1.1 }))
@@ -76,19 +81,25 @@ key_field = same_field
 pub keys_field : IsField keys_at keys_text AreKeys
 unfolding keys_at keys_text are_keys
 keys_field = same_field (checked_field are_keys (counted_list_field 2 key_field))
-    (λ keys f. let p = and_parts (leb (length keys) most_keys) (are_ordered keys) f.1 in (refl, record { few = leb-true _ _ p.0; each = f.0.1; ordered = p.1 }))
-    (λ keys f. let few = f.few in ((omega arith, f.each), and_from (leb (length keys) most_keys) (are_ordered keys) (le-leb _ _ f.few) f.ordered))
+    (λ keys f. let p = and_parts (leb (length keys) most_keys) (are_ordered keys) f.1 in
+    (refl, record { few = leb-true _ _ p.0; each = f.0.1; ordered = p.1 }))
+    (λ keys f. let few = f.few in (
+      (omega arith, f.each),
+      and_from (leb (length keys) most_keys) (are_ordered keys) (le-leb _ _ f.few) f.ordered,
+    ))
 
 -- ---- the keys of K/M
 
-pub masters_from : (master : Bool) (version : ℕ) (keys : List KeyItem) → fit_name master version keys ≡ true → master ≡ true → AreMasters version keys
+pub masters_from : (master : Bool) (version : ℕ) (keys : List KeyItem) → fit_name master version keys ≡ true
+    → master ≡ true → AreMasters version keys
 unfolding fit_name are_masters
 masters_from true version keys e is =
     let p = and_parts (begins_at version keys) (are_falling keys) e in
     record { newest = p.0; falling = p.1 }
 masters_from false version keys e is = absurd cc
 
-pub masters_to : (master : Bool) (version : ℕ) (keys : List KeyItem) → (master ≡ true → AreMasters version keys) → fit_name master version keys ≡ true
+pub masters_to : (master : Bool) (version : ℕ) (keys : List KeyItem) → (master ≡ true → AreMasters version keys)
+    → fit_name master version keys ≡ true
 unfolding fit_name are_masters
 masters_to true version keys h =
     let f = h refl in

@@ -64,7 +64,8 @@ pub record IsKey (k : KeyItem) : Type 0 where
 
 -- a later key has no higher version, and of the same version another type
 abbrev pub may_follow : KeyItem → KeyItem → Bool
-may_follow k later = nat_lt later.kvno k.kvno || (nat_eq later.kvno k.kvno && not (nat_eq (number_of later.etype) (number_of k.etype)))
+may_follow k later =
+    nat_lt later.kvno k.kvno || (nat_eq later.kvno k.kvno && not (nat_eq (number_of later.etype) (number_of k.etype)))
 
 unfoldable pub are_ordered : List KeyItem → Bool
 are_ordered [] = true

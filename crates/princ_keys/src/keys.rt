@@ -1,7 +1,9 @@
 ghost use Rattle.std.specs.Prelude.{◌≡◌, ◌++◌, ◌<◌, ◌^◌, length, OnOk};
 ghost use Rattle.std.specs.List.{list_all};
 ghost use Rattle.kdb_format.specs.Answers.{Gives, GivesAs};
-ghost use Rattle.princ_keys.specs.Keys.{salt_at, salt as salt_text, IsSalt, key_at, key as key_text, IsKey, begins_at, is_below, are_falling, are_masters, fit_name, may_follow, are_ordered, are_keys, keys_at, keys_text, AreKeys, salt_bytes, salt_kind};
+ghost use Rattle.princ_keys.specs.Keys.{salt_at, salt as salt_text, IsSalt, key_at, key as key_text, IsKey};
+ghost use Rattle.princ_keys.specs.Keys.{begins_at, is_below, are_falling, are_masters, fit_name, may_follow};
+ghost use Rattle.princ_keys.specs.Keys.{are_ordered, are_keys, keys_at, keys_text, AreKeys, salt_bytes, salt_kind};
 ghost use Rattle.princ_keys.specs.KeyLaws.{key_field};
 
 use kdb_base::limits::MAX_KEYS;

@@ -2,7 +2,8 @@ ghost use Rattle.std.specs.Prelude.{◌≡◌, ◌++◌, ◌<◌, ◌^◌, lengt
 ghost use Rattle.std.proofs.Common.{rules};
 ghost use Rattle.std.specs.Cmp.Rules.{comparing};
 ghost use Rattle.kdb_format.specs.Answers.{Gives};
-ghost use Rattle.princ_keys.specs.Remembered.{old_key_at, old_key, IsOldKey, old_set_at, old_set, IsOldSet, old_sets_at, old_sets, AreOldSets};
+ghost use Rattle.princ_keys.specs.Remembered.{old_key_at, old_key, IsOldKey, old_set_at, old_set};
+ghost use Rattle.princ_keys.specs.Remembered.{IsOldSet, old_sets_at, old_sets, AreOldSets};
 ghost use Rattle.princ_keys.specs.RememberedLaws.{old_key_field, old_set_field};
 
 use kdb_base::limits::MAX_OLD_SETS;
@@ -127,7 +128,10 @@ impl PartialEq for OldSets {
 
     ghost eq = { pointwise ⟦<OldSet as PartialEq>⟧.eq };
 
-    ghost laws = { partial_equiv_from_equiv (lists_equiv (and_equiv (on_equiv (λ s. s.kvno) (Prim.search (comparing, rules))) (on_equiv (λ s. s.keys) (lists_equiv (Prim.search (comparing, rules)))))) };
+    ghost laws = { partial_equiv_from_equiv (lists_equiv (and_equiv (on_equiv (λ s. s.kvno) (Prim.search (
+      comparing,
+      rules,
+    ))) (on_equiv (λ s. s.keys) (lists_equiv (Prim.search (comparing, rules)))))) };
 
     fn eq(&self, other: &OldSets) -> bool {
         self.as_slice() == other.as_slice()
@@ -138,7 +142,8 @@ impl Eq for OldSets {
     ghost use Rattle.std.specs.Cmp.Lexicographic.{lists_equiv};
     ghost use Rattle.std.specs.Cmp.{and_equiv, on_equiv};
 
-    ghost laws = { lists_equiv (and_equiv (on_equiv (λ s. s.kvno) (Prim.search (comparing, rules))) (on_equiv (λ s. s.keys) (lists_equiv (Prim.search (comparing, rules))))) };
+    ghost laws = { lists_equiv (and_equiv (on_equiv (λ s. s.kvno) (Prim.search (comparing, rules)))
+        (on_equiv (λ s. s.keys) (lists_equiv (Prim.search (comparing, rules))))) };
 }
 
 /// The format of a remembered key: its type, and the wrapped key.

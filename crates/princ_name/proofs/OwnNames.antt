@@ -1,5 +1,7 @@
 -- What is read of a word is the name of the given realm that it spells, and else the place of its refusal.
-use Rattle.std.proofs.Common.{◌≡◌, ◌≢◌, ℕ, ◌+◌, ◌-◌, ◌≤◌, Bool, true, false, Option, Some, None, List, [], ◌∷◌, ◌++◌, length, map, take, Ok, Err, ◌⊎◌, inl, inr, refl, sym, ap, subst, ◌∙◌, arith, length-append}
+use Rattle.std.proofs.Common.{◌≡◌, ◌≢◌, ℕ, ◌+◌, ◌-◌, ◌≤◌, Bool, true, false, Option, Some}
+use Rattle.std.proofs.Common.{None, List, [], ◌∷◌, ◌++◌, length, map, take, Ok, Err, ◌⊎◌}
+use Rattle.std.proofs.Common.{inl, inr, refl, sym, ap, subst, ◌∙◌, arith, length-append}
 use Rattle.std.specs.Prelude.{slice_index_or}
 use Rattle.std.specs.Str.{bytes_eq}
 use Rattle.std.proofs.lemmas.Bool.{and_parts, and_from, leb-true, le-leb}
@@ -54,32 +56,39 @@ unfolding is_name
 holds_test name is =
     let some = le-leb _ _ (some_counted name.parts is.some) in
     let realm = le-leb _ _ (some_counted name.realm is.realm) in
-    and_from _ _ (and_from _ _ (and_from _ _ (and_from _ _ (and_from _ _ some (le-leb _ _ is.few)) is.bytes) realm) is.realm_bytes) (le-leb _ _ is.short)
+    and_from _ _ (and_from _ _ (and_from _ _ (and_from _ _ (and_from _ _ some (le-leb _ _ is.few)) is.bytes) realm)
+    is.realm_bytes) (le-leb _ _ is.short)
 
 -- ---- names with one printed form
 
 pub printed_once : (a b : NameParts) → IsName a → IsName b → printed a ≡ printed b → a ≡ b
 printed_once a b ha hb same =
-    one_name (printed b) [] a b (subst (λ (word : List ℕ). Spells word [] a) same (name_printed a [] ha)) (name_printed b [] hb)
+    one_name (printed b) [] a b (subst (λ (word : List ℕ). Spells word [] a) same (name_printed a [] ha))
+    (name_printed b [] hb)
 
 -- ---- what a spelled word says
 
-named_last : (at : ℕ) (texts : List (List ℕ)) (realm given : List ℕ) → name_by (Some at) (texts ++ realm ∷ []) given ≡ record { parts = texts; realm = realm }
+named_last : (at : ℕ) (texts : List (List ℕ)) (realm given : List ℕ)
+    → name_by (Some at) (texts ++ realm ∷ []) given ≡ record { parts = texts; realm = realm }
 unfolding name_by
 named_last at texts realm given =
     let count : length (texts ++ realm ∷ []) - 1 ≡ length texts = omega (arith, length-append texts (realm ∷ [])) in
-    ap (λ (n : ℕ). record { parts = take n (texts ++ realm ∷ []); realm = slice_index_or (texts ++ realm ∷ []) n [] }) count
-    ∙ ap (λ (ts : List (List ℕ)). record { parts = ts; realm = slice_index_or (texts ++ realm ∷ []) (length texts) [] }) (take-append_seam texts (realm ∷ []))
+    ap (λ (n : ℕ). record { parts = take n (texts ++ realm ∷ []); realm = slice_index_or (texts ++ realm ∷ []) n [] })
+    count
+    ∙ ap (λ (ts : List (List ℕ)). record { parts = ts; realm = slice_index_or (texts ++ realm ∷ []) (length texts) [] })
+    (take-append_seam texts (realm ∷ []))
     ∙ ap (λ (r : List ℕ). record { parts = texts; realm = r }) (get_or_push texts realm [] (length texts) refl)
 
-named_given : (texts : List (List ℕ)) (given : List ℕ) → name_by None texts given ≡ record { parts = texts; realm = given }
+named_given : (texts : List (List ℕ)) (given : List ℕ)
+    → name_by None texts given ≡ record { parts = texts; realm = given }
 unfolding name_by
 named_given texts given = refl
 
 abbrev texts_in : List Part → List (List ℕ)
 texts_in parts = map (λ part. part.text) parts
 
-said_as : (word given : List ℕ) (parts : List Part) (realm : Part) → ReadsAs word parts realm (given_part given) → name_said word given ≡ name_of parts realm
+said_as : (word given : List ℕ) (parts : List Part) (realm : Part) → ReadsAs word parts realm (given_part given)
+    → name_said word given ≡ name_of parts realm
 unfolding name_said
 said_as word given parts realm h = elim h.shape [
   | inl own ↦
@@ -90,7 +99,8 @@ said_as word given parts realm h = elim h.shape [
   | inr some ↦
       ap (λ (mark : Option ℕ). name_by mark (texts_in (said_texts (said_in word))) given) some.1
       ∙ ap (λ (ps : List Part). name_by (Some some.0) (texts_in ps) given) some.2
-      ∙ ap (λ (ts : List (List ℕ)). name_by (Some some.0) ts given) (map-append (λ (part : Part). part.text) parts (realm ∷ []))
+      ∙ ap (λ (ts : List (List ℕ)). name_by (Some some.0) ts given)
+      (map-append (λ (part : Part). part.text) parts (realm ∷ []))
       ∙ named_last some.0 (texts_in parts) realm.text given
 ]
 
@@ -112,7 +122,13 @@ unfolding realm_place
 place_said word parts realm s =
     let l = lifted parts s.front s.spells_parts in
     rw (part_mark word l.parts (record { text = realm; bare = is_bare s.back })
-    (record { front = s.front; back = s.back; spells_parts = l.spelled; spells_realm = record { text = s.spells_realm; bare = refl }; whole = s.whole })) refl
+    (record {
+      front = s.front;
+      back = s.back;
+      spells_parts = l.spelled;
+      spells_realm = record { text = s.spells_realm; bare = refl };
+      whole = s.whole;
+    })) refl
 
 -- ---- the three answers
 
@@ -129,12 +145,19 @@ no_same xs ys differ = elim (bytes_eq xs ys) as (λ v. bytes_eq xs ys ≡ v → 
 ] refl
 
 -- the name of the given realm is read
-pub reading_of_name : (word given : List ℕ) (name : NameParts) → Spells word given name → IsName name → name.realm ≡ given → own_name_in word given ≡ Ok name
+pub reading_of_name : (word given : List ℕ) (name : NameParts) → Spells word given name → IsName name
+    → name.realm ≡ given → own_name_in word given ≡ Ok name
 unfolding own_name_in
 reading_of_name word given name h is own =
-    rw (name_faultless word given name h, said_name word given name h, holds_test name is, (bytes_eq-Decides name.realm given).1 own) refl
+    rw (
+      name_faultless word given name h,
+      said_name word given name h,
+      holds_test name is,
+      (bytes_eq-Decides name.realm given).1 own,
+    ) refl
 
-faulty_none : (word given : List ℕ) (fault : Option ℕ) → first_fault word ≡ fault → SpellsNone word given → own_name_in word given ≡ Err (fault_place word)
+faulty_none : (word given : List ℕ) (fault : Option ℕ) → first_fault word ≡ fault → SpellsNone word given
+    → own_name_in word given ≡ Err (fault_place word)
 unfolding own_name_in
 faulty_none word given (Some at) some h = rw some refl
 faulty_none word given None none h =
@@ -145,11 +168,17 @@ other_place : (word given : List ℕ) (place : ℕ) → OtherRealm word given pl
 unfolding own_name_in
 other_place word given place h =
     let spelled : Spells word given h.name = inr h.spelled in
-    rw (name_faultless word given h.name spelled, said_name word given h.name spelled, holds_test h.name h.is_name, no_same h.name.realm given h.other)
+    rw (
+      name_faultless word given h.name spelled,
+      said_name word given h.name spelled,
+      holds_test h.name h.is_name,
+      no_same h.name.realm given h.other,
+    )
     (ap Err (place_said word h.name.parts h.name.realm h.spelled ∙ sym h.place))
 
 -- the place of a refusal is read
-pub reading_of_refusal : (word given : List ℕ) (place : ℕ) → IsRefusedAt word given place → own_name_in word given ≡ Err place
+pub reading_of_refusal : (word given : List ℕ) (place : ℕ) → IsRefusedAt word given place
+    → own_name_in word given ≡ Err place
 reading_of_refusal word given place (inl h) = faulty_none word given (first_fault word) refl h.0 ∙ ap Err (sym h.1)
 reading_of_refusal word given place (inr h) = other_place word given place h
 
@@ -160,7 +189,8 @@ OwnName word given name = Spells word given name × IsName name × (name.realm �
 abbrev Judged : List ℕ → List ℕ → Type 0
 Judged word given = ((name : NameParts) × OwnName word given name) ⊎ ((place : ℕ) × IsRefusedAt word given place)
 
-by_realm : (word given : List ℕ) (name : NameParts) (same : Bool) → bytes_eq name.realm given ≡ same → Spells word given name → IsName name → Judged word given
+by_realm : (word given : List ℕ) (name : NameParts) (same : Bool) → bytes_eq name.realm given ≡ same
+    → Spells word given name → IsName name → Judged word given
 by_realm word given name true same h is = inl (name, (h, is, (bytes_eq-Decides name.realm given).0 same))
 by_realm word given name false same (inl h) is = inl (name, (inl h, is, h.1))
 by_realm word given name false same (inr h) is = inr (
@@ -174,7 +204,8 @@ by_realm word given name false same (inr h) is = inr (
   }),
 )
 
-by_limits : (word given : List ℕ) (name : NameParts) (within : Bool) → is_name name ≡ within → Spells word given name → Judged word given
+by_limits : (word given : List ℕ) (name : NameParts) (within : Bool) → is_name name ≡ within → Spells word given name
+    → Judged word given
 by_limits word given name true is h = by_realm word given name (bytes_eq name.realm given) refl h (test_holds name is)
 by_limits word given name false not_is h = inr (
   fault_place word,
@@ -198,14 +229,16 @@ by_fault word given None none =
     let spelled = faultless_name word given none in
     by_limits word given spelled.0 (is_name spelled.0) refl spelled.1
 
-same_name : (word given : List ℕ) (name : NameParts) → Judged word given → own_name_in word given ≡ Ok name → OwnName word given name
+same_name : (word given : List ℕ) (name : NameParts) → Judged word given → own_name_in word given ≡ Ok name
+    → OwnName word given name
 same_name word given name (inl h) is =
     let ok = reading_of_name word given h.0 h.1.0 h.1.1 h.1.2 in
     let same : h.0 ≡ name = cc in
     subst (λ (n : NameParts). OwnName word given n) same h.1
 same_name word given name (inr h) is = let err = reading_of_refusal word given h.0 h.1 in absurd (cc)
 
-same_place : (word given : List ℕ) (place : ℕ) → Judged word given → own_name_in word given ≡ Err place → IsRefusedAt word given place
+same_place : (word given : List ℕ) (place : ℕ) → Judged word given → own_name_in word given ≡ Err place
+    → IsRefusedAt word given place
 same_place word given place (inl h) is = let ok = reading_of_name word given h.0 h.1.0 h.1.1 h.1.2 in absurd (cc)
 same_place word given place (inr h) is =
     let err = reading_of_refusal word given h.0 h.1 in
@@ -213,19 +246,24 @@ same_place word given place (inr h) is =
     subst (λ (p : ℕ). IsRefusedAt word given p) same h.1
 
 -- what is read is spelled, or refused
-pub name_of_reading : (word given : List ℕ) (name : NameParts) → own_name_in word given ≡ Ok name → Spells word given name × IsName name × (name.realm ≡ given)
+pub name_of_reading : (word given : List ℕ) (name : NameParts) → own_name_in word given ≡ Ok name
+    → Spells word given name × IsName name × (name.realm ≡ given)
 name_of_reading word given name is = same_name word given name (by_fault word given (first_fault word) refl) is
 
-pub refusal_of_reading : (word given : List ℕ) (place : ℕ) → own_name_in word given ≡ Err place → IsRefusedAt word given place
+pub refusal_of_reading : (word given : List ℕ) (place : ℕ) → own_name_in word given ≡ Err place
+    → IsRefusedAt word given place
 refusal_of_reading word given place is = same_place word given place (by_fault word given (first_fault word) refl) is
 
 -- ---- what a reader answers
 
-pub answers_name : (word given : List ℕ) (name : NameParts) → Spells word given name → IsName name → name.realm ≡ given → AnswersReading (own_name_in word given) (Ok name)
+pub answers_name : (word given : List ℕ) (name : NameParts) → Spells word given name → IsName name → name.realm ≡ given
+    → AnswersReading (own_name_in word given) (Ok name)
 unfolding AnswersReading
 answers_name word given name h is own = reading_of_name word given name h is own
 
-pub answers_fault : (word given : List ℕ) (fault : NameFault) → ((offset : ℕ) → fault ≡ BadName offset → IsRefusedAt word given offset) → AnswersReading (own_name_in word given) (Err fault)
+pub answers_fault : (word given : List ℕ) (fault : NameFault)
+    → ((offset : ℕ) → fault ≡ BadName offset → IsRefusedAt word given offset)
+    → AnswersReading (own_name_in word given) (Err fault)
 unfolding AnswersReading
 answers_fault word given MemoryOut refused = tt
 answers_fault word given (BadName offset) refused = reading_of_refusal word given offset (refused offset refl)

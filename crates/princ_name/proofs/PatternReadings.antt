@@ -1,5 +1,6 @@
 -- The pattern of a word, as a function of its bytes, is the one that it spells.
-use Rattle.std.proofs.Common.{◌≡◌, ◌≢◌, ℕ, ◌+◌, ◌-◌, Bool, true, false, Option, Some, None, List, [], ◌∷◌, ◌++◌, length, take, slice_index_or, Ok, Err, inl, inr, refl, sym, ap, subst, ◌∙◌, length-append, arith}
+use Rattle.std.proofs.Common.{◌≡◌, ◌≢◌, ℕ, ◌+◌, ◌-◌, Bool, true, false, Option, Some, None, List, [], ◌∷◌, ◌++◌, length}
+use Rattle.std.proofs.Common.{take, slice_index_or, Ok, Err, inl, inr, refl, sym, ap, subst, ◌∙◌, length-append, arith}
 use Rattle.std.specs.Option.{is_some}
 use Rattle.std.specs.Str.{bytes_eq}
 use Rattle.std.proofs.lemmas.Bool.{true≢false}
@@ -24,15 +25,18 @@ use Rattle.princ_name.proofs.Sound.{NoRealm, WithRealm, sound}
 
 -- ---- the pattern of a word
 
-last_said : (at : ℕ) (given : List ℕ) (parts : List Part) (realm : Part) → pattern_by (Some at) (parts ++ realm ∷ []) given ≡ Parts parts realm
+last_said : (at : ℕ) (given : List ℕ) (parts : List Part) (realm : Part)
+    → pattern_by (Some at) (parts ++ realm ∷ []) given ≡ Parts parts realm
 unfolding pattern_by
 last_said at given parts realm =
     let count : length (parts ++ realm ∷ []) - 1 ≡ length parts = omega (arith, length-append parts (realm ∷ [])) in
     ap (λ (n : ℕ). Parts (take n (parts ++ realm ∷ [])) (slice_index_or (parts ++ realm ∷ []) n empty_part)) count
-    ∙ ap (λ (ps : List Part). Parts ps (slice_index_or (parts ++ realm ∷ []) (length parts) empty_part)) (take-append_seam parts (realm ∷ []))
+    ∙ ap (λ (ps : List Part). Parts ps (slice_index_or (parts ++ realm ∷ []) (length parts) empty_part))
+    (take-append_seam parts (realm ∷ []))
     ∙ ap (λ (p : Part). Parts parts p) (get_or_push parts realm empty_part (length parts) refl)
 
-shape_said : (word given : List ℕ) (parts : List Part) (realm : Part) → ReadsAs word parts realm (given_part given) → pattern_said word given ≡ Parts parts realm
+shape_said : (word given : List ℕ) (parts : List Part) (realm : Part) → ReadsAs word parts realm (given_part given)
+    → pattern_said word given ≡ Parts parts realm
 unfolding pattern_by
 shape_said word given parts realm h = elim h.shape [
   | inl own ↦
@@ -50,14 +54,16 @@ not_star word false is other = refl
 not_star word true is other = absurd (other ((bytes_eq-Decides word (42 ∷ [])).0 is))
 
 -- a word that spells a pattern has it
-pub spelled_is : (word given : List ℕ) (pattern : PatternShape) → SpellsPattern word given pattern → pattern_in word given ≡ Some pattern
+pub spelled_is : (word given : List ℕ) (pattern : PatternShape) → SpellsPattern word given pattern
+    → pattern_in word given ≡ Some pattern
 unfolding pattern_in SpellsPattern
 spelled_is word given Every is = rw ((bytes_eq-Decides word (42 ∷ [])).1 is) refl
 spelled_is word given (Parts parts realm) h =
     let read = word_read word (given_part given) realm parts h.1 in
     let said : pattern_said word given ≡ Parts parts realm = shape_said word given parts realm read in
     let other : bytes_eq word (42 ∷ []) ≡ false = not_star word (bytes_eq word (42 ∷ [])) refl h.0 in
-    let good : within_limits (pattern_said word given) ≡ true = ap within_limits said ∙ holds_test (name_of parts realm) h.2 in
+    let good : within_limits (pattern_said word given) ≡ true =
+    ap within_limits said ∙ holds_test (name_of parts realm) h.2 in
     rw (other, read.faultless, good) (ap Some said)
 
 record Spelled (word given : List ℕ) : Type 0 where
@@ -80,9 +86,16 @@ spelled_with word given h = record {
   parts = (said_in word).first ∷ h.ps;
   realm = h.realm;
   said = ap (λ (mark : Option ℕ). pattern_by mark (said_texts (said_in word)) given) h.place
-      ∙ ap (λ (others : List Part). pattern_by (Some (0 + length h.front + 1)) ((said_in word).first ∷ others) given) h.others_are
+      ∙ ap (λ (others : List Part). pattern_by (Some (0 + length h.front + 1)) ((said_in word).first ∷ others) given)
+      h.others_are
       ∙ last_said (0 + length h.front + 1) given ((said_in word).first ∷ h.ps) h.realm;
-  spelled = inr (record { front = h.front; back = h.back; spells_parts = h.first_spelled; spells_realm = h.realm_spelled; whole = h.whole });
+  spelled = inr (record {
+    front = h.front;
+    back = h.back;
+    spells_parts = h.first_spelled;
+    spells_realm = h.realm_spelled;
+    whole = h.whole;
+  });
 }
 
 faultless_spelled : (word given : List ℕ) → first_fault word ≡ None → Spelled word given
@@ -101,10 +114,12 @@ not_some (Some at) is = absurd (cc)
 -- how the word has no pattern, or the one that it has
 data Found (word given : List ℕ) : Type 0 where
   has_star : word ≡ 42 ∷ [] → pattern_in word given ≡ Some Every → Found word given
-  has_parts : (s : Spelled word given) → word ≢ 42 ∷ [] → IsName (name_of s.parts s.realm) → pattern_in word given ≡ Some (Parts s.parts s.realm) → Found word given
+  has_parts : (s : Spelled word given) → word ≢ 42 ∷ [] → IsName (name_of s.parts s.realm)
+      → pattern_in word given ≡ Some (Parts s.parts s.realm) → Found word given
   has_none : pattern_in word given ≡ None → Found word given
 
-found_within : (word given : List ℕ) → bytes_eq word (42 ∷ []) ≡ false → (s : Spelled word given) → first_fault word ≡ None
+found_within : (word given : List ℕ) → bytes_eq word (42 ∷ []) ≡ false → (s : Spelled word given)
+    → first_fault word ≡ None
     → (b : Bool) → within_limits (pattern_said word given) ≡ b → Found word given
 unfolding pattern_in
 found_within word given other s faultless true good =
@@ -113,12 +128,14 @@ found_within word given other s faultless true good =
     (rw (other, faultless, good) (ap Some s.said))
 found_within word given other s faultless false bad = has_none (rw (other, faultless, bad) refl)
 
-found_other : (word given : List ℕ) → bytes_eq word (42 ∷ []) ≡ false → (b : Bool) → is_some (first_fault word) ≡ b → Found word given
+found_other : (word given : List ℕ) → bytes_eq word (42 ∷ []) ≡ false → (b : Bool) → is_some (first_fault word) ≡ b
+    → Found word given
 unfolding pattern_in
 found_other word given other true faulty = has_none (rw (other, faulty) refl)
 found_other word given other false faultless =
     let clean : first_fault word ≡ None = not_some (first_fault word) faultless in
-    found_within word given other (faultless_spelled word given clean) clean (within_limits (pattern_said word given)) refl
+    found_within word given other (faultless_spelled word given clean) clean
+    (within_limits (pattern_said word given)) refl
 
 found_by : (word given : List ℕ) (b : Bool) → bytes_eq word (42 ∷ []) ≡ b → Found word given
 unfolding pattern_in
@@ -132,31 +149,37 @@ spells_star : (word given : List ℕ) → word ≡ 42 ∷ [] → SpellsPattern w
 unfolding SpellsPattern
 spells_star word given is = is
 
-spells_found : (word given : List ℕ) (parts : List Part) (realm : Part) → word ≢ 42 ∷ [] → SpellsWord SpellsPart word (given_part given) parts realm → IsName (name_of parts realm)
+spells_found : (word given : List ℕ) (parts : List Part) (realm : Part) → word ≢ 42 ∷ []
+    → SpellsWord SpellsPart word (given_part given) parts realm → IsName (name_of parts realm)
     → SpellsPattern word given (Parts parts realm)
 unfolding SpellsPattern
 spells_found word given parts realm other spelled name = (other, spelled, name)
 
-pub is_spelled : (word given : List ℕ) (pattern : PatternShape) → pattern_in word given ≡ Some pattern → SpellsPattern word given pattern
+pub is_spelled : (word given : List ℕ) (pattern : PatternShape) → pattern_in word given ≡ Some pattern
+    → SpellsPattern word given pattern
 is_spelled word given pattern is = elim (found word given) [
   | has_star lone has ↦
       let same : Every ≡ pattern = cc in
       subst (λ (p : PatternShape). SpellsPattern word given p) same (spells_star word given lone)
   | has_parts s other name has ↦
       let same : Parts s.parts s.realm ≡ pattern = cc in
-      subst (λ (p : PatternShape). SpellsPattern word given p) same (spells_found word given s.parts s.realm other s.spelled name)
+      subst (λ (p : PatternShape). SpellsPattern word given p) same
+      (spells_found word given s.parts s.realm other s.spelled name)
   | has_none has ↦ absurd (cc)
 ]
 
 -- a word that spells no pattern has none
-pub none_spelled : (word given : List ℕ) → ((pattern : PatternShape) → SpellsPattern word given pattern → ⊥) → None ≡ pattern_in word given
+pub none_spelled : (word given : List ℕ) → ((pattern : PatternShape) → SpellsPattern word given pattern → ⊥)
+    → None ≡ pattern_in word given
 none_spelled word given absent = elim (found word given) [
   | has_star lone has ↦ absurd (absent Every (spells_star word given lone))
-  | has_parts s other name has ↦ absurd (absent (Parts s.parts s.realm) (spells_found word given s.parts s.realm other s.spelled name))
+  | has_parts s other name has ↦
+      absurd (absent (Parts s.parts s.realm) (spells_found word given s.parts s.realm other s.spelled name))
   | has_none has ↦ sym has
 ]
 
-pub reads_spelled : (word given : List ℕ) (pattern : PatternShape) → SpellsPattern word given pattern → ReadsPattern (pattern_in word given) (Ok pattern)
+pub reads_spelled : (word given : List ℕ) (pattern : PatternShape) → SpellsPattern word given pattern
+    → ReadsPattern (pattern_in word given) (Ok pattern)
 unfolding ReadsPattern
 reads_spelled word given pattern h = spelled_is word given pattern h
 
@@ -165,8 +188,10 @@ unfolding AnswersPattern
 no_answer pattern offset h = h
 
 -- a fault that no spelled pattern has
-pub reads_fault : (word given : List ℕ) (fault : NameFault) → ((pattern : PatternShape) → SpellsPattern word given pattern → AnswersPattern pattern (Err fault))
+pub reads_fault : (word given : List ℕ) (fault : NameFault)
+    → ((pattern : PatternShape) → SpellsPattern word given pattern → AnswersPattern pattern (Err fault))
     → ReadsPattern (pattern_in word given) (Err fault)
 unfolding ReadsPattern
 reads_fault word given MemoryOut only = tt
-reads_fault word given (BadName offset) only = sym (none_spelled word given (λ pattern h. no_answer pattern offset (only pattern h)))
+reads_fault word given (BadName offset) only =
+    sym (none_spelled word given (λ pattern h. no_answer pattern offset (only pattern h)))

@@ -1,5 +1,6 @@
 -- The printed form of a name spells it.
-use Rattle.std.proofs.Common.{◌≡◌, ◌≢◌, ℕ, ◌==◌, Bool, true, false, ◌||◌, ◌&&◌, not, List, [], ◌∷◌, inl, inr, refl, sym, subst}
+use Rattle.std.proofs.Common.{◌≡◌, ◌≢◌, ℕ, ◌==◌, Bool, true, false, ◌||◌, ◌&&◌}
+use Rattle.std.proofs.Common.{not, List, [], ◌∷◌, inl, inr, refl, sym, subst}
 use Rattle.std.proofs.lemmas.Bool.Decides.{eqb_tells}
 use Rattle.std.specs.List.{list_all}
 use Rattle.princ_name.specs.Bytes.{is_refused, is_sign, escaped, can_stand, printed_byte}
@@ -8,8 +9,10 @@ use Rattle.princ_name.specs.Spelling.{SpellsByte, SpellsText, SpellsParts, Spell
 use Rattle.princ_name.specs.ByteLaws.{tests_plain}
 
 -- a byte that is printed with a backslash
-behind : (b n c : ℕ) → b ≡ n → is_refused c ≡ false → n ≡ escaped c → printed_byte n ≡ 92 ∷ c ∷ [] → SpellsByte b (printed_byte b)
-behind b n c is allowed meant form = subst (λ (k : ℕ). SpellsByte k (printed_byte k)) (sym is) (inr (c, allowed, meant, form))
+behind : (b n c : ℕ) → b ≡ n → is_refused c ≡ false → n ≡ escaped c → printed_byte n ≡ 92 ∷ c ∷ []
+    → SpellsByte b (printed_byte b)
+behind b n c is allowed meant form =
+    subst (λ (k : ℕ). SpellsByte k (printed_byte k)) (sym is) (inr (c, allowed, meant, form))
 
 newline : (b : ℕ) → b ≡ 10 → SpellsByte b (printed_byte b)
 unfolding is_refused escaped printed_byte
@@ -69,7 +72,10 @@ byte_printed b stands = elim (eqb_tells b 10) [
                               elim (eqb_tells b 64) [
                                 | inl h ↦ at_sign b h.1
                                 | inr a ↦
-                                    elim (eqb_tells b 92) [ inl h ↦ backslash b h.1 | inr e ↦ other b stands n.0 t.0 k.0 z.0 s.0 a.0 e.0 ]
+                                    elim (eqb_tells b 92) [
+                                      | inl h ↦ backslash b h.1
+                                      | inr e ↦ other b stands n.0 t.0 k.0 z.0 s.0 a.0 e.0
+                                    ]
                               ]
                         ]
                   ]
@@ -88,13 +94,19 @@ text_printed (b ∷ text) h =
     let both = both_true (can_stand b) (list_all can_stand text) h in
     (printed_byte b, printed_text text, byte_printed b both.0, text_printed text both.1, refl)
 
-parts_printed : (parts : List (List ℕ)) → parts ≢ [] → list_all (list_all can_stand) parts ≡ true → SpellsParts SpellsText parts (printed_parts parts)
+parts_printed : (parts : List (List ℕ)) → parts ≢ [] → list_all (list_all can_stand) parts ≡ true
+    → SpellsParts SpellsText parts (printed_parts parts)
 unfolding SpellsParts printed_parts
 parts_printed [] some h = absurd (some refl)
 parts_printed (part ∷ []) some h = text_printed part (both_true (list_all can_stand part) true h).0
 parts_printed (part ∷ next ∷ parts) some h =
-    let both = both_true (list_all can_stand part) (list_all (list_all can_stand) (next ∷ parts)) h in
-    (printed_text part, printed_parts (next ∷ parts), text_printed part both.0, parts_printed (next ∷ parts) (λ none. cc) both.1, refl)
+    let both = both_true (list_all can_stand part) (list_all (list_all can_stand) (next ∷ parts)) h in (
+      printed_text part,
+      printed_parts (next ∷ parts),
+      text_printed part both.0,
+      parts_printed (next ∷ parts) (λ none. cc) both.1,
+      refl,
+    )
 
 pub name_printed : (name : NameParts) (given : List ℕ) → IsName name → Spells (printed name) given name
 unfolding printed

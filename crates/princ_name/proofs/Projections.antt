@@ -7,7 +7,8 @@ use Rattle.princ_name.specs.Whole.{given_part, name_of}
 use Rattle.princ_name.specs.declared.parts.Part.{Part}
 use Rattle.princ_name.proofs.Shapes.{same_shape, word_read}
 
-pub texts_spelled : (ps : List Part) (word : List ℕ) → SpellsParts SpellsPart ps word → SpellsParts SpellsText (map (λ p. p.text) ps) word
+pub texts_spelled : (ps : List Part) (word : List ℕ) → SpellsParts SpellsPart ps word
+    → SpellsParts SpellsText (map (λ p. p.text) ps) word
 unfolding SpellsParts
 texts_spelled [] word h = h
 texts_spelled (p ∷ []) word h = h.text
@@ -23,7 +24,8 @@ realm_texts word ps realm h = record {
   whole = h.whole;
 }
 
-pub word_texts : (word given : List ℕ) (ps : List Part) (realm : Part) → SpellsWord SpellsPart word (given_part given) ps realm
+pub word_texts : (word given : List ℕ) (ps : List Part) (realm : Part)
+    → SpellsWord SpellsPart word (given_part given) ps realm
     → Spells word given (name_of ps realm)
 word_texts word given ps realm (inl h) = inl (texts_spelled ps word h.0, ap (λ (p : Part). p.text) h.1)
 word_texts word given ps realm (inr h) = inr (realm_texts word ps realm h)
@@ -34,7 +36,8 @@ pub record Lifted (texts : List (List ℕ)) (word : List ℕ) : Type 0 where
   pub texts_are : map (λ p. p.text) parts ≡ texts
   pub spelled : SpellsParts SpellsPart parts word
 
-before_lifted : (t : List ℕ) (front back word : List ℕ) (texts : List (List ℕ)) (ps : List Part) → SpellsText t front → map (λ p. p.text) ps ≡ texts
+before_lifted : (t : List ℕ) (front back word : List ℕ) (texts : List (List ℕ)) (ps : List Part) → SpellsText t front
+    → map (λ p. p.text) ps ≡ texts
     → SpellsParts SpellsPart ps back → word ≡ front ++ 47 ∷ back → Lifted (t ∷ texts) word
 unfolding SpellsParts
 before_lifted t front back word texts [] h are spelled whole = absurd spelled
@@ -68,7 +71,8 @@ lifted_name word given name (inl h) =
     record {
       parts = l.parts;
       realm = given_part given;
-      is = ap (λ (ps : List (List ℕ)). record { parts = ps; realm = given }) l.texts_are ∙ ap (λ (r : List ℕ). record { parts = name.parts; realm = r }) (sym h.1);
+      is = ap (λ (ps : List (List ℕ)). record { parts = ps; realm = given }) l.texts_are
+          ∙ ap (λ (r : List ℕ). record { parts = name.parts; realm = r }) (sym h.1);
       spelled = inl (l.spelled, refl);
     }
 lifted_name word given name (inr h) =
@@ -77,7 +81,13 @@ lifted_name word given name (inr h) =
       parts = l.parts;
       realm = record { text = name.realm; bare = is_bare h.back };
       is = ap (λ (ps : List (List ℕ)). record { parts = ps; realm = name.realm }) l.texts_are;
-      spelled = inr (record { front = h.front; back = h.back; spells_parts = l.spelled; spells_realm = record { text = h.spells_realm; bare = refl }; whole = h.whole });
+      spelled = inr (record {
+        front = h.front;
+        back = h.back;
+        spells_parts = l.spelled;
+        spells_realm = record { text = h.spells_realm; bare = refl };
+        whole = h.whole;
+      });
     }
 
 name_is : (ps qs : List Part) (r s : Part) → ps ≡ qs → r ≡ s → name_of ps r ≡ name_of qs s

@@ -1,5 +1,6 @@
 -- A word without a fault is spelled as it is read.
-use Rattle.std.proofs.Common.{◌≡◌, ℕ, ◌+◌, Bool, true, false, Some, None, List, [], ◌∷◌, ◌++◌, length, ◌⊎◌, inl, inr, refl, sym, ap, subst, ◌∙◌, append_assoc, length-append, if◌then◌else◌, arith}
+use Rattle.std.proofs.Common.{◌≡◌, ℕ, ◌+◌, Bool, true, false, Some, None, List, [], ◌∷◌, ◌++◌, length, ◌⊎◌, inl}
+use Rattle.std.proofs.Common.{inr, refl, sym, ap, subst, ◌∙◌, append_assoc, length-append, if◌then◌else◌, arith}
 use Rattle.princ_name.specs.Bytes.{is_refused, is_plain, escaped}
 use Rattle.princ_name.specs.Faults.{fault_from}
 use Rattle.princ_name.specs.Reading.{Said, says, before_plain, before_escaped, before_sign, empty_part}
@@ -35,11 +36,13 @@ escaped_part c part allowed word h = record {
 }
 
 -- bytes that change the first component alone
-before_parts : (p q : Part) (ps : List Part) (pre word : List ℕ) → ((w : List ℕ) → SpellsPart p w → SpellsPart q (pre ++ w))
+before_parts : (p q : Part) (ps : List Part) (pre word : List ℕ)
+    → ((w : List ℕ) → SpellsPart p w → SpellsPart q (pre ++ w))
     → SpellsParts SpellsPart (p ∷ ps) word → SpellsParts SpellsPart (q ∷ ps) (pre ++ word)
 unfolding SpellsParts
 before_parts p q [] pre word step h = step word h
-before_parts p q (n ∷ ps) pre word step h = (pre ++ h.0, h.1, step h.0 h.2, h.3, ap (λ w. pre ++ w) h.4 ∙ sym (append_assoc pre h.0 (47 ∷ h.1)))
+before_parts p q (n ∷ ps) pre word step h =
+    (pre ++ h.0, h.1, step h.0 h.2, h.3, ap (λ w. pre ++ w) h.4 ∙ sym (append_assoc pre h.0 (47 ∷ h.1)))
 
 -- a word with a realm, from this place on
 pub record WithRealm (said : Said) (start : ℕ) (word : List ℕ) : Type 0 where
@@ -74,7 +77,8 @@ parted_before said new start next pre word at others mark step (inl h) = inl (re
   spelled = rw others (before_parts said.first new.first said.others pre word step h.spelled);
 })
 parted_before said new start next pre word at others mark step (inr h) =
-    let sum : next + length h.front + 1 ≡ start + length (pre ++ h.front) + 1 = omega (arith, length-append pre h.front) in
+    let sum : next + length h.front + 1 ≡ start + length (pre ++ h.front) + 1 =
+    omega (arith, length-append pre h.front) in
     inr (record {
       ps = h.ps;
       realm = h.realm;
@@ -87,9 +91,11 @@ parted_before said new start next pre word at others mark step (inr h) =
       place = mark ∙ h.place ∙ ap Some sum;
     })
 
-parted_between : (said : Said) (at : ℕ) (rest : List ℕ) → Parted said (at + 1) rest → Parted (before_sign said) at (47 ∷ rest)
+parted_between : (said : Said) (at : ℕ) (rest : List ℕ) → Parted said (at + 1) rest
+    → Parted (before_sign said) at (47 ∷ rest)
 unfolding before_sign SpellsParts
-parted_between said at rest (inl h) = inl (record { none = h.none; spelled = ([], rest, nothing_spelled, h.spelled, refl) })
+parted_between said at rest (inl h) =
+    inl (record { none = h.none; spelled = ([], rest, nothing_spelled, h.spelled, refl) })
 parted_between said at rest (inr h) =
     let sum : at + 1 + length h.front + 1 ≡ at + length (47 ∷ h.front) + 1 = omega arith in
     inr (record {
@@ -104,7 +110,8 @@ parted_between said at rest (inr h) =
       place = h.place ∙ ap Some sum;
     })
 
-parted_at : (said : Said) (at : ℕ) (rest : List ℕ) → IsText (at + 1) said rest → Parted (before_sign said) at (64 ∷ rest)
+parted_at : (said : Said) (at : ℕ) (rest : List ℕ) → IsText (at + 1) said rest
+    → Parted (before_sign said) at (64 ∷ rest)
 unfolding before_sign SpellsParts
 parted_at said at rest h =
     let sum : at + 1 ≡ at + 0 + 1 = omega arith in
@@ -128,7 +135,8 @@ abbrev start_of : Bool → ℕ → ℕ → Type 0
 start_of true start at = at ≡ start + 1
 start_of false start at = at ≡ start
 
-pub sound_text : (k at : ℕ) (behind : Bool) (word : List ℕ) → fault_from at behind true word ≡ None → IsText k (says at behind (Some k) word) (shown behind word)
+pub sound_text : (k at : ℕ) (behind : Bool) (word : List ℕ) → fault_from at behind true word ≡ None
+    → IsText k (says at behind (Some k) word) (shown behind word)
 unfolding says before_plain before_escaped
 sound_text k at true [] h = absurd (ended_behind at true h)
 sound_text k at false [] h = record { alone = refl; place = refl; spelled = nothing_spelled }
@@ -142,12 +150,14 @@ sound_text k at false (c ∷ rest) h = elim (kind_of at true c rest h) [
       subst (λ (s : Said). IsText k s (c ∷ rest)) (sym (says-plain at c (Some k) rest plain.plain))
       (record { alone = before.alone; place = before.place; spelled = plain_part c _ plain.plain rest before.spelled })
   | inr other ↦ elim other [
-    | inl slash ↦ subst (λ (b : ℕ). IsText k (says at false (Some k) (b ∷ rest)) (b ∷ rest)) (sym slash.is) (sound_text k (at + 1) true rest slash.faultless)
+    | inl slash ↦ subst (λ (b : ℕ). IsText k (says at false (Some k) (b ∷ rest)) (b ∷ rest)) (sym slash.is)
+        (sound_text k (at + 1) true rest slash.faultless)
     | inr sign ↦ elim sign [ inl between ↦ absurd (cc (between.before)) | inr mark ↦ absurd (cc (mark.before)) ]
   ]
 ]
 
-pub sound : (start at : ℕ) (behind : Bool) (word : List ℕ) → start_of behind start at → fault_from at behind false word ≡ None
+pub sound : (start at : ℕ) (behind : Bool) (word : List ℕ) → start_of behind start at
+    → fault_from at behind false word ≡ None
     → Parted (says at behind None word) start (shown behind word)
 unfolding says SpellsParts before_plain before_escaped
 sound start at true [] here h = absurd (ended_behind at false h)
@@ -164,12 +174,17 @@ sound start at false (c ∷ rest) here h = elim (kind_of at false c rest h) [
       (parted_before said (before_plain c said) start (at + 1) (c ∷ []) rest (omega arith) refl refl
       (λ w s. plain_part c said.first plain.plain w s) (sound (at + 1) (at + 1) false rest refl plain.faultless))
   | inr other ↦ elim other [
-    | inl slash ↦ subst (λ (b : ℕ). Parted (says at false None (b ∷ rest)) start (b ∷ rest)) (sym slash.is) (sound start (at + 1) true rest (omega arith) slash.faultless)
+    | inl slash ↦ subst (λ (b : ℕ). Parted (says at false None (b ∷ rest)) start (b ∷ rest)) (sym slash.is)
+        (sound start (at + 1) true rest (omega arith) slash.faultless)
     | inr sign ↦ elim sign [
       | inl between ↦ subst (λ (b : ℕ). Parted (says at false None (b ∷ rest)) start (b ∷ rest)) (sym between.is)
-          (subst (λ (n : ℕ). Parted (before_sign (says (at + 1) false None rest)) n (47 ∷ rest)) here (parted_between (says (at + 1) false None rest) at rest (sound (at + 1) (at + 1) false rest refl between.faultless)))
+          (subst (λ (n : ℕ). Parted (before_sign (says (at + 1) false None rest)) n (47 ∷ rest)) here
+          (parted_between (says (at + 1) false None rest) at rest
+          (sound (at + 1) (at + 1) false rest refl between.faultless)))
       | inr mark ↦ subst (λ (b : ℕ). Parted (says at false None (b ∷ rest)) start (b ∷ rest)) (sym mark.is)
-          (subst (λ (n : ℕ). Parted (before_sign (says (at + 1) false (Some (at + 1)) rest)) n (64 ∷ rest)) here (parted_at (says (at + 1) false (Some (at + 1)) rest) at rest (sound_text (at + 1) (at + 1) false rest mark.faultless)))
+          (subst (λ (n : ℕ). Parted (before_sign (says (at + 1) false (Some (at + 1)) rest)) n (64 ∷ rest)) here
+          (parted_at (says (at + 1) false (Some (at + 1)) rest) at rest
+          (sound_text (at + 1) (at + 1) false rest mark.faultless)))
     ]
   ]
 ]

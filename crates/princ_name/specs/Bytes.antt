@@ -1,4 +1,5 @@
--- The bytes of a principal's name, as they stand in a word and in the name (krb5_parse_name and krb5_unparse_name of MIT Kerberos).
+-- The bytes of a principal's name, as they stand in a word and in the name (krb5_parse_name and krb5_unparse_name of
+-- MIT Kerberos).
 use Rattle.std.specs.Prelude.{ℕ, Bool, not, ◌==◌, ◌||◌, ◌&&◌, nat_lt, List, [], ◌∷◌, if◌then◌else◌}
 
 -- control bytes, which never stand in a word

@@ -1,5 +1,6 @@
 -- Where a word that spells no name is at fault.
-use Rattle.std.specs.Prelude.{ℕ, ◌+◌, ◌-◌, ◌==◌, Bool, true, false, ◌||◌, ◌&&◌, List, [], ◌∷◌, Option, Some, None, length, unwrap_or, if◌then◌else◌}
+use Rattle.std.specs.Prelude.{ℕ, ◌+◌, ◌-◌, ◌==◌, Bool, true, false, ◌||◌, ◌&&◌, List, []}
+use Rattle.std.specs.Prelude.{◌∷◌, Option, Some, None, length, unwrap_or, if◌then◌else◌}
 use Rattle.princ_name.specs.Bytes.{is_refused}
 
 -- the first fault of the bytes from this place on, behind a backslash or not, behind an @ or not: a control byte; a

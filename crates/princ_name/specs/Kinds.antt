@@ -8,7 +8,8 @@ use Rattle.princ_name.specs.declared.parts.Part.{Part}
 unfoldable pub kind_named : List ℕ → Kind
 kind_named [] = Text
 kind_named (star ∷ []) = if star == 42 then Any else Text
-kind_named (star ∷ digit ∷ []) = if star == 42 && nat_le 49 digit && nat_le digit 57 then Wildcard (digit - 49) else Text
+kind_named (star ∷ digit ∷ []) =
+    if star == 42 && nat_le 49 digit && nat_le digit 57 then Wildcard (digit - 49) else Text
 kind_named (star ∷ digit ∷ more ∷ rest) = Text
 
 -- told from unescaped bytes alone: what a backslash stands in is a text

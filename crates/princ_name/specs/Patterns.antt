@@ -1,5 +1,6 @@
 -- Patterns of names: what spells them, what they match, and where their wildcards stand.
-use Rattle.std.specs.Prelude.{ℕ, zero, suc, ◌≡◌, ◌≢◌, ◌+◌, ◌⊎◌, true, List, [], ◌∷◌, ◌++◌, Option, Some, None, Result, Ok, Err, ⊤, if◌then◌else◌}
+use Rattle.std.specs.Prelude.{ℕ, zero, suc, ◌≡◌, ◌≢◌, ◌+◌, ◌⊎◌, true, List, [], ◌∷◌, ◌++◌}
+use Rattle.std.specs.Prelude.{Option, Some, None, Result, Ok, Err, ⊤, if◌then◌else◌}
 use Rattle.princ_name.specs.Kinds.{is_any}
 use Rattle.princ_name.specs.Names.{NameParts, IsName}
 use Rattle.princ_name.specs.Spelling.{SpellsPart, SpellsWord}
@@ -48,7 +49,8 @@ Matches (Parts parts realm) name = MatchesParts parts name.parts × MatchesPart 
 -- the places of the wildcards among these parts, of which the first has this place
 unfoldable pub wild_places : ℕ → List Part → List ℕ
 wild_places place [] = []
-wild_places place (part ∷ parts) = if is_any part then place ∷ wild_places (place + 1) parts else wild_places (place + 1) parts
+wild_places place (part ∷ parts) =
+    if is_any part then place ∷ wild_places (place + 1) parts else wild_places (place + 1) parts
 
 -- the first so many, and None where there are fewer
 unfoldable pub first_of : ℕ → List ℕ → List (Option ℕ)

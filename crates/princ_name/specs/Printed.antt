@@ -1,6 +1,7 @@
--- Names in their printed form, as a test: components with / between them, an @ and a realm. A byte that is a sign, a newline, a
--- tab, a backspace or a nul stands behind a backslash.
-use Rattle.std.specs.Prelude.{ℕ, ◌≡◌, ◌-◌, ◌==◌, Bool, true, false, not, ◌||◌, ◌&&◌, nat_lt, nat_le, List, [], ◌∷◌, codes, length, take, if◌then◌else◌}
+-- Names in their printed form, as a test: components with / between them, an @ and a realm. A byte that is a sign, a
+-- newline, a tab, a backspace or a nul stands behind a backslash.
+use Rattle.std.specs.Prelude.{ℕ, ◌≡◌, ◌-◌, ◌==◌, Bool, true, false, not, ◌||◌, ◌&&◌, nat_lt}
+use Rattle.std.specs.Prelude.{nat_le, List, [], ◌∷◌, codes, length, take, if◌then◌else◌}
 use Rattle.std.specs.Str.{bytes_eq}
 use Rattle.princ_name.specs.Bytes.{is_plain, is_sign}
 use Rattle.princ_name.specs.Names.{NameParts, IsName, printed}
@@ -9,8 +10,8 @@ use Rattle.princ_name.specs.Names.{NameParts, IsName, printed}
 unfoldable pub is_letter : ℕ → Bool
 is_letter c = c == 110 || c == 116 || c == 98 || c == 48 || is_sign c
 
--- what follows is a printed form's end: behind a backslash or not, in the realm or not, where the present text has a byte or
--- not, and so many more components may begin
+-- what follows is a printed form's end: behind a backslash or not, in the realm or not, where the present text has a
+-- byte or not, and so many more components may begin
 unfoldable pub prints : Bool → Bool → Bool → ℕ → List ℕ → Bool
 prints escape realm some left [] = not escape && realm && some
 prints escape realm some left (c ∷ text) =

@@ -1,5 +1,7 @@
 -- Printing part by part; and a printed name is the printed form of some name, and the test of bytes finds just those.
-use Rattle.std.proofs.Common.{◌≡◌, ◌≢◌, ℕ, zero, suc, ◌-◌, ◌<◌, ◌≤◌, Bool, true, false, cond, ◌==◌, ◌&&◌, leb, ltb, List, [], ◌∷◌, ◌++◌, length, get_or, refl, sym, ap, subst, ◌∙◌, append_assoc, append-nil, arith, ◌⊎◌, inl, inr}
+use Rattle.std.proofs.Common.{◌≡◌, ◌≢◌, ℕ, zero, suc, ◌-◌, ◌<◌, ◌≤◌, Bool, true, false, cond, ◌==◌}
+use Rattle.std.proofs.Common.{◌&&◌, leb, ltb, List, [], ◌∷◌, ◌++◌, length, get_or, refl, sym, ap}
+use Rattle.std.proofs.Common.{subst, ◌∙◌, append_assoc, append-nil, arith, ◌⊎◌, inl, inr}
 use Rattle.std.specs.Prelude.{Contains, not, ◌||◌, nat_lt}
 use Rattle.std.specs.List.{list_all}
 use Rattle.std.proofs.lemmas.Bool.{and_parts, and_from, or_cases, eqb-true, ltb-true, lt-ltb, leb-true, le-leb}
@@ -9,7 +11,8 @@ use Rattle.princ_name.specs.Names.{NameParts, IsName, printed, printed_text, pri
 use Rattle.princ_name.specs.Printed.{IsPrinted, is_letter, prints, is_printed}
 use Rattle.princ_name.specs.ByteLaws.{plain_tests, tests_plain}
 
-pub behind-cons : (part : List ℕ) (parts : List (List ℕ)) → behind_parts (part ∷ parts) ≡ 47 ∷ (printed_text part ++ behind_parts parts)
+pub behind-cons : (part : List ℕ) (parts : List (List ℕ))
+    → behind_parts (part ∷ parts) ≡ 47 ∷ (printed_text part ++ behind_parts parts)
 unfolding behind_parts
 behind-cons part parts = refl
 
@@ -17,11 +20,13 @@ pub behind-nil : behind_parts [] ≡ []
 unfolding behind_parts
 behind-nil = refl
 
-pub parts-cons : (part : List ℕ) (parts : List (List ℕ)) → printed_parts (part ∷ parts) ≡ printed_text part ++ behind_parts parts
+pub parts-cons : (part : List ℕ) (parts : List (List ℕ))
+    → printed_parts (part ∷ parts) ≡ printed_text part ++ behind_parts parts
 unfolding printed_parts
 parts-cons part [] = sym (ap (λ w. printed_text part ++ w) behind-nil ∙ append-nil (printed_text part))
 parts-cons part (next ∷ parts) =
-    ap (λ w. printed_text part ++ 47 ∷ w) (parts-cons next parts) ∙ ap (λ w. printed_text part ++ w) (sym (behind-cons next parts))
+    ap (λ w. printed_text part ++ 47 ∷ w) (parts-cons next parts)
+    ∙ ap (λ w. printed_text part ++ w) (sym (behind-cons next parts))
 
 -- one of two tests
 pub either : (b x y : Bool) → cond b x y ≡ true → ((b ≡ true) × (x ≡ true)) ⊎ ((b ≡ false) × (y ≡ true))
@@ -36,19 +41,44 @@ record Goes (text : List ℕ) : Type 0 where
   left : ℕ
   rest : prints escape realm some left text ≡ true
 
-goes : (escape realm some : Bool) (left c : ℕ) (text : List ℕ) → prints escape realm some left (c ∷ text) ≡ true → Goes text
+goes : (escape realm some : Bool) (left c : ℕ) (text : List ℕ)
+    → prints escape realm some left (c ∷ text) ≡ true → Goes text
 unfolding prints
-goes true realm some left c text e = record { escape = false; realm = realm; some = true; left = left; rest = (and_parts (is_letter c) (prints false realm true left text) e).1 }
+goes true realm some left c text e = record {
+  escape = false;
+  realm = realm;
+  some = true;
+  left = left;
+  rest = (and_parts (is_letter c) (prints false realm true left text) e).1;
+}
 goes false realm some left c text e =
     elim (either (c == 92) _ _ e) [
       | inl slash ↦ record { escape = true; realm = realm; some = some; left = left; rest = slash.1 }
       | inr other ↦
           elim (either (c == 47) _ _ other.1) [
-            | inl part ↦ record { escape = false; realm = realm; some = false; left = left - 1; rest = (and_parts (not realm && nat_lt 0 left) (prints false realm false (left - 1) text) part.1).1 }
+            | inl part ↦ record {
+              escape = false;
+              realm = realm;
+              some = false;
+              left = left - 1;
+              rest = (and_parts (not realm && nat_lt 0 left) (prints false realm false (left - 1) text) part.1).1;
+            }
             | inr more ↦
                 elim (either (c == 64) _ _ more.1) [
-                  | inl at ↦ record { escape = false; realm = true; some = false; left = left; rest = (and_parts (not realm) (prints false true false left text) at.1).1 }
-                  | inr plain ↦ record { escape = false; realm = realm; some = true; left = left; rest = (and_parts (is_plain c) (prints false realm true left text) plain.1).1 }
+                  | inl at ↦ record {
+                    escape = false;
+                    realm = true;
+                    some = false;
+                    left = left;
+                    rest = (and_parts (not realm) (prints false true false left text) at.1).1;
+                  }
+                  | inr plain ↦ record {
+                    escape = false;
+                    realm = realm;
+                    some = true;
+                    left = left;
+                    rest = (and_parts (is_plain c) (prints false realm true left text) plain.1).1;
+                  }
                 ]
           ]
     ]
@@ -58,7 +88,8 @@ unfolding prints is_letter is_plain is_sign is_refused
 not_zero true realm some left text e = absurd cc
 not_zero false realm some left text e = absurd cc
 
-pub no_zero : (escape realm some : Bool) (left : ℕ) (text : List ℕ) → prints escape realm some left text ≡ true → (k : ℕ) → k < length text → get_or text k 0 ≡ 0 → ⊥
+pub no_zero : (escape realm some : Bool) (left : ℕ) (text : List ℕ) → prints escape realm some left text ≡ true
+    → (k : ℕ) → k < length text → get_or text k 0 ≡ 0 → ⊥
 no_zero escape realm some left [] e k lt is = absurd (omega arith)
 no_zero escape realm some left (c ∷ text) e zero lt is =
     not_zero escape realm some left text (ap (λ (b : ℕ). prints escape realm some left (b ∷ text)) (sym is) ∙ e)
@@ -138,7 +169,8 @@ record IsRealm (escape some : Bool) (text : List ℕ) : Type 0 where
   bytes : list_all can_stand realm ≡ true
   there : (some ≡ true) ⊎ (realm ≢ [])
 
-realm_is : (escape some : Bool) (left : ℕ) (text : List ℕ) → prints escape true some left text ≡ true → IsRealm escape some text
+realm_is : (escape some : Bool) (left : ℕ) (text : List ℕ) → prints escape true some left text ≡ true
+    → IsRealm escape some text
 unfolding prints printed_text
 realm_is true some left [] e = absurd cc
 realm_is false some left [] e = record { realm = []; text_is = refl; bytes = refl; there = inl e }
@@ -156,7 +188,12 @@ realm_is false some left (c ∷ text) e =
     elim (either (c == 92) _ _ e) [
       | inl slash ↦
           let r = realm_is true some left text slash.1 in
-          record { realm = r.realm; text_is = ap (λ (k : ℕ). k ∷ text) (eqb-true _ _ slash.0) ∙ r.text_is; bytes = r.bytes; there = r.there }
+          record {
+            realm = r.realm;
+            text_is = ap (λ (k : ℕ). k ∷ text) (eqb-true _ _ slash.0) ∙ r.text_is;
+            bytes = r.bytes;
+            there = r.there;
+          }
       | inr other ↦
           elim (either (c == 47) _ _ other.1) [
             | inl part ↦ absurd cc
@@ -169,7 +206,8 @@ realm_is false some left (c ∷ text) e =
                       let r = realm_is false true left text p.1 in
                       record {
                         realm = c ∷ r.realm;
-                        text_is = ap (λ (t : List ℕ). c ∷ t) r.text_is ∙ sym (ap (λ (f : List ℕ). f ++ printed_text r.realm) b.1);
+                        text_is = ap (λ (t : List ℕ). c ∷ t) r.text_is
+                            ∙ sym (ap (λ (f : List ℕ). f ++ printed_text r.realm) b.1);
                         bytes = and_from (can_stand c) (list_all can_stand r.realm) b.0 r.bytes;
                         there = inr (cons_some c r.realm);
                       }
@@ -195,7 +233,8 @@ there_is : (realm : List ℕ) → (false ≡ true) ⊎ (realm ≢ []) → realm 
 there_is realm (inl e) = absurd cc
 there_is realm (inr h) = h
 
-parts_are : (escape some : Bool) (left : ℕ) (text : List ℕ) → prints escape false some left text ≡ true → AreParts escape left text
+parts_are : (escape some : Bool) (left : ℕ) (text : List ℕ) → prints escape false some left text ≡ true
+    → AreParts escape left text
 unfolding prints printed_text behind_parts
 parts_are true some left [] e = absurd cc
 parts_are false some left [] e = absurd cc
@@ -207,7 +246,8 @@ parts_are true some left (c ∷ text) e =
       first = b.0 ∷ r.first;
       others = r.others;
       realm = r.realm;
-      text_is = ap (λ (t : List ℕ). 92 ∷ c ∷ t) r.text_is ∙ sym (ap (λ (f : List ℕ). (f ++ printed_text r.first) ++ tail r.others r.realm) b.1.1);
+      text_is = ap (λ (t : List ℕ). 92 ∷ c ∷ t) r.text_is
+          ∙ sym (ap (λ (f : List ℕ). (f ++ printed_text r.first) ++ tail r.others r.realm) b.1.1);
       few = r.few;
       bytes = and_from (can_stand b.0) (list_all can_stand r.first) b.1.0 r.bytes;
       others_bytes = r.others_bytes;
@@ -241,10 +281,12 @@ parts_are false some left (c ∷ text) e =
                   others = r.first ∷ r.others;
                   realm = r.realm;
                   text_is = ap (λ (k : ℕ). k ∷ text) (eqb-true _ _ part.0)
-                      ∙ ap (λ (t : List ℕ). 47 ∷ t) (r.text_is ∙ sym (append_assoc (printed_text r.first) (behind_parts r.others) (64 ∷ printed_text r.realm)));
+                      ∙ ap (λ (t : List ℕ). 47 ∷ t) (r.text_is
+                      ∙ sym (append_assoc (printed_text r.first) (behind_parts r.others) (64 ∷ printed_text r.realm)));
                   few = omega arith;
                   bytes = refl;
-                  others_bytes = and_from (list_all can_stand r.first) (list_all (list_all can_stand) r.others) r.bytes r.others_bytes;
+                  others_bytes = and_from (list_all can_stand r.first)
+                      (list_all (list_all can_stand) r.others) r.bytes r.others_bytes;
                   realm_bytes = r.realm_bytes;
                   there = r.there;
                 }
@@ -271,7 +313,8 @@ parts_are false some left (c ∷ text) e =
                         first = c ∷ r.first;
                         others = r.others;
                         realm = r.realm;
-                        text_is = ap (λ (t : List ℕ). c ∷ t) r.text_is ∙ sym (ap (λ (f : List ℕ). (f ++ printed_text r.first) ++ tail r.others r.realm) b.1);
+                        text_is = ap (λ (t : List ℕ). c ∷ t) r.text_is
+                            ∙ sym (ap (λ (f : List ℕ). (f ++ printed_text r.first) ++ tail r.others r.realm) b.1);
                         few = r.few;
                         bytes = and_from (can_stand c) (list_all can_stand r.first) b.0 r.bytes;
                         others_bytes = r.others_bytes;
@@ -282,7 +325,8 @@ parts_are false some left (c ∷ text) e =
           ]
     ]
 
-whole_form : (first : List ℕ) (others : List (List ℕ)) (realm : List ℕ) → printed_text first ++ tail others realm ≡ printed (record { parts = first ∷ others; realm = realm })
+whole_form : (first : List ℕ) (others : List (List ℕ)) (realm : List ℕ)
+    → printed_text first ++ tail others realm ≡ printed (record { parts = first ∷ others; realm = realm })
 unfolding printed
 whole_form first others realm =
     sym (append_assoc (printed_text first) (behind_parts others) (64 ∷ printed_text realm))
@@ -312,12 +356,14 @@ test_printed text e =
 
 -- ---- a printed form prints
 
-letter_steps : (b n c : ℕ) (realm some : Bool) (left : ℕ) (rest : List ℕ) → b ≡ n → printed_byte n ≡ 92 ∷ c ∷ [] → is_letter c ≡ true
+letter_steps : (b n c : ℕ) (realm some : Bool) (left : ℕ) (rest : List ℕ) → b ≡ n → printed_byte n ≡ 92 ∷ c ∷ []
+    → is_letter c ≡ true
     → prints false realm some left (printed_byte b ++ rest) ≡ prints false realm true left rest
 unfolding prints
 letter_steps b n c realm some left rest is f e = rw (is, f, e) refl
 
-plain_steps : (b : ℕ) (realm some : Bool) (left : ℕ) (rest : List ℕ) → printed_byte b ≡ b ∷ [] → is_plain b ≡ true → (b == 92) ≡ false → (b == 47) ≡ false → (b == 64) ≡ false
+plain_steps : (b : ℕ) (realm some : Bool) (left : ℕ) (rest : List ℕ) → printed_byte b ≡ b ∷ [] → is_plain b ≡ true
+    → (b == 92) ≡ false → (b == 47) ≡ false → (b == 64) ≡ false
     → prints false realm some left (printed_byte b ++ rest) ≡ prints false realm true left rest
 unfolding prints
 plain_steps b realm some left rest f e x y z = rw (f, x, y, z, e) refl
@@ -326,15 +372,18 @@ unrefused : (r x : Bool) → x ≡ false → not r || x ≡ true → r ≡ false
 unrefused false x none h = refl
 unrefused true x none h = absurd cc
 
-other_steps : (b : ℕ) (realm some : Bool) (left : ℕ) (rest : List ℕ) → can_stand b ≡ true → (b == 10) ≡ false → (b == 9) ≡ false → (b == 8) ≡ false → (b == 0) ≡ false
-    → (b == 47) ≡ false → (b == 64) ≡ false → (b == 92) ≡ false → prints false realm some left (printed_byte b ++ rest) ≡ prints false realm true left rest
+other_steps : (b : ℕ) (realm some : Bool) (left : ℕ) (rest : List ℕ) → can_stand b ≡ true → (b == 10) ≡ false
+    → (b == 9) ≡ false → (b == 8) ≡ false → (b == 0) ≡ false
+    → (b == 47) ≡ false → (b == 64) ≡ false → (b == 92) ≡ false
+    → prints false realm some left (printed_byte b ++ rest) ≡ prints false realm true left rest
 unfolding can_stand printed_byte is_sign
 other_steps b realm some left rest stands n t k z s a e =
     let allowed = unrefused (is_refused b) (b == 10 || b == 9 || b == 8 || b == 0) (rw (n, t, k, z) refl) stands in
     let f : printed_byte b ≡ b ∷ [] = rw (n, t, k, z, s, a, e) refl in
     plain_steps b realm some left rest f (tests_plain b allowed s a e) e s a
 
-byte_steps : (b : ℕ) (realm some : Bool) (left : ℕ) (rest : List ℕ) → can_stand b ≡ true → prints false realm some left (printed_byte b ++ rest) ≡ prints false realm true left rest
+byte_steps : (b : ℕ) (realm some : Bool) (left : ℕ) (rest : List ℕ) → can_stand b ≡ true
+    → prints false realm some left (printed_byte b ++ rest) ≡ prints false realm true left rest
 unfolding printed_byte is_letter is_sign
 byte_steps b realm some left rest stands = elim (eqb_tells b 10) [
   | inl h ↦ letter_steps b 10 110 realm some left rest h.1 refl refl
@@ -367,7 +416,8 @@ grown_true : (text : List ℕ) → grown true text ≡ true
 grown_true [] = refl
 grown_true (b ∷ text) = refl
 
-text_steps : (text : List ℕ) (realm some : Bool) (left : ℕ) (rest : List ℕ) → list_all can_stand text ≡ true → prints false realm some left (printed_text text ++ rest) ≡ prints false realm (grown some text) left rest
+text_steps : (text : List ℕ) (realm some : Bool) (left : ℕ) (rest : List ℕ) → list_all can_stand text ≡ true
+    → prints false realm some left (printed_text text ++ rest) ≡ prints false realm (grown some text) left rest
 unfolding printed_text
 text_steps [] realm some left rest e = refl
 text_steps (b ∷ text) realm some left rest e =
@@ -381,25 +431,32 @@ grown_some : (realm : List ℕ) → realm ≢ [] → grown false realm ≡ true
 grown_some [] h = absurd (h refl)
 grown_some (b ∷ realm) h = refl
 
-realm_prints : (realm : List ℕ) (left : ℕ) → list_all can_stand realm ≡ true → realm ≢ [] → prints false true false left (printed_text realm) ≡ true
+realm_prints : (realm : List ℕ) (left : ℕ) → list_all can_stand realm ≡ true → realm ≢ []
+    → prints false true false left (printed_text realm) ≡ true
 unfolding prints
 realm_prints realm left e some =
-    ap (prints false true false left) (sym (append-nil (printed_text realm))) ∙ text_steps realm true false left [] e ∙ grown_some realm some
+    ap (prints false true false left) (sym (append-nil (printed_text realm))) ∙ text_steps realm true false left [] e
+    ∙ grown_some realm some
 
-tail_prints : (others : List (List ℕ)) (realm : List ℕ) (some : Bool) (left : ℕ) → length others ≤ left → list_all (list_all can_stand) others ≡ true → list_all can_stand realm ≡ true → realm ≢ []
+tail_prints : (others : List (List ℕ)) (realm : List ℕ) (some : Bool) (left : ℕ) → length others ≤ left
+    → list_all (list_all can_stand) others ≡ true → list_all can_stand realm ≡ true → realm ≢ []
     → prints false false some left (tail others realm) ≡ true
 unfolding prints behind_parts
 tail_prints [] realm some left le e f there = realm_prints realm left f there
 tail_prints (p ∷ others) realm some left le e f there =
     let b = and_parts (list_all can_stand p) (list_all (list_all can_stand) others) e in
     let room : ltb 0 left ≡ true = lt-ltb _ _ (omega arith) in
-    let rest : prints false false false (left - 1) ((printed_text p ++ behind_parts others) ++ 64 ∷ printed_text realm) ≡ true =
-    ap (prints false false false (left - 1)) (append_assoc (printed_text p) (behind_parts others) (64 ∷ printed_text realm))
+    let rest : prints false false false (left - 1) ((printed_text p ++ behind_parts others) ++ 64 ∷ printed_text realm)
+    ≡ true =
+    ap (prints false false false (left - 1))
+    (append_assoc (printed_text p) (behind_parts others) (64 ∷ printed_text realm))
     ∙ text_steps p false false (left - 1) (tail others realm) b.0
     ∙ tail_prints others realm (grown false p) (left - 1) (omega arith) b.1 f there in
-    and_from (ltb 0 left) (prints false false false (left - 1) ((printed_text p ++ behind_parts others) ++ 64 ∷ printed_text realm)) room rest
+    and_from (ltb 0 left)
+    (prints false false false (left - 1) ((printed_text p ++ behind_parts others) ++ 64 ∷ printed_text realm)) room rest
 
-name_prints : (parts : List (List ℕ)) (realm : List ℕ) → IsName (record { parts = parts; realm = realm }) → prints false false false 15 (printed (record { parts = parts; realm = realm })) ≡ true
+name_prints : (parts : List (List ℕ)) (realm : List ℕ) → IsName (record { parts = parts; realm = realm })
+    → prints false false false 15 (printed (record { parts = parts; realm = realm })) ≡ true
 name_prints [] realm f = absurd (f.some refl)
 name_prints (first ∷ others) realm f =
     let b = and_parts (list_all can_stand first) (list_all (list_all can_stand) others) f.bytes in
@@ -412,7 +469,8 @@ pub printed_test : (text : List ℕ) → IsPrinted text → is_printed text ≡ 
 unfolding is_printed
 printed_test text p =
     let name = p.0 in
-    let whole : is_printed (printed name) ≡ true = and_from (leb (length (printed name)) 255) (prints false false false 15 (printed name)) (le-leb _ _ p.1.0.short) (name_prints name.parts name.realm p.1.0) in
+    let whole : is_printed (printed name) ≡ true = and_from (leb (length (printed name)) 255)
+    (prints false false false 15 (printed name)) (le-leb _ _ p.1.0.short) (name_prints name.parts name.realm p.1.0) in
     ap is_printed p.1.1 ∙ whole
 
 -- ---- what follows
@@ -424,4 +482,5 @@ printed_short text p = subst (λ (t : List ℕ). length t ≤ 255) (sym p.1.1) p
 pub printed_unbroken : (text : List ℕ) → IsPrinted text → ¬ Contains text 0
 unfolding is_printed
 printed_unbroken text f = λ (k, lt, is).
-    no_zero false false false 15 text (and_parts (leb (length text) 255) (prints false false false 15 text) (printed_test text f)).1 k lt is
+    no_zero false false false 15 text
+    (and_parts (leb (length text) 255) (prints false false false 15 text) (printed_test text f)).1 k lt is

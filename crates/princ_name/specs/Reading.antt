@@ -1,5 +1,6 @@
 -- What a word without a fault says, byte by byte.
-use Rattle.std.specs.Prelude.{ℕ, ◌+◌, ◌≡◌, ◌==◌, Bool, true, false, ◌&&◌, List, [], ◌∷◌, ◌++◌, Option, Some, None, if◌then◌else◌}
+use Rattle.std.specs.Prelude.{ℕ, ◌+◌, ◌≡◌, ◌==◌, Bool, true, false, ◌&&◌, List}
+use Rattle.std.specs.Prelude.{[], ◌∷◌, ◌++◌, Option, Some, None, if◌then◌else◌}
 use Rattle.princ_name.specs.Bytes.{escaped}
 use Rattle.princ_name.specs.Faults.{first_fault}
 use Rattle.princ_name.specs.declared.parts.Part.{Part}

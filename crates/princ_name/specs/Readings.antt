@@ -1,5 +1,6 @@
 -- The name of the given realm that a word spells, or where the word is refused, as a function of its bytes.
-use Rattle.std.specs.Prelude.{ℕ, ◌-◌, Bool, false, not, ◌||◌, ◌&&◌, nat_le, List, [], map, length, take, slice_index_or, Option, Some, None, is_some, unwrap_or, Result, Ok, Err, if◌then◌else◌}
+use Rattle.std.specs.Prelude.{ℕ, ◌-◌, Bool, false, not, ◌||◌, ◌&&◌, nat_le, List, [], map, length, take}
+use Rattle.std.specs.Prelude.{slice_index_or, Option, Some, None, is_some, unwrap_or, Result, Ok, Err, if◌then◌else◌}
 use Rattle.std.specs.List.{list_all}
 use Rattle.std.specs.Str.{bytes_eq}
 use Rattle.princ_name.specs.Bytes.{can_stand}
@@ -18,7 +19,8 @@ is_name name =
 -- the name of these texts: where an @ stands, the last text is the realm, and else the realm is the given one
 unfoldable pub name_by : Option ℕ → List (List ℕ) → List ℕ → NameParts
 name_by None texts given = record { parts = texts; realm = given }
-name_by (Some at) texts given = record { parts = take (length texts - 1) texts; realm = slice_index_or texts (length texts - 1) [] }
+name_by (Some at) texts given =
+    record { parts = take (length texts - 1) texts; realm = slice_index_or texts (length texts - 1) [] }
 
 -- what a word without a fault says
 abbrev pub said_in : List ℕ → Said

@@ -6,7 +6,8 @@ use Rattle.std.proofs.lemmas.Bool.{and_parts, leb-true}
 
 -- letters, digits, `.` and `-`
 abbrev pub is_realm_byte : ℕ → Bool
-is_realm_byte b = (nat_le 97 b && nat_le b 122) || (nat_le 65 b && nat_le b 90) || (nat_le 48 b && nat_le b 57) || nat_eq b 46 || nat_eq b 45
+is_realm_byte b = (nat_le 97 b && nat_le b 122) || (nat_le 65 b && nat_le b 90) || (nat_le 48 b && nat_le b 57)
+    || nat_eq b 46 || nat_eq b 45
 
 -- 1 to 64 such bytes
 abbrev pub is_realm : List ℕ → Bool

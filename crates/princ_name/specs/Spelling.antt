@@ -14,7 +14,8 @@ SpellsByte b piece =
 -- the spellings of the bytes, one behind the other
 unfoldable pub SpellsText : List ℕ → List ℕ → Type 0
 SpellsText [] word = word ≡ []
-SpellsText (b ∷ text) word = (piece : List ℕ) × (rest : List ℕ) × SpellsByte b piece × SpellsText text rest × (word ≡ piece ++ rest)
+SpellsText (b ∷ text) word =
+    (piece : List ℕ) × (rest : List ℕ) × SpellsByte b piece × SpellsText text rest × (word ≡ piece ++ rest)
 
 -- a word in which no backslash stands, which is then the text that it spells
 unfoldable pub is_bare : List ℕ → Bool
@@ -33,7 +34,8 @@ SpellsParts P (part ∷ next ∷ parts) word =
     (front : List ℕ) × (back : List ℕ) × P part front × SpellsParts P (next ∷ parts) back × (word ≡ front ++ 47 ∷ back)
 
 -- the components, an @ and the realm
-pub record SpellsWithRealm {A : Type 0} (P : A → List ℕ → Type 0) (word : List ℕ) (parts : List A) (realm : A) : Type 0 where
+pub record SpellsWithRealm {A : Type 0} (P : A → List ℕ → Type 0) (word : List ℕ) (parts : List A)
+    (realm : A) : Type 0 where
   pub front : List ℕ
   pub back : List ℕ
   pub spells_parts : SpellsParts P parts front

@@ -54,14 +54,17 @@ pub fn own_name_is_spelled()
 /// A realm of a database prints as it is, so a name in it prints as its components do, an `@` and the
 /// realm; and components of few and short enough bytes of names are those of a name in every realm.
 pub fn realms_print_as_they_are()
-    ensures prints { (parts : List (List ℕ)) (realm : List ℕ) → IsRealm realm → printed (name_in parts realm) ≡ printed_parts parts ++ 64 ∷ realm }
-    ensures names { (parts : List (List ℕ)) (realm : List ℕ) → IsRealm realm → parts ≢ [] → length parts ≤ 16 → list_all (list_all can_stand) parts ≡ true
+    ensures prints { (parts : List (List ℕ)) (realm : List ℕ) → IsRealm realm
+        → printed (name_in parts realm) ≡ printed_parts parts ++ 64 ∷ realm }
+    ensures names { (parts : List (List ℕ)) (realm : List ℕ) → IsRealm realm → parts ≢ [] → length parts ≤ 16
+        → list_all (list_all can_stand) parts ≡ true
         → length (printed_parts parts) ≤ 190 → IsName (name_in parts realm) }
 {}
 
 /// A word has the pattern that it spells, and no other.
 pub fn word_has_its_pattern()
-    ensures { (word given : List ℕ) (pattern : PatternShape) → (pattern_in word given ≡ Some pattern) ↔ SpellsPattern word given pattern }
+    ensures { (word given : List ℕ) (pattern : PatternShape)
+        → (pattern_in word given ≡ Some pattern) ↔ SpellsPattern word given pattern }
 {}
 
 /// Names are equal exactly where they have one realm and the same components.

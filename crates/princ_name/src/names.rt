@@ -163,7 +163,8 @@ pub fn parse_own_name(alloc: Global, text: &[u8], realm: &[u8]) -> Result<Name, 
     ensures spelled { IfOk result (λ name. Spells text.now realm.now name) }
     ensures limits { IfOk result (λ name. IsName name) }
     ensures own { IfOk result (λ name. name.realm ≡ realm.now) }
-    ensures only { (name : NameParts) → Spells text.now realm.now name → IsName name → name.realm ≡ realm.now → AnswersName name result }
+    ensures only { (name : NameParts) → Spells text.now realm.now name → IsName name → name.realm ≡ realm.now
+        → AnswersName name result }
     ensures refused { (offset : ℕ) → result ≡ Err (NameFault.BadName offset) → IsRefusedAt text.now realm.now offset }
     ensures value { AnswersReading (own_name_in text.now realm.now) result }
 {

@@ -1,5 +1,6 @@
 ghost use Rattle.princ_name.specs.Patterns.{MatchesPart, MatchesParts, first_of, wild_places};
-ghost use Rattle.std.specs.Prelude.{List, ℕ, ◌≡◌, ◌≢◌, ◌+◌, ◌<◌, ◌↔◌, [], ◌∷◌, ◌++◌, true, false, None, length, IfOk, IfSome, IsTrue, option_map};
+ghost use Rattle.std.specs.Prelude.{List, ℕ, ◌≡◌, ◌≢◌, ◌+◌, ◌<◌, ◌↔◌, [], ◌∷◌, ◌++◌, true};
+ghost use Rattle.std.specs.Prelude.{false, None, length, IfOk, IfSome, IsTrue, option_map};
 
 use crate::faults::NameFault;
 use crate::names::Name;
@@ -153,7 +154,8 @@ impl Pattern {
     /// counts as the one byte that it is, and without an `@` it has the given realm.
     pub fn parse(alloc: Global, text: &[u8], realm: &[u8]) -> Result<Pattern, NameFault>
         ensures spelled { IfOk result (λ pattern. SpellsPattern text.now realm.now pattern) }
-        ensures only { (pattern : PatternShape) → SpellsPattern text.now realm.now pattern → AnswersPattern pattern result }
+        ensures only { (pattern : PatternShape) → SpellsPattern text.now realm.now pattern
+            → AnswersPattern pattern result }
         ensures place { (offset : ℕ) → result ≡ Err (NameFault.BadName offset) → offset ≡ fault_place text.now }
         ensures reading { ReadsPattern (pattern_in text.now realm.now) result }
     {

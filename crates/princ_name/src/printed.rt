@@ -45,7 +45,8 @@ struct Standing {
 /// The standing behind the next byte, where it may stand there.
 #[tactic(auto, unfolding(crate::specs::Printed::prints))]
 fn next(at: Standing, byte: u8) -> Option<Standing>
-    ensures some { IfSome result (λ s. (text : List ℕ) → prints at.escape at.realm at.some at.left (byte ∷ text) ≡ prints s.escape s.realm s.some s.left text) }
+    ensures some { IfSome result (λ s. (text : List ℕ)
+        → prints at.escape at.realm at.some at.left (byte ∷ text) ≡ prints s.escape s.realm s.some s.left text) }
     ensures none { result ≡ None → (text : List ℕ) → prints at.escape at.realm at.some at.left (byte ∷ text) ≡ false }
 {
     if at.escape {
@@ -131,7 +132,8 @@ fn begins_as_master(text: &[u8]) -> bool
 /// Whether a printed name is that of the master key's principal: its components are K and M.
 pub fn is_master(text: &[u8]) -> bool
     ensures value { result ≡ is_master text.now }
-    ensures master { (name : NameParts) → IsName name → text.now ≡ printed name → (result ≡ true) ↔ (name.parts ≡ master_parts) }
+    ensures master { (name : NameParts) → IsName name → text.now ≡ printed name
+        → (result ≡ true) ↔ (name.parts ≡ master_parts) }
 {
     begins_as_master(text)
 }

@@ -1,4 +1,5 @@
-ghost use Rattle.std.specs.Prelude.{List, ℕ, ◌≡◌, ◌+◌, ◌^◌, ◌<◌, ◌⊎◌, [], ◌∷◌, ◌++◌, true, false, Some, None, is_some, IfOk, OnOk, IsTrue};
+ghost use Rattle.std.specs.Prelude.{List, ℕ, ◌≡◌, ◌+◌, ◌^◌, ◌<◌, ◌⊎◌, [], ◌∷◌, ◌++◌, true};
+ghost use Rattle.std.specs.Prelude.{false, Some, None, is_some, IfOk, OnOk, IsTrue};
 ghost use Rattle.princ_name.specs.Bytes.{is_refused, is_plain};
 ghost use Rattle.princ_name.specs.Faults.{first_fault};
 ghost use Rattle.princ_name.specs.Reading.{Says};
@@ -78,7 +79,8 @@ impl Reading {
         requires clear { self.old.behind_slash ≡ false }
         requires sign { (byte ≡ 47) ⊎ (byte ≡ 64) }
         ensures taken { OnOk result (Takes at byte self.old self.new) }
-        ensures fault { (offset : ℕ) → result ≡ Err (NameFault.BadName offset) → (rest : List ℕ) → fault_of at self.old (byte ∷ rest) ≡ Some offset }
+        ensures fault { (offset : ℕ) → result ≡ Err (NameFault.BadName offset) → (rest : List ℕ)
+            → fault_of at self.old (byte ∷ rest) ≡ Some offset }
     {
         if self.realm_at.is_some() {
             return Err(NameFault::BadName { offset: at });
@@ -99,7 +101,8 @@ impl Reading {
     fn take(&mut self, alloc: Global, at: usize, byte: u8) -> Result<(), NameFault>
         requires room { at + 1 < 2 ^ 64 }
         ensures taken { OnOk result (Takes at byte self.old self.new) }
-        ensures fault { (offset : ℕ) → result ≡ Err (NameFault.BadName offset) → (rest : List ℕ) → fault_of at self.old (byte ∷ rest) ≡ Some offset }
+        ensures fault { (offset : ℕ) → result ≡ Err (NameFault.BadName offset) → (rest : List ℕ)
+            → fault_of at self.old (byte ∷ rest) ≡ Some offset }
     {
         if is_refused(byte) {
             return Err(NameFault::BadName { offset: at });

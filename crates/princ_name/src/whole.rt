@@ -35,7 +35,8 @@ struct Shape {
 
 /// Takes the last text as the realm where a sign says so, and else the given one.
 fn with_realm(alloc: Global, spelled: Spelled, given: &[u8]) -> Result<Shape, MemoryOut>
-    ensures { IfOk result (λ s. (word : List ℕ) → Says word spelled.texts.items spelled.last spelled.realm_at → SpellsAt word given.now s.parts.items s.realm s.realm_at) }
+    ensures { IfOk result (λ s. (word : List ℕ) → Says word spelled.texts.items spelled.last spelled.realm_at
+        → SpellsAt word given.now s.parts.items s.realm s.realm_at) }
 {
     let Spelled {
         mut texts,
@@ -62,7 +63,9 @@ fn with_realm(alloc: Global, spelled: Spelled, given: &[u8]) -> Result<Shape, Me
 /// breaks a limit is at fault behind the word's last byte.
 pub fn read_whole(alloc: Global, word: &[u8], given: &[u8]) -> Result<Whole, NameFault>
     ensures whole { IfOk result (λ w. IsWhole word.now given.now w) }
-    ensures only { (parts : List Part) (realm : Part) → SpellsWord SpellsPart word.now (given_part given.now) parts realm → IsName (name_of parts realm) → AnswersParts parts realm result }
+    ensures only { (parts : List Part) (realm : Part)
+        → SpellsWord SpellsPart word.now (given_part given.now) parts realm → IsName (name_of parts realm)
+        → AnswersParts parts realm result }
     ensures place { (offset : ℕ) → result ≡ Err (NameFault.BadName offset) → offset ≡ fault_place word.now }
 {
     let spelled = match read_word(alloc, word) {

@@ -11,7 +11,8 @@ use Rattle.princ_record.specs.declared.princs.Princ.{Princ}
 use Rattle.tagged_data.specs.Numbers.{IsVersion}
 use Rattle.tagged_data.specs.Versions.{AreActivations, IsActivation}
 
-known_active : (list : List Activation) (secs : ℕ) (found : Option ℕ) → AreActivations list → ((v : ℕ) → found ≡ Some v → IsActive list secs v)
+known_active : (list : List Activation) (secs : ℕ) (found : Option ℕ) → AreActivations list
+    → ((v : ℕ) → found ≡ Some v → IsActive list secs v)
     → IfSome found IsVersion
 known_active list secs None are active = tt
 known_active list secs (Some v) are active =
@@ -20,4 +21,5 @@ known_active list secs (Some v) are active =
 
 pub active_known : (p : Princ) (part : ChainPart) (secs : ℕ) (found : Option ℕ) → p.chain ≡ Some part → IsPrinc p
     → ((v : ℕ) → found ≡ Some v → IsActive part.activations secs v) → IfSome found IsVersion
-active_known p part secs found is f active = known_active part.activations secs found (subst IsChainOr is f.facts.chain).activations active
+active_known p part secs found is f active =
+    known_active part.activations secs found (subst IsChainOr is f.facts.chain).activations active

@@ -1,5 +1,6 @@
 -- A new record has a spelling, and shows the new principal.
-use Rattle.std.proofs.Common.{◌≡◌, ℕ, ◌^◌, ◌<◌, true, false, List, [], Option, Some, None, refl, sym, ap, subst, ◌∙◌, arith}
+use Rattle.std.proofs.Common.{◌≡◌, ℕ, ◌^◌, ◌<◌, true, false, List, [], Option}
+use Rattle.std.proofs.Common.{Some, None, refl, sym, ap, subst, ◌∙◌, arith}
 use Rattle.std.specs.Prelude.{IfSome}
 use Rattle.std.specs.List.{AllZip}
 use Rattle.std.proofs.lemmas.List.Elements.{All-nil}
@@ -12,7 +13,8 @@ use Rattle.kadm_commands.specs.Commands.{AreOptions}
 use Rattle.kadm_commands.specs.declared.options.PrincOptions.{PrincOptions}
 use Rattle.kdb_base.specs.Key.{Key}
 use Rattle.kdb_base.specs.declared.versions.Master.{Master}
-use Rattle.kdb_model.specs.Fields.{By, added_head, blank_head, keyed_by, limited, marked, wanted_of, with_options, with_wanted}
+use Rattle.kdb_model.specs.Fields.{By, added_head, blank_head, keyed_by, limited}
+use Rattle.kdb_model.specs.Fields.{marked, wanted_of, with_options, with_wanted}
 use Rattle.kdb_plain.specs.Heads.{head, plain_head, plain_of}
 use Rattle.kdb_plain.specs.States.{master_of}
 use Rattle.plain_keys.specs.declared.items.PlainItem.{PlainItem}
@@ -72,7 +74,8 @@ module _ (name : List ℕ) (version : ℕ) (policy : Option (List ℕ)) (options
   unfolding added_head
   head_attributes life limits fit are = limited_attributes limits by.secs (asked life) fit (asked_attributes life are)
 
-  pub head_policy : (life : Option ℕ) (limits : Option Limits) → IfSome limits IsLimits → IsPolicyOr policy → IsPolicyOr (head_of life limits).policy
+  pub head_policy : (life : Option ℕ) (limits : Option Limits) → IfSome limits IsLimits → IsPolicyOr policy
+      → IsPolicyOr (head_of life limits).policy
   unfolding added_head
   head_policy life limits fit named = limited_policy limits by.secs (asked life) fit (asked_policy life named)
 
@@ -103,7 +106,8 @@ module _ (name : List ℕ) (version : ℕ) (policy : Option (List ℕ)) (options
     whole = λ items. refl;
   }
 
-  limited_told : (limits : Option Limits) (secs : ℕ) (h : Princ) → AreTold name version by h → AreTold name version by (limited limits secs h)
+  limited_told : (limits : Option Limits) (secs : ℕ) (h : Princ) → AreTold name version by h
+      → AreTold name version by (limited limits secs h)
   limited_told None secs h t = t
   limited_told (Some l) secs h t = record {
     name_is = t.name_is;
@@ -124,7 +128,8 @@ module _ (name : List ℕ) (version : ℕ) (policy : Option (List ℕ)) (options
 
 -- ---- spellings
 
-pub fields_formed : (name : List ℕ) (version : ℕ) (by : By) (h : Princ) → AreTold name version by h → IsBy by → IsPrinted name
+pub fields_formed : (name : List ℕ) (version : ℕ) (by : By) (h : Princ) → AreTold name version by h → IsBy by
+    → IsPrinted name
     → is_master name ≡ false → IsVersion version
     → are_attributes h.attributes ≡ true
     → AreLives (lives_of h) → IsPolicyOr h.policy → AreFields h
@@ -142,20 +147,29 @@ fields_formed name version by h t is prints other known attributes lives named =
   policy = named;
 }
 
-module _ (name : List ℕ) (version : ℕ) (by : By) (h : Princ) (t : AreTold name version by h) (keys : List KeyItem) (items : List PlainItem) where
+module _ (name : List ℕ) (version : ℕ) (by : By) (h : Princ) (t : AreTold name version by h) (keys : List KeyItem)
+    (items : List PlainItem) where
   no_sets : (history : Key) → AllZip (ShowsSet history) h.old []
   no_sets history = subst (λ (sets : List OldSet). AllZip (ShowsSet history) sets []) (sym t.old) tt
 
   pub new_under : (master history : Key) → AllZip (ShowsItem master) keys items
       → ShowsUnder master history (record h { keys = keys }) (plain_of h items [])
-  new_under master history shows = record { fields = t.bare keys ∙ sym (t.whole items); keys = shows; old = no_sets history }
+  new_under master history shows =
+      record { fields = t.bare keys ∙ sym (t.whole items); keys = shows; old = no_sets history }
 
-  pub new_shows : (masters : List Master) (master history : Key) → master_of masters version ≡ Some master → AllZip (ShowsItem master) keys items
+  pub new_shows : (masters : List Master) (master history : Key) → master_of masters version ≡ Some master
+      → AllZip (ShowsItem master) keys items
       → ShowsPrinc masters history (record h { keys = keys }) (plain_of h items [])
   new_shows masters master history is shows =
       record { master = master; named = ap (master_of masters) t.mkvno ∙ is; under = new_under master history shows }
 
-  pub new_fits : (master : Key) → AllZip (ShowsItem master) keys items → AreFields h → AreItems items → IsPrinc (record h { keys = keys })
+  pub new_fits : (master : Key) → AllZip (ShowsItem master) keys items → AreFields h → AreItems items
+      → IsPrinc (record h { keys = keys })
   new_fits master shows fields are =
-      formed_princ master master (record h { keys = keys }) (plain_of h items []) (new_under master master shows) t.chain
-      (record { fields = subst AreFields (sym (t.whole items)) fields; keys = are; old = record { few = omega arith; each = All-nil IsSet } })
+      formed_princ master master (record h { keys = keys }) (plain_of h items [])
+      (new_under master master shows) t.chain
+      (record {
+        fields = subst AreFields (sym (t.whole items)) fields;
+        keys = are;
+        old = record { few = omega arith; each = All-nil IsSet };
+      })

@@ -1,6 +1,8 @@
 -- Plans of addprinc.
-use Rattle.std.proofs.Common.{◌≡◌, ℕ, ◌+◌, ◌<◌, Bool, true, false, ◌&&◌, List, [], ◌∷◌, ◌++◌, length, Option, Some, None, refl, sym, ap, subst, ◌∙◌, arith}
-use Rattle.std.specs.Prelude.{Result, if◌then◌else◌, Err, IfSome, is_some, nat_le, nat_lt, option_and_then, option_map, unwrap_or}
+use Rattle.std.proofs.Common.{◌≡◌, ℕ, ◌+◌, ◌<◌, Bool, true, false, ◌&&◌, List, [], ◌∷◌, ◌++◌}
+use Rattle.std.proofs.Common.{length, Option, Some, None, refl, sym, ap, subst, ◌∙◌, arith}
+use Rattle.std.specs.Prelude.{Result, if◌then◌else◌, Err, IfSome, is_some, nat_le}
+use Rattle.std.specs.Prelude.{nat_lt, option_and_then, option_map, unwrap_or}
 use Rattle.std.specs.List.{AllZip, list_any}
 use Rattle.std.proofs.lemmas.Bool.{le-ltb, leb-false}
 use Rattle.acl_text.specs.Restricting.{restricted}
@@ -22,7 +24,8 @@ use Rattle.kdb_base.specs.Key.{Key}
 use Rattle.kdb_base.specs.Limits.{most_keys, most_rows}
 use Rattle.kdb_base.specs.Moment.{Moment}
 use Rattle.kdb_base.specs.declared.outcomes.Refusal.{Refusal}
-use Rattle.kdb_base.specs.declared.outcomes.Refusal.TheVariants.{Duplicate, KeysFull, PassClasses, PassTooShort, Protected, RowsFull}
+use Rattle.kdb_base.specs.declared.outcomes.Refusal.TheVariants.{Duplicate, KeysFull, PassClasses}
+use Rattle.kdb_base.specs.declared.outcomes.Refusal.TheVariants.{PassTooShort, Protected, RowsFull}
 use Rattle.kdb_base.specs.declared.versions.Activation.{Activation}
 use Rattle.kdb_base.specs.declared.versions.Master.{Master}
 use Rattle.kdb_model.proofs.Accepted.{one_name}
@@ -30,7 +33,8 @@ use Rattle.kdb_model.specs.Access.{adding, limits_for}
 use Rattle.kdb_model.specs.Calls.{Call}
 use Rattle.kdb_model.specs.Entries.{entry_of}
 use Rattle.kdb_model.specs.Fields.{By, added_head, blank_head, forced, with_options}
-use Rattle.kdb_model.specs.Records.{active_in, added, added_policy, by_of, default_given, default_policy, line_policy, numbers_for}
+use Rattle.kdb_model.specs.Records.{active_in, added, added_policy, by_of, default_given}
+use Rattle.kdb_model.specs.Records.{default_policy, line_policy, numbers_for}
 use Rattle.kdb_model.specs.Refusals.{fails_by, first, is_protected, refusal, when}
 use Rattle.kdb_places.proofs.Judged.{may_from}
 use Rattle.kdb_places.specs.Applying.{may_apply}
@@ -56,7 +60,8 @@ use Rattle.princ_plans.proofs.AddTests.{add_tests, classes, full, large, many, m
 use Rattle.princ_plans.proofs.NewItems.{made_formed, no_items}
 use Rattle.princ_plans.proofs.PolicyFits.{chosen_fits, missing_alike}
 use Rattle.princ_plans.specs.Active.{IsActiveMaster, active_of}
-use Rattle.princ_plans.specs.Adding.{add_causes, added_record, head_given, items_given, life_given, numbers_given, password_given, policy_given}
+use Rattle.princ_plans.specs.Adding.{add_causes, added_record, head_given, items_given}
+use Rattle.princ_plans.specs.Adding.{life_given, numbers_given, password_given, policy_given}
 use Rattle.princ_plans.specs.Limits.{limits_given}
 use Rattle.princ_plans.specs.NewRecords.{IsNewRecord}
 use Rattle.princ_plans.specs.Policies.{missing_policy}
@@ -75,17 +80,20 @@ use Rattle.row_keys.specs.Sides.{AreBoth}
 -- ---- the command
 
 abbrev IsWell : List ℕ → AddPrinc → Type 0
-IsWell realm c = IsOwnName realm c.name × IfSome c.keys IsNewKeys × IfSome c.policy IsPolicyChoice × AreOptions c.options
+IsWell realm c =
+    IsOwnName realm c.name × IfSome c.keys IsNewKeys × IfSome c.policy IsPolicyChoice × AreOptions c.options
 
 add_well : (realm : List ℕ) (c : AddPrinc) → IsCommand realm (command.AddPrinc c) → IsWell realm c
 unfolding IsCommand
 add_well realm c is = is
 
-add_room : (p : Princ) (rows : RowLists) → length rows.princs + length rows.policies < most_rows → IsRoom (effect (Some (op.PutPrinc p)) rows)
+add_room : (p : Princ) (rows : RowLists) → length rows.princs + length rows.policies < most_rows
+    → IsRoom (effect (Some (op.PutPrinc p)) rows)
 unfolding effect put_princ
 add_room p rows lt = omega (arith, put_short (λ (q : Princ). q.name) p rows.princs)
 
-may_add : (p : Princ) (rows : RowLists) → length rows.princs + length rows.policies < most_rows → may_apply (op.PutPrinc p) rows ≡ true
+may_add : (p : Princ) (rows : RowLists) → length rows.princs + length rows.policies < most_rows
+    → may_apply (op.PutPrinc p) rows ≡ true
 may_add p rows lt = may_from (op.PutPrinc p) rows (add_room p rows lt) tt
 
 default_fits : (b : Bool) → IsPolicyOr (if b then Some default_policy else None)
@@ -104,7 +112,8 @@ some_alike R (Some x) (Some y) h = refl
 some_alike R None (Some y) h = absurd h
 some_alike R (Some x) None h = absurd h
 
-head_forced : (name : List ℕ) (version : ℕ) (policy : Option (List ℕ)) (life : Option ℕ) (limits : Option Limits) (options : PrincOptions) (by : By)
+head_forced : (name : List ℕ) (version : ℕ) (policy : Option (List ℕ)) (life : Option ℕ) (limits : Option Limits)
+    (options : PrincOptions) (by : By)
     → (added_head name version policy life limits options by).policy ≡ forced limits policy
 unfolding added_head with_options blank_head restricted
 head_forced name version policy None None options by = refl
@@ -142,7 +151,8 @@ module _ (g : Given) (c : AddPrinc) where
     put_policy : (added s here c).policy ≡ policy_given g c
     unfolding added limits_for
     put_policy =
-        head_forced (printed c.name) (active_in s here) (line_policy c s.policies) (life_in s.policies) limits c.options (by_of s here)
+        head_forced (printed c.name) (active_in s here) (line_policy c s.policies) (life_in s.policies) limits c.options
+        (by_of s here)
         ∙ ap (λ (ps : List Rules). policy_in ps) policies_are
 
     -- ---- the causes
@@ -173,11 +183,13 @@ module _ (g : Given) (c : AddPrinc) where
         (items_formed g.random.now c.name c.keys are).few in
         ap (λ b. when (is_some c.keys && b) KeysFull) few ∙ ap (λ b. when b KeysFull) (and_false (is_some c.keys))
 
-    full_is : full s here c ≡ when (nat_le most_rows (length g.rows.now.princs + length g.rows.now.policies)) (RowsFull most_rows)
+    full_is : full s here c
+        ≡ when (nat_le most_rows (length g.rows.now.princs + length g.rows.now.policies)) (RowsFull most_rows)
     full_is =
         ap (λ n. when (nat_le most_rows (n + length s.policies)) (RowsFull most_rows))
         (sym (counted_alike s.masters given.seen.shows.history g.rows.now.princs s.princs given.seen.shows.princs))
-        ∙ ap (λ (ps : List Rules). when (nat_le most_rows (length g.rows.now.princs + length ps)) (RowsFull most_rows)) policies_are
+        ∙ ap (λ (ps : List Rules). when (nat_le most_rows (length g.rows.now.princs + length ps)) (RowsFull most_rows))
+        policies_are
 
     without : (o : Option Refusal) (xs : List (Option Refusal)) → o ≡ None → first (o ∷ xs) ≡ first xs
     unfolding first
@@ -200,12 +212,14 @@ module _ (g : Given) (c : AddPrinc) where
           ap (λ (list : List Activation). active list g.moment.secs) (sym shows.chain.activations_are)
           ∙ ap (option_and_then (λ (part : ChainPart). active part.activations g.moment.secs)) (sym shows.chain.part_is)
           ∙ ap (option_and_then (active_of g)) (sym shows.there)
-          ∙ ap (λ (r : List ℕ). option_and_then (active_of g) (record_named (master_name r) g.rows.now.princs)) given.seen.realm_is
+          ∙ ap (λ (r : List ℕ). option_and_then (active_of g) (record_named (master_name r) g.rows.now.princs))
+          given.seen.realm_is
           ∙ is.active
 
       active_is : active_in s here ≡ version
       active_is =
-          ap (λ (m : Moment). unwrap_or (active s.activations m.secs) 0) given.called.moment_is ∙ ap (λ (o : Option ℕ). unwrap_or o 0) active_told
+          ap (λ (m : Moment). unwrap_or (active s.activations m.secs) 0) given.called.moment_is
+          ∙ ap (λ (o : Option ℕ). unwrap_or o 0) active_told
 
       key_there : master_of s.masters version ≡ Some key
       key_there = ap (λ (ms : List Master). master_of ms version) given.seen.masters_are ∙ is.key_is
@@ -216,9 +230,11 @@ module _ (g : Given) (c : AddPrinc) where
           ap (λ (b : By). plain_of (added_head (printed c.name) (active_in s here) (line_policy c s.policies)
           (life_in s.policies) limits c.options b) (items_given g c) [])
           (by_alike g (command.AddPrinc c) s call given)
-          ∙ ap (λ (n : ℕ). plain_of (added_head (printed c.name) n (line_policy c s.policies) (life_in s.policies) limits c.options (by_given g))
+          ∙ ap (λ (n : ℕ). plain_of
+          (added_head (printed c.name) n (line_policy c s.policies) (life_in s.policies) limits c.options (by_given g))
           (items_given g c) []) active_is
-          ∙ ap (λ (ps : List Rules). plain_of (added_head (printed c.name) version (line_policy c ps) (life_in ps) limits c.options (by_given g))
+          ∙ ap (λ (ps : List Rules).
+          plain_of (added_head (printed c.name) version (line_policy c ps) (life_in ps) limits c.options (by_given g))
           (items_given g c) []) policies_are
 
   -- ---- plans
@@ -238,7 +254,8 @@ module _ (g : Given) (c : AddPrinc) where
     well = add_well g.realm.now c command_is
 
     told_head : AreTold (printed c.name) is.version (by_given g) (head_given g c is.version)
-    told_head = told (printed c.name) is.version (line_policy c g.rows.now.policies) c.options (by_given g) (life_given g c) limits
+    told_head = told (printed c.name) is.version (line_policy c g.rows.now.policies) c.options (by_given g)
+        (life_given g c) limits
 
     abbrev keys_of : List KeyItem
     keys_of = wrapped_new is.key g.random.now (items_given g c) c.keys
@@ -246,7 +263,8 @@ module _ (g : Given) (c : AddPrinc) where
     keys_show : AllZip (ShowsItem is.key) keys_of (items_given g c)
     keys_show = subst (λ (m : Princ). AllZip (ShowsItem is.key) m.keys (items_given g c)) is.made_is is.shows
 
-    no_causes : (list_any (is_protected g.realm.now) (c.name ∷ []) ≡ false) × (length g.rows.now.princs + length g.rows.now.policies < most_rows)
+    no_causes : (list_any (is_protected g.realm.now) (c.name ∷ []) ≡ false)
+        × (length g.rows.now.princs + length g.rows.now.policies < most_rows)
     no_causes =
         let a = none_of _ _ none in
         let b = none_of _ _ a.1 in
@@ -256,8 +274,10 @@ module _ (g : Given) (c : AddPrinc) where
         let q = none_of _ _ p.1 in
         let f = none_of _ _ q.1 in
         let rows = length g.rows.now.princs + length g.rows.now.policies in
-        let free = when_not (nat_le most_rows rows) (RowsFull most_rows) f.0 in
-        (when_not (list_any (is_protected g.realm.now) (c.name ∷ [])) Protected b.0, omega (arith, leb-false most_rows rows free))
+        let free = when_not (nat_le most_rows rows) (RowsFull most_rows) f.0 in (
+          when_not (list_any (is_protected g.realm.now) (c.name ∷ [])) Protected b.0,
+          omega (arith, leb-false most_rows rows free),
+        )
 
     head_fields : IsRealm g.realm.now → AreFields (head_given g c is.version)
     head_fields realm =
@@ -265,8 +285,10 @@ module _ (g : Given) (c : AddPrinc) where
         let named : IsPolicyOr policy = chosen_fits c.policy (default_given g.rows.now.policies) well.2
         (default_fits (has_policy default_policy g.rows.now.policies)) in
         fields_formed (printed c.name) is.version (by_given g) (head_given g c is.version) told_head is.by
-        (c.name, (well.0.is_name, refl)) (not_master g.realm.now c.name realm well.0.own (one_name g.realm.now c.name no_causes.0)) is.active.known
-        (head_attributes (printed c.name) is.version policy c.options (by_given g) (life_given g c) limits is.limits well.3)
+        (c.name, (well.0.is_name, refl))
+        (not_master g.realm.now c.name realm well.0.own (one_name g.realm.now c.name no_causes.0)) is.active.known
+        (head_attributes (printed c.name) is.version policy c.options (by_given g)
+        (life_given g c) limits is.limits well.3)
         (subst (λ (m : Princ). AreLives (lives_of m)) is.made_is is.lives)
         (head_policy (printed c.name) is.version policy c.options (by_given g) (life_given g c) limits is.limits named)
 
@@ -280,8 +302,10 @@ module _ (g : Given) (c : AddPrinc) where
     made_shows : (s : State) (call : Call) (given : IsGiven g (command.AddPrinc c) s call)
         → ShowsPrinc s.masters given.seen.shows.history made (added s (here s call given) c)
     made_shows s call given =
-        subst (λ (m : Princ). ShowsPrinc s.masters given.seen.shows.history m (added s (here s call given) c)) (sym is.made_is)
-        (subst (λ (q : PlainPrinc). ShowsPrinc s.masters given.seen.shows.history (added_record g c is.version is.key) q)
+        subst (λ (m : Princ). ShowsPrinc s.masters given.seen.shows.history m (added s (here s call given) c))
+        (sym is.made_is)
+        (subst (λ (q : PlainPrinc).
+        ShowsPrinc s.masters given.seen.shows.history (added_record g c is.version is.key) q)
         (sym (added_is s call given is.version is.key is.active))
         (new_shows (printed c.name) is.version (by_given g)
         (head_given g c is.version) told_head keys_of (items_given g c)
@@ -297,12 +321,14 @@ module _ (g : Given) (c : AddPrinc) where
         let at = here s call given in
         ap (λ (n : ℕ). option_map (λ (master : Key). op.PutPrinc (kept_added master s at c)) (master_of s.masters n))
         (active_is s call given is.version is.key is.active)
-        ∙ ap (option_map (λ (master : Key). op.PutPrinc (kept_added master s at c))) (key_there s call given is.version is.key is.active)
+        ∙ ap (option_map (λ (master : Key). op.PutPrinc (kept_added master s at c)))
+        (key_there s call given is.version is.key is.active)
         ∙ ap (λ (q : PlainPrinc). put_with (plain_head q)) (added_is s call given is.version is.key is.active)
         ∙ ap put_with (told_head.whole (items_given g c))
         ∙ ap (λ (m : Princ). Some (op.PutPrinc m)) (sym is.made_is)
 
-    pub adds : (plan : Result Planned Refusal) → IsRealm g.realm.now → IsPut op.PutPrinc made plan → IsJudged g (command.AddPrinc c) plan
+    pub adds : (plan : Result Planned Refusal) → IsRealm g.realm.now → IsPut op.PutPrinc made plan
+        → IsJudged g (command.AddPrinc c) plan
     unfolding entry_of
     adds plan realm put =
         puts g (command.AddPrinc c) made (add_fits realm) (ap (λ (m : Princ). m.chain) is.made_is ∙ told_head.chain)

@@ -23,7 +23,8 @@ each_known : (n : ℕ) (flags : List FlagChange) → are_attributes n ≡ true �
 each_known n [] e f = e
 each_known n (flag ∷ flags) e f = each_known (with_flag n flag) flags (set_known flag.set n flag.bit e f.0) f.1
 
-pub flags_known : (n : ℕ) (flags : List FlagChange) → are_attributes n ≡ true → All (λ (flag : FlagChange). IsTrue (are_attributes flag.bit)) flags
+pub flags_known : (n : ℕ) (flags : List FlagChange) → are_attributes n ≡ true
+    → All (λ (flag : FlagChange). IsTrue (are_attributes flag.bit)) flags
     → are_attributes (with_flags n flags) ≡ true
 unfolding with_flags
 flags_known n flags e f = each_known n flags e (recursion_from_All IsKnown flags f)

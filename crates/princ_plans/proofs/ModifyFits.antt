@@ -26,7 +26,8 @@ use Rattle.row_keys.specs.Shows.{ShowsPrinc}
 abbrev with_fields : Wanted → By → Princ → Princ
 with_fields w by p = with_wanted w (marked by p)
 
-fields_fit : (w : Wanted) (by : By) (p : Princ) → IsBy by → IsTrue (are_attributes w.attributes) → AreLives (lives_of (with_fields w by p))
+fields_fit : (w : Wanted) (by : By) (p : Princ) → IsBy by → IsTrue (are_attributes w.attributes)
+    → AreLives (lives_of (with_fields w by p))
     → IsPolicyOr w.policy
     → IsPrinc p → IsPrinc (with_fields w by p)
 fields_fit w by p is attributes lives policy f = record {
@@ -51,7 +52,8 @@ fields_fit w by p is attributes lives policy f = record {
 }
 
 -- the attributes and the policy behind restrictions
-pub limited_attributes : (limits : Option Limits) (secs : ℕ) (h : Princ) → IfSome limits IsLimits → are_attributes h.attributes ≡ true
+pub limited_attributes : (limits : Option Limits) (secs : ℕ) (h : Princ) → IfSome limits IsLimits
+    → are_attributes h.attributes ≡ true
     → are_attributes (limited limits secs h).attributes ≡ true
 unfolding restricted
 limited_attributes None secs h fit e = e
@@ -76,11 +78,14 @@ module _ (choice : Option PolicyChoice) (options : PrincOptions) (by : By) (p : 
   unfolding with_options
   asked_policy named f = chosen_fits choice p.policy named f.policy
 
-  pub modified_fits : (limits : Option Limits) → IfSome limits IsLimits → IfSome choice IsPolicyChoice → AreOptions options → IsBy by
-      → AreLives (lives_of (modified_head choice limits options by p)) → IsPrinc p → IsPrinc (modified_head choice limits options by p)
+  pub modified_fits : (limits : Option Limits) → IfSome limits IsLimits → IfSome choice IsPolicyChoice
+      → AreOptions options → IsBy by
+      → AreLives (lives_of (modified_head choice limits options by p)) → IsPrinc p
+      → IsPrinc (modified_head choice limits options by p)
   unfolding modified_head with_options
   modified_fits None fit named are is lives f =
-      fields_fit (wanted_of (modified_head choice None options by p)) by p is (asked_attributes are f) lives (asked_policy named f) f
+      fields_fit (wanted_of (modified_head choice None options by p)) by p is (asked_attributes are f) lives
+      (asked_policy named f) f
   modified_fits (Some l) fit named are is lives f =
       fields_fit (wanted_of (modified_head choice (Some l) options by p)) by p is
       (limited_attributes (Some l) by.secs asked fit (asked_attributes are f)) lives
@@ -88,7 +93,8 @@ module _ (choice : Option PolicyChoice) (options : PrincOptions) (by : By) (p : 
 
 -- ---- what is shown
 
-module _ (masters : List Master) (history : Key) (choice : Option PolicyChoice) (options : PrincOptions) (by : By) (p : Princ) (q : PlainPrinc) where
+module _ (masters : List Master) (history : Key) (choice : Option PolicyChoice) (options : PrincOptions) (by : By)
+    (p : Princ) (q : PlainPrinc) where
   pub modified_shows : (limits : Option Limits) → ShowsPrinc masters history p q
       → ShowsPrinc masters history (modified_head choice limits options by p)
       (plain_of (modified_head choice limits options by (plain_head q)) q.keys q.old)
@@ -96,12 +102,20 @@ module _ (masters : List Master) (history : Key) (choice : Option PolicyChoice) 
   modified_shows None f = record {
     master = f.master;
     named = f.named;
-    under = record { fields = ap (modified_head choice None options by) f.under.fields; keys = f.under.keys; old = f.under.old };
+    under = record {
+      fields = ap (modified_head choice None options by) f.under.fields;
+      keys = f.under.keys;
+      old = f.under.old;
+    };
   }
   modified_shows (Some l) f = record {
     master = f.master;
     named = f.named;
-    under = record { fields = ap (modified_head choice (Some l) options by) f.under.fields; keys = f.under.keys; old = f.under.old };
+    under = record {
+      fields = ap (modified_head choice (Some l) options by) f.under.fields;
+      keys = f.under.keys;
+      old = f.under.old;
+    };
   }
 
 module _ (choice : Option PolicyChoice) (options : PrincOptions) (by : By) (p : Princ) where

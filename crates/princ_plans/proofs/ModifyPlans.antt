@@ -2,7 +2,8 @@
 use Rattle.std.proofs.Common.{◌≡◌, ℕ, ◌&&◌, List, [], ◌∷◌, ◌++◌, Option, Some, None, refl, sym, ap, subst, ◌∙◌}
 use Rattle.std.specs.Prelude.{Result, Err, IfSome, is_some, not}
 use Rattle.command_plans.proofs.Lists.{both, early, later}
-use Rattle.command_plans.proofs.Puts.{Touches, by_alike, puts, target_alone, target_beside, target_fits, target_name, touch_early, touch_left, touch_refused}
+use Rattle.command_plans.proofs.Puts.{Touches, by_alike, puts, target_alone, target_beside, target_fits}
+use Rattle.command_plans.proofs.Puts.{target_name, touch_early, touch_left, touch_refused}
 use Rattle.command_plans.proofs.Rooms.{may_replace}
 use Rattle.command_plans.proofs.Seen.{access_of, told_at}
 use Rattle.command_plans.specs.Given.{IsGiven, IsJudged}
@@ -57,16 +58,19 @@ module _ (g : Given) (c : ModPrinc) where
     present = λ s clock q are e. modify_present s g.client.now clock g.random.now (access_of g) c q e;
   }
 
-  pub modify_early : (why : Refusal) → AreRows g.rows.now → target_refusal g modifying c.name ≡ Some why → IsJudged g (command.ModPrinc c) (Err why)
+  pub modify_early : (why : Refusal) → AreRows g.rows.now → target_refusal g modifying c.name ≡ Some why
+      → IsJudged g (command.ModPrinc c) (Err why)
   modify_early why rows e = touch_early g (command.ModPrinc c) modifying c.name rest modify_touches why rows e
 
   -- in a state, the model's principal is the one with the fields of what is given
   modified_is : (s : State) (call : Call) (given : IsGiven g (command.ModPrinc c) s call) (q : PlainPrinc)
       → modified s (told_at g (command.ModPrinc c) given.called.clock) c q
-      ≡ plain_of (modified_head c.policy (limits_given g modifying c.name) c.options (by_given g) (plain_head q)) q.keys q.old
+      ≡ plain_of (modified_head c.policy (limits_given g modifying c.name) c.options (by_given g) (plain_head q)) q.keys
+      q.old
   unfolding modified limits_for
   modified_is s call given q =
-      ap (λ (b : By). plain_of (modified_head c.policy (limits_given g modifying c.name) c.options b (plain_head q)) q.keys q.old)
+      ap (λ (b : By).
+      plain_of (modified_head c.policy (limits_given g modifying c.name) c.options b (plain_head q)) q.keys q.old)
       (by_alike g (command.ModPrinc c) s call given)
 
   module _ (p : Princ) (target : IsTarget g modifying c.name p) (made : Princ) (is : IsModified g c p made) where
@@ -74,7 +78,8 @@ module _ (g : Given) (c : ModPrinc) where
     modify_fits command_is =
         let well = modify_well g.realm.now c command_is in
         subst IsPrinc (sym is.made_is)
-        (modified_fits c.policy c.options (by_given g) p (limits_given g modifying c.name) is.limits well.1.0 well.1.1 is.by
+        (modified_fits c.policy c.options (by_given g) p (limits_given g modifying c.name) is.limits well.1.0
+        well.1.1 is.by
         (subst (λ (m : Princ). AreLives (lives_of m)) is.made_is is.lives) (target_fits g modifying c.name p target))
 
     abbrev other : (s : State) (call : Call) (given : IsGiven g (command.ModPrinc c) s call)
@@ -85,12 +90,16 @@ module _ (g : Given) (c : ModPrinc) where
     call_at s call given = told_at g (command.ModPrinc c) given.called.clock
 
     made_shows : (s : State) (call : Call) (given : IsGiven g (command.ModPrinc c) s call)
-        → ShowsPrinc s.masters given.seen.shows.history made (modified s (call_at s call given) c (other s call given).other)
+        → ShowsPrinc s.masters given.seen.shows.history made
+        (modified s (call_at s call given) c (other s call given).other)
     made_shows s call given =
         let q = other s call given in
-        subst (λ (m : Princ). ShowsPrinc s.masters given.seen.shows.history m (modified s (call_at s call given) c q.other)) (sym is.made_is)
-        (subst (λ (o : PlainPrinc). ShowsPrinc s.masters given.seen.shows.history (modified_record g c p) o) (sym (modified_is s call given q.other))
-        (modified_shows s.masters given.seen.shows.history c.policy c.options (by_given g) p q.other (limits_given g modifying c.name) q.beside))
+        subst (λ (m : Princ).
+        ShowsPrinc s.masters given.seen.shows.history m (modified s (call_at s call given) c q.other)) (sym is.made_is)
+        (subst (λ (o : PlainPrinc). ShowsPrinc s.masters given.seen.shows.history (modified_record g c p) o)
+        (sym (modified_is s call given q.other))
+        (modified_shows s.masters given.seen.shows.history c.policy c.options (by_given g) p q.other
+        (limits_given g modifying c.name) q.beside))
 
     -- what is left of the causes is told of the records
     left_is : (s : State) (call : Call) (given : IsGiven g (command.ModPrinc c) s call)
@@ -139,5 +148,6 @@ module _ (g : Given) (c : ModPrinc) where
         }) plan (put refl)
         (may_replace made p g.rows.now target.rows
         (ap (λ (m : Princ). record_named m.name g.rows.now.princs) is.made_is
-        ∙ ap (λ n. record_named n g.rows.now.princs) (same_name c.policy c.options (by_given g) p limits ∙ target_name g modifying c.name p target)
+        ∙ ap (λ n. record_named n g.rows.now.princs)
+        (same_name c.policy c.options (by_given g) p limits ∙ target_name g modifying c.name p target)
         ∙ target.there))

@@ -1,5 +1,6 @@
 -- The keys of a new principal, and what they take of the block.
-use Rattle.std.proofs.Common.{◌≡◌, ℕ, ◌*◌, ◌≤◌, Bool, false, List, [], ◌∷◌, length, map, Option, Some, refl, sym, ap, subst, ◌∙◌, append-nil, arith}
+use Rattle.std.proofs.Common.{◌≡◌, ℕ, ◌*◌, ◌≤◌, Bool, false, List, [], ◌∷◌, length, map}
+use Rattle.std.proofs.Common.{Option, Some, refl, sym, ap, subst, ◌∙◌, append-nil, arith}
 use Rattle.std.specs.Prelude.{IfOk, IfSome, Result, option_map, unwrap_or}
 use Rattle.std.specs.List.{sum_by}
 use Rattle.std.proofs.lemmas.List.{length-map}
@@ -14,7 +15,8 @@ use Rattle.kdb_base.specs.Key.{Key}
 use Rattle.kdb_base.specs.declared.keys.Etype.{Etype}
 use Rattle.kdb_base.specs.declared.keys.Etype.TheVariants.{Aes128, Aes256, Aes128Sha2, Aes256Sha2}
 use Rattle.plain_keys.proofs.Blocks.{once_drawn}
-use Rattle.plain_keys.specs.Keys.{AreOnce, drawn_len, item_of, items_of, made_keys, normal_salt, password_keys, random_keys}
+use Rattle.plain_keys.specs.Keys.{AreOnce, drawn_len, item_of, items_of, made_keys}
+use Rattle.plain_keys.specs.Keys.{normal_salt, password_keys, random_keys}
 use Rattle.plain_keys.specs.declared.items.PlainItem.{PlainItem}
 use Rattle.plain_keys.specs.declared.new_keys.NewKeys.{NewKeys}
 use Rattle.plain_keys.specs.declared.new_keys.NewKeys.TheVariants.{Random, Password}
@@ -58,10 +60,13 @@ module _ (keys : List Key) (etypes : List Etype) (types : map type_of keys ≡ e
       (new_formed keys [] false no_items (omega arith) (subst AreOnce (sym types) once) (omega (arith, few_of)))
 
 -- keys that a principal may have
-pub made_formed : (random : List ℕ) (name : NameParts) (keys : NewKeys) → IsNewKeys keys → AreItems (items_of 1 (made_keys random name keys))
-made_formed random name (Random etypes) are = items_formed (random_keys random etypes) etypes (random_types random etypes) are.once
+pub made_formed : (random : List ℕ) (name : NameParts) (keys : NewKeys) → IsNewKeys keys
+    → AreItems (items_of 1 (made_keys random name keys))
+made_formed random name (Random etypes) are =
+    items_formed (random_keys random etypes) etypes (random_types random etypes) are.once
 made_formed random name (Password password etypes) are =
-    items_formed (password_keys password (normal_salt name) etypes) etypes (password_types password (normal_salt name) etypes) are.once
+    items_formed (password_keys password (normal_salt name) etypes) etypes
+    (password_types password (normal_salt name) etypes) are.once
 
 items_long : (keys : List Key) → length (items_of 1 keys) ≡ length keys
 unfolding items_of
@@ -78,32 +83,40 @@ made_take random name (Password password etypes) are =
 
 -- ---- at a command
 
-pub well_keys : (realm : List ℕ) (c : AddPrinc) (keys : NewKeys) → IsCommand realm (command.AddPrinc c) → c.keys ≡ Some keys → IsNewKeys keys
+pub well_keys : (realm : List ℕ) (c : AddPrinc) (keys : NewKeys) → IsCommand realm (command.AddPrinc c)
+    → c.keys ≡ Some keys → IsNewKeys keys
 unfolding IsCommand
 well_keys realm c keys is there = subst (λ (o : Option NewKeys). IfSome o IsNewKeys) there is.1
 
-pub random_take : (random : List ℕ) (keys : NewKeys) (etypes slice : List Etype) → IsNewKeys keys → length random ≡ 2048 → keys ≡ Random etypes
+pub random_take : (random : List ℕ) (keys : NewKeys) (etypes slice : List Etype) → IsNewKeys keys → length random ≡ 2048
+    → keys ≡ Random etypes
     → slice ≡ etypes → sum_by drawn_len slice ≤ length random
 random_take random keys etypes slice are long random_is same =
     let known : AreEtypes etypes = subst IsNewKeys random_is are in
     omega (arith, ap (sum_by drawn_len) same, once_drawn etypes known.once, long)
 
-pub ready_made : (c : AddPrinc) (keys : NewKeys) (ready : List Key) → c.keys ≡ Some keys → ready ≡ ready_keys (command.AddPrinc c)
+pub ready_made : (c : AddPrinc) (keys : NewKeys) (ready : List Key) → c.keys ≡ Some keys
+    → ready ≡ ready_keys (command.AddPrinc c)
     → ready ≡ password_made c.name keys
 unfolding ready_keys
 ready_made c keys ready there is = is ∙ ap (ready_new c.name) there
 
-pub given_items : {E : Type 0} (r : Result (List PlainItem) E) (g : Given) (c : AddPrinc) (keys : NewKeys) → c.keys ≡ Some keys
-    → IfOk r (λ items. items ≡ items_of 1 (made_keys g.random.now c.name keys)) → IfOk r (λ items. items ≡ items_given g c)
+pub given_items : {E : Type 0} (r : Result (List PlainItem) E) (g : Given) (c : AddPrinc) (keys : NewKeys)
+    → c.keys ≡ Some keys
+    → IfOk r (λ items. items ≡ items_of 1 (made_keys g.random.now c.name keys))
+    → IfOk r (λ items. items ≡ items_given g c)
 given_items {E} r g c keys there made =
-    subst (λ (o : Option NewKeys). IfOk r (λ items. items ≡ unwrap_or (option_map (λ k. items_of 1 (made_keys g.random.now c.name k)) o) []))
+    subst (λ (o : Option NewKeys).
+    IfOk r (λ items. items ≡ unwrap_or (option_map (λ k. items_of 1 (made_keys g.random.now c.name k)) o) []))
     (sym there) made
 
 pub wrapped_take : (realm : List ℕ) (g : Given) (c : AddPrinc) (keys : NewKeys) (drawn : Bool) (items : List PlainItem)
-    → IsCommand realm (command.AddPrinc c) → length g.random.now ≡ 2048 → c.keys ≡ Some keys → drawn ≡ is_drawn keys → items ≡ items_given g c
+    → IsCommand realm (command.AddPrinc c) → length g.random.now ≡ 2048 → c.keys ≡ Some keys → drawn ≡ is_drawn keys
+    → items ≡ items_given g c
     → taken_lens drawn items ≤ length g.random.now
 wrapped_take realm g c keys drawn items is long there drawn_is items_are =
     let made : items ≡ items_of 1 (made_keys g.random.now c.name keys) =
-    items_are ∙ ap (λ (o : Option NewKeys). unwrap_or (option_map (λ k. items_of 1 (made_keys g.random.now c.name k)) o) []) there in
+    items_are ∙ ap (λ (o : Option NewKeys).
+    unwrap_or (option_map (λ k. items_of 1 (made_keys g.random.now c.name k)) o) []) there in
     let few = made_take g.random.now c.name keys (well_keys realm c keys is there) in
     omega (arith, ap (λ b. taken_lens b items) drawn_is, ap (taken_lens (is_drawn keys)) made, few, long)

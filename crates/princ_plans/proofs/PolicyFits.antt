@@ -14,13 +14,15 @@ use Rattle.princ_record.specs.Princs.{IsPolicyOr}
 
 -- ---- names that a policy may have
 
-pub chosen_fits : (choice : Option PolicyChoice) (standing : Option (List ℕ)) → IfSome choice IsPolicyChoice → IsPolicyOr standing
+pub chosen_fits : (choice : Option PolicyChoice) (standing : Option (List ℕ)) → IfSome choice IsPolicyChoice
+    → IsPolicyOr standing
     → IsPolicyOr (chosen choice standing)
 chosen_fits None standing named fits = fits
 chosen_fits (Some (Named name)) standing named fits = named
 chosen_fits (Some Cleared) standing named fits = tt
 
-pub forced_fits : (forced : Option (Option (List ℕ))) (policy : Option (List ℕ)) → IfSome forced IsPolicyOr → IsPolicyOr policy
+pub forced_fits : (forced : Option (Option (List ℕ))) (policy : Option (List ℕ)) → IfSome forced IsPolicyOr
+    → IsPolicyOr policy
     → IsPolicyOr (unwrap_or forced policy)
 forced_fits None policy limits fits = fits
 forced_fits (Some other) policy limits fits = limits
@@ -36,7 +38,8 @@ lacks_alike : (s : State) (policy : Option (List ℕ)) → is_missing s policy �
 lacks_alike s None = refl
 lacks_alike s (Some name) = refl
 
-pub missing_alike : (s : State) (policies : List Rules) (choice : Option PolicyChoice) (policy : Option (List ℕ)) → policies ≡ s.policies
+pub missing_alike : (s : State) (policies : List Rules) (choice : Option PolicyChoice) (policy : Option (List ℕ))
+    → policies ≡ s.policies
     → when (names_missing s choice || is_missing s policy) UnknownPolicy ≡ missing_policy policies choice policy
 missing_alike s policies choice policy same =
     ap (λ b. when (b || is_missing s policy) UnknownPolicy) (named_alike s choice)

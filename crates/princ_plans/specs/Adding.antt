@@ -1,5 +1,6 @@
 -- The record that addprinc puts.
-use Rattle.std.specs.Prelude.{ℕ, ◌≡◌, ◌+◌, [], ◌∷◌, List, Option, IfSome, is_some, length, nat_le, option_and_then, option_map, unwrap_or}
+use Rattle.std.specs.Prelude.{ℕ, ◌≡◌, ◌+◌, [], ◌∷◌, List, Option, IfSome, is_some}
+use Rattle.std.specs.Prelude.{length, nat_le, option_and_then, option_map, unwrap_or}
 use Rattle.std.specs.List.{list_any}
 use Rattle.acl_text.specs.Limits.{IsLimits}
 use Rattle.command_plans.specs.Causes.{denial_of}
@@ -10,7 +11,8 @@ use Rattle.kadm_commands.specs.declared.commands.AddPrinc.{AddPrinc}
 use Rattle.kdb_base.specs.Key.{Key}
 use Rattle.kdb_base.specs.Limits.{most_rows}
 use Rattle.kdb_base.specs.declared.outcomes.Refusal.{Refusal}
-use Rattle.kdb_base.specs.declared.outcomes.Refusal.TheVariants.{Duplicate, PassClasses, PassTooShort, Protected, RowsFull}
+use Rattle.kdb_base.specs.declared.outcomes.Refusal.TheVariants.{Duplicate, PassClasses}
+use Rattle.kdb_base.specs.declared.outcomes.Refusal.TheVariants.{PassTooShort, Protected, RowsFull}
 use Rattle.kdb_model.specs.Access.{adding, asking}
 use Rattle.kdb_model.specs.Fields.{added_head, forced}
 use Rattle.kdb_model.specs.Records.{line_policy, numbers_for}
@@ -41,7 +43,8 @@ life_given g c = option_map (λ (keys : NewKeys). (numbers_given g c).max_life) 
 -- the fields, under this version of the master key
 abbrev pub head_given : Given → AddPrinc → ℕ → Princ
 head_given g c version =
-    added_head (printed c.name) version (line_policy c g.rows.now.policies) (life_given g c) (limits_given g adding c.name) c.options (by_given g)
+    added_head (printed c.name) version (line_policy c g.rows.now.policies) (life_given g c)
+    (limits_given g adding c.name) c.options (by_given g)
 
 -- the fields, and what is known of their values
 pub record IsHead (g : Given) (c : AddPrinc) (version : ℕ) (head : Princ) : Type 0 where
@@ -55,7 +58,8 @@ items_given g c = unwrap_or (option_map (λ keys. items_of 1 (made_keys g.random
 
 -- the record, its keys wrapped under this master key
 abbrev pub added_record : Given → AddPrinc → ℕ → Key → Princ
-added_record g c version master = record (head_given g c version) { keys = wrapped_new master g.random.now (items_given g c) c.keys }
+added_record g c version master =
+    record (head_given g c version) { keys = wrapped_new master g.random.now (items_given g c) c.keys }
 
 abbrev pub password_given : AddPrinc → Option (List ℕ)
 password_given c = option_and_then password_of c.keys

@@ -9,4 +9,5 @@ use Rattle.princ_name.specs.Names.{NameParts}
 -- those of the line that decides on an operation on a principal
 abbrev pub limits_given : Given → ℕ → NameParts → Option Limits
 limits_given g letter name =
-    option_and_then (λ (lines : List AclLine). (decision lines g.client.now letter (Some name)).limits) (option_map (λ acl. acl.now) g.acl)
+    option_and_then (λ (lines : List AclLine). (decision lines g.client.now letter (Some name)).limits)
+    (option_map (λ acl. acl.now) g.acl)

@@ -115,7 +115,8 @@ fn keyed_head(
     version: u16,
     life: u32,
 ) -> Result<Princ, MemoryOut>
-    ensures { IfOk result (λ h. h ≡ keyed_by (option_map (λ (keys : KeysAsked). life) c.now.keys) given.now.moment.secs (blank_head (printed c.now.name) version (line_policy c.now given.now.rows.now.policies))) }
+    ensures { IfOk result (λ h. h ≡ keyed_by (option_map (λ (keys : KeysAsked). life) c.now.keys) given.now.moment.secs
+        (blank_head (printed c.now.name) version (line_policy c.now given.now.rows.now.policies))) }
 {
     let name = print_name(alloc, &c.name)?;
     let policy = line_policy(alloc, given.rows, c)?;

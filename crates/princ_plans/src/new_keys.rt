@@ -29,7 +29,8 @@ fn items_made(
 ) -> Result<PlainItems, MemoryOut>
     requires keys { IsNewKeys keys.now }
     requires random { length random.now ≡ 2048 }
-    ensures { (name : NameParts) → ready.now ≡ password_made name keys.now → IfOk result (λ items. items ≡ items_of 1 (made_keys random.now name keys.now)) }
+    ensures { (name : NameParts) → ready.now ≡ password_made name keys.now
+        → IfOk result (λ items. items ≡ items_of 1 (made_keys random.now name keys.now)) }
 {
     match keys {
         NewKeys::Random(etypes) => {

@@ -1,13 +1,15 @@
--- What a principal's tagged list says: the last password change, the modifier, the version of the master key and, at K/M alone, the
--- activations and the auxiliary keys; and everywhere but there the string attributes. The items stand by rising types, so each
--- stands in one place.
+-- What a principal's tagged list says: the last password change, the modifier, the version of the master key and, at
+-- K/M alone, the activations and the auxiliary keys; and everywhere but there the string attributes. The items stand by
+-- rising types, so each stands in one place.
 use Rattle.std.proofs.Common.{◌≡◌, ℕ, ◌+◌, ◌^◌, ◌<◌, Bool, true, ◌&&◌, List, [], ◌∷◌, ◌++◌, length, Option, Some, None}
 use Rattle.std.specs.Prelude.{is_some, not, nat_eq, if◌then◌else◌}
-use Rattle.kdb_format.specs.Readings.{Reading, ◌>>=◌, ◌>>◌, done, known, refuse, checked, whole, big_at, little_at, counted_at, literal_at}
+use Rattle.kdb_format.specs.Readings.{Reading, ◌>>=◌, ◌>>◌, done, known, refuse, checked}
+use Rattle.kdb_format.specs.Readings.{whole, big_at, little_at, counted_at, literal_at}
 use Rattle.kdb_format.specs.Spellings.{big, little, counted}
 use Rattle.tagged_data.specs.Modifiers.{modifier_at, modifier_text}
 use Rattle.tagged_data.specs.Numbers.{version_at, IsVersion}
-use Rattle.tagged_data.specs.Versions.{activations_at, activations_text, AreActivations, aux_keys_at, aux_keys_text, AreAuxKeys}
+use Rattle.tagged_data.specs.Versions.{activations_at, activations_text, AreActivations}
+use Rattle.tagged_data.specs.Versions.{aux_keys_at, aux_keys_text, AreAuxKeys}
 use Rattle.princ_name.specs.Printed.{is_printed, IsPrinted}
 use Rattle.tagged_data.specs.Strings.{strings_at, strings_text, AreStrings}
 use Rattle.tagged_data.specs.declared.string_attributes.StringAttribute.{StringAttribute}
@@ -67,8 +69,10 @@ pw_then_at = do
 -- the first item is of type 1 where a password change stands
 unfoldable pub changes_of : ℕ → Reading Changes
 changes_of kind =
-    if nat_eq kind 1 then (do both ← pw_then_at; done (record { pw_changed = Some both.0; modified = both.1.0; modifier = both.1.1 }))
-    else if nat_eq kind 2 then (do modifier ← content_at modifier_of; done (record { pw_changed = None; modified = modifier.0; modifier = modifier.1 }))
+    if nat_eq kind 1
+    then (do both ← pw_then_at; done (record { pw_changed = Some both.0; modified = both.1.0; modifier = both.1.1 }))
+    else if nat_eq kind 2
+    then (do modifier ← content_at modifier_of; done (record { pw_changed = None; modified = modifier.0; modifier = modifier.1 }))
     else refuse
 
 unfoldable pub changes_at : Reading Changes
@@ -146,12 +150,20 @@ facts_at master = do
   mkvno ← tag_at 8 (whole version_at)
   chain ← chain_at master
   strings ← strings_item_at master (base_of master + pw_len changes.pw_changed) count
-  done (record { pw_changed = changes.pw_changed; modified = changes.modified; modifier = changes.modifier; mkvno = mkvno; chain = chain; strings = strings })
+  done (record {
+    pw_changed = changes.pw_changed;
+    modified = changes.modified;
+    modifier = changes.modifier;
+    mkvno = mkvno;
+    chain = chain;
+    strings = strings;
+  })
 
 unfoldable pub facts : Facts → List ℕ
 facts f =
     big 2 (count_of f)
-    ++ (pw_text f.pw_changed ++ (tag 2 (modifier_text (f.modified, f.modifier)) ++ (tag 8 (little 2 f.mkvno) ++ (chain_text f.chain ++ strings_item f.strings))))
+    ++ (pw_text f.pw_changed ++ (tag 2 (modifier_text (f.modified, f.modifier))
+    ++ (tag 8 (little 2 f.mkvno) ++ (chain_text f.chain ++ strings_item f.strings))))
 
 pub record IsFacts (master : Bool) (f : Facts) : Type 0 where
   pub pw_changed : IsPw f.pw_changed

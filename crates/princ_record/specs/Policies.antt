@@ -15,10 +15,18 @@ policy_at = do
   min_length ← checked is_min_length (big_at 2)
   min_classes ← checked is_min_classes (big_at 2)
   history ← checked is_history (big_at 2)
-  done (record { name = name; max_life = max_life; min_life = min_life; min_length = min_length; min_classes = min_classes; history = history })
+  done (record {
+    name = name;
+    max_life = max_life;
+    min_life = min_life;
+    min_length = min_length;
+    min_classes = min_classes;
+    history = history;
+  })
 
 unfoldable pub policy : Rules → List ℕ
-policy p = counted p.name ++ (big 4 p.max_life ++ (big 4 p.min_life ++ (big 2 p.min_length ++ (big 2 p.min_classes ++ big 2 p.history))))
+policy p = counted p.name
+    ++ (big 4 p.max_life ++ (big 4 p.min_life ++ (big 2 p.min_length ++ (big 2 p.min_classes ++ big 2 p.history))))
 
 pub record IsPolicy (p : Rules) : Type 0 where
   pub named : IsTrue (is_policy_name p.name)

@@ -72,7 +72,14 @@ abbrev pub lives_of : Princ → Lives
 lives_of p = record { max_life = p.max_life; max_renew = p.max_renew; expire = p.expire; pw_expire = p.pw_expire }
 
 abbrev pub facts_of : Princ → Facts
-facts_of p = record { pw_changed = p.pw_changed; modified = p.modified; modifier = p.modifier; mkvno = p.mkvno; chain = p.chain; strings = p.strings }
+facts_of p = record {
+  pw_changed = p.pw_changed;
+  modified = p.modified;
+  modifier = p.modifier;
+  mkvno = p.mkvno;
+  chain = p.chain;
+  strings = p.strings;
+}
 
 abbrev pub princ_of : List ℕ → ℕ → Lives → Facts → List KeyItem → Option (List ℕ) → List OldSet → Princ
 princ_of name attributes lives facts keys policy old = record {
@@ -93,8 +100,8 @@ princ_of name attributes lives facts keys policy old = record {
   strings = facts.strings;
 }
 
--- A name of K and M has the chain, and no other name; its keys are the master keys by falling versions, and its version is the
--- newest.
+-- A name of K and M has the chain, and no other name; its keys are the master keys by falling versions, and its version
+-- is the newest.
 unfoldable pub princ_at : Reading Princ
 princ_at = do
   name ← checked is_printed counted_at
@@ -107,7 +114,8 @@ princ_at = do
   done (princ_of name attributes lives facts keys policy old)
 
 unfoldable pub princ : Princ → List ℕ
-princ p = counted p.name ++ (big 4 p.attributes ++ (lives (lives_of p) ++ (facts (facts_of p) ++ (keys_text p.keys ++ (counted (name_of p.policy) ++ old_sets p.old)))))
+princ p = counted p.name ++ (big 4 p.attributes ++ (lives (lives_of p)
+    ++ (facts (facts_of p) ++ (keys_text p.keys ++ (counted (name_of p.policy) ++ old_sets p.old)))))
 
 -- the principals that have a spelling
 pub record IsPrinc (p : Princ) : Type 0 where

@@ -46,7 +46,8 @@ row_1_is_row p f = let short = f.short in record { fits = f.fits; short = omega 
 pub row_field : IsField row_at (λ p. counted (princ p)) IsRow
 unfolding row_at counted
 row_field =
-    let behind : (n : ℕ) → (n < 256 ^ 2) × (may_be_long n ≡ true) → IsField (inside n princ_at) princ (λ p. (length (princ p) ≡ n) × IsPrinc p) =
+    let behind : (n : ℕ) → (n < 256 ^ 2) × (may_be_long n ≡ true)
+    → IsField (inside n princ_at) princ (λ p. (length (princ p) ≡ n) × IsPrinc p) =
     λ n _. same_field (inside_field n princ_field) (λ p f. (refl, (f.1, f.0))) (λ p f. (f.1, f.0)) in
     same_field (first_field (checked_field may_be_long (big_field 2)) (λ (p : Princ). length (princ p)) behind)
     (λ p f. (refl, record { fits = f.1; short = leb-true _ _ f.0.1 }))
@@ -55,7 +56,8 @@ row_field =
 pub policy_row_field : IsField policy_row_at (λ p. counted (policy p)) IsPolicy
 unfolding policy_row_at counted
 policy_row_field =
-    let behind : (n : ℕ) → n < 256 ^ 2 → IsField (inside n policy_at) policy (λ p. (length (policy p) ≡ n) × IsPolicy p) =
+    let behind : (n : ℕ) → n < 256 ^ 2
+    → IsField (inside n policy_at) policy (λ p. (length (policy p) ≡ n) × IsPolicy p) =
     λ n _. same_field (inside_field n policy_field) (λ p f. (refl, (f.1, f.0))) (λ p f. (f.1, f.0)) in
     same_field (first_field (big_field 2) (λ (p : Rules). length (policy p)) behind)
     (λ p f. (refl, f.1))

@@ -25,7 +25,8 @@ use Rattle.princ_keys.specs.SizeLaws.{length-keys_text, length-old_sets}
 
 pub length-tag : (kind : ℕ) (bytes : List ℕ) → length (tag kind bytes) ≡ 4 + length bytes
 unfolding tag
-length-tag kind bytes = omega (arith, length-append (big 2 kind) (counted bytes), length-big 2 kind, length-counted bytes)
+length-tag kind bytes =
+    omega (arith, length-append (big 2 kind) (counted bytes), length-big 2 kind, length-counted bytes)
 
 length-pw_text : (pw : Option ℕ) → length (pw_text pw) ≡ pw_text_len pw
 unfolding pw_text
@@ -49,14 +50,16 @@ unfolding strings_item
 length-strings_item [] = refl
 length-strings_item (a ∷ list) = length-tag 11 (strings_text (a ∷ list))
 
-pub length-facts : (f : Facts) → length (facts f) ≡ 17 + pw_text_len f.pw_changed + length f.modifier + chain_len f.chain + strings_item_len f.strings
+pub length-facts : (f : Facts) → length (facts f)
+    ≡ 17 + pw_text_len f.pw_changed + length f.modifier + chain_len f.chain + strings_item_len f.strings
 unfolding facts
 length-facts f =
     let m = modifier_text (f.modified, f.modifier) in
     let n = little 2 f.mkvno in
     omega (
       arith,
-      length-append (big 2 (count_of f)) (pw_text f.pw_changed ++ (tag 2 m ++ (tag 8 n ++ (chain_text f.chain ++ strings_item f.strings)))),
+      length-append (big 2 (count_of f))
+          (pw_text f.pw_changed ++ (tag 2 m ++ (tag 8 n ++ (chain_text f.chain ++ strings_item f.strings)))),
       length-append (pw_text f.pw_changed) (tag 2 m ++ (tag 8 n ++ (chain_text f.chain ++ strings_item f.strings))),
       length-append (tag 2 m) (tag 8 n ++ (chain_text f.chain ++ strings_item f.strings)),
       length-append (tag 8 n) (chain_text f.chain ++ strings_item f.strings),
@@ -87,7 +90,9 @@ length-lives v =
       length-big 4 v.pw_expire,
     )
 
-pub length-princ : (p : Princ) → length (princ p) ≡ 45 + length p.name + pw_text_len p.pw_changed + length p.modifier + chain_len p.chain + strings_item_len p.strings + sum_by key_len p.keys + length (name_of p.policy) + sum_by old_set_len p.old
+pub length-princ : (p : Princ)
+    → length (princ p) ≡ 45 + length p.name + pw_text_len p.pw_changed + length p.modifier + chain_len p.chain
+    + strings_item_len p.strings + sum_by key_len p.keys + length (name_of p.policy) + sum_by old_set_len p.old
 unfolding princ
 length-princ p =
     let a = old_sets p.old in

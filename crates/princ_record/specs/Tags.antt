@@ -17,7 +17,8 @@ pw_tags (Some secs) = record { kind = 1; bytes = little 4 secs } ∷ []
 -- types 9 and 10, the activations and the auxiliary keys
 unfoldable pub chain_tags : Option ChainPart → List TagItem
 chain_tags None = []
-chain_tags (Some c) = record { kind = 9; bytes = activations_text c.activations } ∷ record { kind = 10; bytes = aux_keys_text c.aux } ∷ []
+chain_tags (Some c) =
+    record { kind = 9; bytes = activations_text c.activations } ∷ record { kind = 10; bytes = aux_keys_text c.aux } ∷ []
 
 -- type 11, the string attributes
 unfoldable pub string_tags : List StringAttribute → List TagItem
@@ -26,4 +27,5 @@ string_tags (a ∷ list) = record { kind = 11; bytes = strings_text (a ∷ list)
 
 -- in between type 2, the modifier, and type 8, the version of the master key
 unfoldable pub tags : Facts → List TagItem
-tags f = pw_tags f.pw_changed ++ record { kind = 2; bytes = modifier_text (f.modified, f.modifier) } ∷ record { kind = 8; bytes = little 2 f.mkvno } ∷ (chain_tags f.chain ++ string_tags f.strings)
+tags f = pw_tags f.pw_changed ++ record { kind = 2; bytes = modifier_text (f.modified, f.modifier) }
+    ∷ record { kind = 8; bytes = little 2 f.mkvno } ∷ (chain_tags f.chain ++ string_tags f.strings)

@@ -45,12 +45,16 @@ pub fn attributes_are_an_item()
 /// The keys of a record may be replaced, under another version of the master key: the record has a
 /// spelling again where the new keys fit, and outside the master key's principal any list of keys fits.
 pub fn keys_may_be_replaced()
-    ensures made { (p : Princ) (version : ℕ) (keys : List KeyItem) → IsPrinc p → FitKeys p version keys → IsPrinc (with_keys version keys p) }
-    ensures other { (p : Princ) (version : ℕ) (keys : List KeyItem) → is_master p.name ≡ false → IsVersion version → AreKeys keys → FitKeys p version keys }
+    ensures made { (p : Princ) (version : ℕ) (keys : List KeyItem) → IsPrinc p → FitKeys p version keys
+        → IsPrinc (with_keys version keys p) }
+    ensures other { (p : Princ) (version : ℕ) (keys : List KeyItem) → is_master p.name ≡ false → IsVersion version
+        → AreKeys keys → FitKeys p version keys }
 {}
 
 /// Attributes of which flags are cleared are attributes, and so are those of two together.
 pub fn flags_of_attributes_stay_known()
-    ensures cleared { (attributes mask : ℕ) → are_attributes attributes ≡ true → are_attributes (bit_and attributes mask) ≡ true }
-    ensures together { (a b : ℕ) → are_attributes a ≡ true → are_attributes b ≡ true → are_attributes (bit_or a b) ≡ true }
+    ensures cleared { (attributes mask : ℕ) → are_attributes attributes ≡ true
+        → are_attributes (bit_and attributes mask) ≡ true }
+    ensures together { (a b : ℕ) → are_attributes a ≡ true → are_attributes b ≡ true
+        → are_attributes (bit_or a b) ≡ true }
 {}

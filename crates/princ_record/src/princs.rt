@@ -2,7 +2,8 @@ ghost use Rattle.std.specs.Prelude.{◌≡◌, ◌++◌, Some, IfOk, OnOk};
 ghost use Rattle.kdb_format.specs.Answers.{Gives, Reads};
 ghost use Rattle.kdb_format.specs.Spellings.{counted};
 ghost use Rattle.princ_record.specs.Answers.{Finds};
-ghost use Rattle.princ_record.specs.Princs.{lives_at, policy_name_at, are_attributes, lives, lives_of, name_of, IsPolicyOr, princ_at, princ, IsPrinc};
+ghost use Rattle.princ_record.specs.Princs.{lives_at, policy_name_at, are_attributes, lives};
+ghost use Rattle.princ_record.specs.Princs.{lives_of, name_of, IsPolicyOr, princ_at, princ, IsPrinc};
 ghost use Rattle.princ_record.specs.PrincLaws.{princ_field};
 ghost use Rattle.princ_record.specs.declared.princs.Princ.{Princ};
 

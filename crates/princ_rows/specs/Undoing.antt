@@ -61,7 +61,10 @@ is_left key_of (Some key) x = not (bytes_eq (key_of x) key)
 
 -- the rows where the change is finished
 unfoldable pub finished : Begun → RowLists → RowLists
-finished b r = record { princs = without (λ p. p.name) (dropped_princ b) r.princs; policies = without (λ p. p.name) (dropped_policy b) r.policies }
+finished b r = record {
+  princs = without (λ p. p.name) (dropped_princ b) r.princs;
+  policies = without (λ p. p.name) (dropped_policy b) r.policies;
+}
 
 -- the rows where the change is taken back
 unfoldable pub undone : Begun → RowLists → RowLists

@@ -2,7 +2,9 @@ ghost use Rattle.std.specs.Prelude.{◌≡◌, ◌++◌, ◌+◌, ◌<◌, ◌�
 ghost use Rattle.kdb_base.specs.Limits.{longest_row};
 ghost use Rattle.kdb_format.specs.Answers.{Gives};
 ghost use Rattle.kdb_format.specs.Spellings.{counted};
-ghost use Rattle.princ_rows.specs.Entries.{kind_of, key_of, row_of, IsOp, op_of, op_text, entry_len, base_at, put_at, drop_at, rename_at, put_policy_at, drop_policy_at, logged_at, logged, IsLogged, sent_at, sent, IsSent};
+ghost use Rattle.princ_rows.specs.Entries.{kind_of, key_of, row_of, IsOp, op_of, op_text, entry_len, base_at};
+ghost use Rattle.princ_rows.specs.Entries.{put_at, drop_at, rename_at, put_policy_at, drop_policy_at};
+ghost use Rattle.princ_rows.specs.Entries.{logged_at, logged, IsLogged, sent_at, sent, IsSent};
 ghost use Rattle.princ_rows.specs.EntryLaws.{logged_field, sent_field};
 ghost use Rattle.princ_record.specs.Policies.{policy};
 ghost use Rattle.princ_record.specs.Princs.{princ};

@@ -1,6 +1,7 @@
 //! Records in the byte order of their keys, each key once, held in a vector.
 
-ghost use Rattle.std.specs.Prelude.{◌≡◌, ◌≢◌, ◌<◌, ◌⊎◌, List, ℕ, Contains, None, true, false, length, map, option_map, remove, IfOk, IfSome, OnErr, OnOk};
+ghost use Rattle.std.specs.Prelude.{◌≡◌, ◌≢◌, ◌<◌, ◌⊎◌, List, ℕ, Contains, None, true, false};
+ghost use Rattle.std.specs.Prelude.{length, map, option_map, remove, IfOk, IfSome, OnErr, OnOk};
 ghost use Rattle.std.specs.List.{All};
 ghost use Rattle.princ_rows.specs.Effects.{put_by, drop_by};
 ghost use Rattle.princ_rows.specs.Rows.{IsAt, IsGap};

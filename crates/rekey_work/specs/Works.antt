@@ -5,7 +5,8 @@ use Rattle.kdb_base.specs.Key.{Key}
 use Rattle.kdb_base.specs.Limits.{most_keys}
 use Rattle.kdb_base.specs.declared.versions.Master.{Master}
 use Rattle.kdb_model.specs.Rekeying as model
-use Rattle.kdb_model.specs.Rekeying.{At, Take, Ready, SettledGone, TakenAlready, Taking, Work, may_settle, other_record, other_version, rekey, settled_by}
+use Rattle.kdb_model.specs.Rekeying.{At, Take, Ready, SettledGone, TakenAlready, Taking, Work}
+use Rattle.kdb_model.specs.Rekeying.{may_settle, other_record, other_version, rekey, settled_by}
 use Rattle.kdb_plain.specs.States.{master_of}
 use Rattle.kdb_plain.specs.declared.states.State.{State}
 use Rattle.master_keys.specs.Rewrapping.{Holds, HoldsOne}
@@ -16,7 +17,8 @@ use Rattle.princ_record.specs.declared.princs.Princ.{Princ}
 use Rattle.rekey_work.specs.declared.works.Settled.{Settled}
 use Rattle.rekey_work.specs.declared.works.Settled.TheVariants as settled
 
--- a record other than K/M's that has a spelling and whose keys a master key opens, and another version than the one that it names
+-- a record other than K/M's that has a spelling and whose keys a master key opens, and another version than the one
+-- that it names
 pub record IsTaking (t : Taking) : Type 0 where
   pub spelled : IsPrinc t.princ
   pub ordinary : t.princ.chain ≡ None
@@ -34,7 +36,8 @@ pub record IsRewrappedItem (old fresh : Key) (before now : KeyItem) : Type 0 whe
   pub opened : Holds old before plain
   pub sealed : Holds fresh now plain
 
--- what is made has the version, and other wrapped bytes of the same keys, and is otherwise what was taken. It speaks of no state.
+-- what is made has the version, and other wrapped bytes of the same keys, and is otherwise what was taken. It speaks of
+-- no state.
 pub record IsWork (w : Work) : Type 0 where
   pub taken : IsTaking w.taken
   pub spelled : IsPrinc w.made
@@ -52,7 +55,8 @@ abbrev pub taken_as : Option Taking → Take
 taken_as None = TakenAlready
 taken_as (Some t) = Ready t
 
--- what becomes of work that comes back to the record that stands by the name now, under these master keys and this active version
+-- what becomes of work that comes back to the record that stands by the name now, under these master keys and this
+-- active version
 unfoldable pub settled_with : Option Princ → List Master → ℕ → Work → Settled
 settled_with None masters active work = settled.Gone
 settled_with (Some stored) masters active work = if may_settle masters (Some active) stored work.taken

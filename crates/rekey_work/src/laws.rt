@@ -11,5 +11,7 @@ ghost use Rattle.rekey_work.specs.Works.{as_modelled, settled_with};
 /// version, whatever record stands by the name: what is gone or has changed is told alike, and what is to be stored is
 /// a rekeying of the state, or refused as one.
 pub fn work_is_settled_as_modelled()
-    ensures { (s : State) (name : NameParts) (at : At) (stored : Option Princ) (version : ℕ) (work : Work) → active_at s at ≡ Some version → settle s name at stored work ≡ as_modelled s name at (settled_with stored s.masters version work) }
+    ensures { (s : State) (name : NameParts) (at : At) (stored : Option Princ) (version : ℕ) (work : Work)
+        → active_at s at ≡ Some version
+        → settle s name at stored work ≡ as_modelled s name at (settled_with stored s.masters version work) }
 {}

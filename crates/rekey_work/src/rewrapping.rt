@@ -26,7 +26,8 @@ pub fn rewrap_taken(
     requires old { old.now ≡ taken.old }
     requires fresh { fresh.now ≡ taken.fresh }
     ensures taken { IfOk result (λ work. work.taken ≡ taken) }
-    ensures made { IfOk result (λ work. IsRewrapped taken.princ taken.old taken.version taken.fresh random.now work.made) }
+    ensures made { IfOk result
+        (λ work. IsRewrapped taken.princ taken.old taken.version taken.fresh random.now work.made) }
     ensures back { IfErr result (λ fault. fault.0 ≡ taken) }
 {
     taken.holds();
@@ -48,7 +49,8 @@ pub fn rewrap_outside(
     random: &[u8; 512],
 ) -> Result<Rewrapped, (Taken, MemoryOut)>
     ensures taken { IfOk result (λ work. work.taken ≡ taken) }
-    ensures made { IfOk result (λ work. IsRewrapped taken.princ taken.old taken.version taken.fresh random.now work.made) }
+    ensures made { IfOk result
+        (λ work. IsRewrapped taken.princ taken.old taken.version taken.fresh random.now work.made) }
     ensures back { IfErr result (λ fault. fault.0 ≡ taken) }
 {
     let old = MasterKey::new(taken.old());

@@ -75,7 +75,8 @@ pub fn settle(
     made: Rewrapped,
 ) -> Result<Settled, MemoryOut>
     requires { IfSome now (λ stored. IsPrinc stored.now) }
-    ensures { IfOk result (λ s. s ≡ settled_with (option_map (λ stored. stored.now) now.entry) masters.now active made) }
+    ensures { IfOk result
+        (λ s. s ≡ settled_with (option_map (λ stored. stored.now) now.entry) masters.now active made) }
 {
     let Some(stored) = now else {
         return Ok(Settled::Gone);

@@ -13,8 +13,8 @@ use kdb_plain::master_of;
 use princ_record::{Princ, copy};
 use std::alloc::Global;
 
-/// What a worker is given to move the keys of a record under the active version of the master key. None exactly where it
-/// is under that version already.
+/// What a worker is given to move the keys of a record under the active version of the master key. None exactly where
+/// it is under that version already.
 ///
 /// # Errors
 ///

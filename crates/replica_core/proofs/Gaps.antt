@@ -1,5 +1,6 @@
 -- Updates that run on from a point.
-use Rattle.std.proofs.Common.{◌≡◌, ◌≢◌, ◌≤◌, ◌+◌, ℕ, Bool, true, false, ◌&&◌, not, List, [], ◌∷◌, length, Some, None, refl, sym, ap, ◌∙◌, arith}
+use Rattle.std.proofs.Common.{◌≡◌, ◌≢◌, ◌≤◌, ◌+◌, ℕ, Bool, true, false, ◌&&◌, not, List}
+use Rattle.std.proofs.Common.{[], ◌∷◌, length, Some, None, refl, sym, ap, ◌∙◌, arith}
 use Rattle.std.specs.Prelude.{if◌then◌else◌, nat_eq, nat_le}
 use Rattle.std.proofs.lemmas.Bool.{and_parts, eqb-true, leb-true}
 use Rattle.kdb_base.specs.Moments.{micros}
@@ -19,11 +20,13 @@ based_is true at e = by (nat_eq at.sno 4294967295) refl e
   where
     by : (b : Bool) → nat_eq at.sno 4294967295 ≡ b → not b ≡ true → at.sno ≢ 4294967295
     by true is e = absurd cc
-    by false is e = λ (same : at.sno ≡ 4294967295). let never : ◌≡◌ {A = Bool} true false = sym (ap (λ (n : ℕ). nat_eq n 4294967295) same) ∙ is in absurd cc
+    by false is e = λ (same : at.sno ≡ 4294967295). let never : ◌≡◌ {A = Bool} true false =
+        sym (ap (λ (n : ℕ). nat_eq n 4294967295) same) ∙ is in absurd cc
 
 pub is_next : (based : Bool) (at : Point) (u : Entry) → follows based at u ≡ true → IsNextOf at u
 is_next based at u e =
-    let parts = and_parts (has_next based at) (nat_eq u.point.sno (at.sno + 1) && nat_le (micros at.time) (micros u.point.time)) e in
+    let parts = and_parts (has_next based at)
+    (nat_eq u.point.sno (at.sno + 1) && nat_le (micros at.time) (micros u.point.time)) e in
     let both = and_parts (nat_eq u.point.sno (at.sno + 1)) (nat_le (micros at.time) (micros u.point.time)) parts.1 in
     record {
       more = based_is based at parts.0;
@@ -37,12 +40,15 @@ pub runs_on : (based : Bool) (at : Point) (u : Entry) (us : List Entry) → gap_
 unfolding gap_in
 runs_on based at u us e = by (follows based at u) refl e
   where
-    by : (b : Bool) → follows based at u ≡ b → (if b then gap_in true u.point us else Some (Gap (wanted based at) u.point)) ≡ None → (follows based at u ≡ true) × (gap_in true u.point us ≡ None)
+    by : (b : Bool)
+        → follows based at u ≡ b → (if b then gap_in true u.point us else Some (Gap (wanted based at) u.point)) ≡ None
+        → (follows based at u ≡ true) × (gap_in true u.point us ≡ None)
     by true is e = (is, e)
     by false is e = absurd cc
 
 -- serials that run on are few
-pub few_run_on : (based : Bool) (at : Point) (us : List Entry) → at.sno ≤ 4294967295 → gap_in based at us ≡ None → length us + at.sno ≤ 4294967295
+pub few_run_on : (based : Bool) (at : Point) (us : List Entry) → at.sno ≤ 4294967295 → gap_in based at us ≡ None
+    → length us + at.sno ≤ 4294967295
 few_run_on based at [] most e = omega (arith, most)
 few_run_on based at (u ∷ us) most e =
     let on = runs_on based at u us e in
@@ -53,5 +59,7 @@ few_run_on based at (u ∷ us) most e =
     omega (arith, rest, serial)
 
 -- the point of an update that follows
-pub next_point_is : (based : Bool) (at : Point) (u : Entry) → follows based at u ≡ true → ◌≡◌ {A = Point} (record { sno = at.sno + 1; time = u.point.time }) u.point
-next_point_is based at u e = ap (λ (n : ℕ). let x : Point = record { sno = n; time = u.point.time } in x) (sym (is_next based at u e).serial)
+pub next_point_is : (based : Bool) (at : Point) (u : Entry) → follows based at u ≡ true
+    → ◌≡◌ {A = Point} (record { sno = at.sno + 1; time = u.point.time }) u.point
+next_point_is based at u e =
+    ap (λ (n : ℕ). let x : Point = record { sno = n; time = u.point.time } in x) (sym (is_next based at u e).serial)

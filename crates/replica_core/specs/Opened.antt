@@ -11,7 +11,8 @@ use Rattle.kdb_places.specs.Places.{Contents, Place}
 use Rattle.store_files.specs.Kept.{Kept, IsOnDisk, place_kept}
 use Rattle.store_files.specs.Recovery.{HasNone, LeavesPart, RecoversToNone}
 
--- The database, where there is one, the log size with which the replica was opened, and whether the first load of it failed by the disk.
+-- The database, where there is one, the log size with which the replica was opened, and whether the first load of it
+-- failed by the disk.
 pub record Opened : Type 0 where
   pub database : Option Kept
   pub size : ℕ

@@ -16,8 +16,8 @@ abbrev pub place_found : Result Place Refusal → Option Place
 place_found (Ok p) = Some p
 place_found (Err why) = None
 
--- It opens where no control slot is open, and else where the files stand for a place; and then it has that place, with the log begun anew
--- where it is to. A refusal is why they stand for none.
+-- It opens where no control slot is open, and else where the files stand for a place; and then it has that place, with
+-- the log begun anew where it is to. A refusal is why they stand for none.
 abbrev pub AnswersOpened : ℕ → Result Opened Stop → Result Place Refusal → Type 0
 AnswersOpened size (Ok o) (Ok p) = place_of o ≡ place_after (Some p) (task_makes size (Some p) (Reopen size))
 AnswersOpened size (Ok o) (Err why) = (why ≡ NotADatabase) × (place_of o ≡ None)

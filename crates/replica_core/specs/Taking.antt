@@ -8,7 +8,8 @@ use Rattle.kdb_places.specs.Places.{Place}
 use Rattle.princ_rows.specs.Replies.{Reply, number_of}
 use Rattle.princ_rows.specs.declared.entries.Entry.{Entry}
 use Rattle.princ_rows.specs.declared.entries.Op.{Op}
-use Rattle.replica_steps.specs.Judging.{Judged, WrongPoint, Gap, Updated, Nil, Resync, Busy, Denied, all_updated, updated}
+use Rattle.replica_steps.specs.Judging.{Judged, WrongPoint, Gap, Updated, Nil}
+use Rattle.replica_steps.specs.Judging.{Resync, Busy, Denied, all_updated, updated}
 use Rattle.replica_core.specs.declared.stops.ReplicaStop.{ReplicaStop}
 use Rattle.replica_core.specs.declared.stops.ReplicaStop.TheVariants as stop
 use Rattle.replica_core.specs.declared.stops.Taken4.{Taken4}

@@ -11,5 +11,6 @@ ghost use Rattle.store_files.specs.Found.{recovers};
 /// Whatever a crash inside a call leaves is found, at the next opening, to be the place before or one of those that the
 /// call makes, so that `tasks_are_events` of replica_steps makes an event of it.
 pub fn crashes_are_parts()
-    ensures { (place : Option Place) (made : List Place) (files : Files) → LeavesMade place made files → MayBePart place made (place_found (recovers files)) }
+    ensures { (place : Option Place) (made : List Place) (files : Files) → LeavesMade place made files
+        → MayBePart place made (place_found (recovers files)) }
 {}

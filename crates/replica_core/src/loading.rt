@@ -7,7 +7,8 @@ ghost use Rattle.kdb_base.specs.declared.outcomes.Stop.TheVariants.{Halt as Halt
 ghost use Rattle.kdb_cells.specs.Cells.{IsRowOf};
 ghost use Rattle.kdb_disk.specs.Frames.{IsCall, IsCrashSafe};
 ghost use Rattle.kdb_places.specs.Places.{created};
-ghost use Rattle.replica_core.specs.Opened.{HasSize, IsHeldOn, IsWhole, LeavesMade, MayBeFaulty, halted, is_broken, place_in, place_of, told_dump};
+ghost use Rattle.replica_core.specs.Opened.{HasSize, IsHeldOn, IsWhole, LeavesMade, MayBeFaulty};
+ghost use Rattle.replica_core.specs.Opened.{halted, is_broken, place_in, place_of, told_dump};
 ghost use Rattle.replica_steps.specs.Replicas.{Install, loaded, place_after, task_makes};
 ghost use Rattle.store_files.specs.Kept.{IsOnDisk, place_kept};
 ghost use Rattle.store_files.specs.Recovery.{RecoversToNone};
@@ -56,7 +57,8 @@ fn make<D: Disk>(
     ensures place { IfOk result (λ d. place_kept d ≡ created realm.now rows base size 2048 None 2) }
     ensures whole { IfOk result (λ d. d.broken ≡ false) }
     ensures on { D.tells → IfOk result (λ d. IsOnDisk d (D.view disk.new)) }
-    ensures crash { IsCrashSafe D.Disk disk.old disk.new (LeavesMade None (created realm.now rows base size 2048 None 2 ∷ [])) }
+    ensures crash { IsCrashSafe D.Disk disk.old disk.new
+        (LeavesMade None (created realm.now rows base size 2048 None 2 ∷ [])) }
     ensures memory { D.tells → result ≡ Err IsMemoryOut → disk.new ≡ disk.old }
     ensures call { IsCall D.Disk disk.old disk.new (result ≡ Err IsDiskFault) }
 {
@@ -92,7 +94,8 @@ fn load_parts<D: Disk>(
     ensures place { OnOk result (place_in database.new ≡ Some (loaded size (place_in database.old) (told_dump dump))) }
     ensures err { OnErr result (place_in database.new ≡ place_in database.old) }
     ensures sized { HasSize size database.new }
-    ensures crash { IsCrashSafe D.Disk disk.old disk.new (LeavesMade (place_in database.old) (loaded size (place_in database.old) (told_dump dump) ∷ [])) }
+    ensures crash { IsCrashSafe D.Disk disk.old disk.new
+        (LeavesMade (place_in database.old) (loaded size (place_in database.old) (told_dump dump) ∷ [])) }
     ensures on { D.tells → OnOk result (IsHeldOn database.new (D.view disk.new)) }
     ensures memory { D.tells → result ≡ Err IsMemoryOut → disk.new ≡ disk.old }
     ensures still { D.tells → result ≡ Err IsMemoryOut → IsHeldOn database.new (D.view disk.new) }
@@ -116,8 +119,8 @@ fn load_parts<D: Disk>(
 
 impl Replica {
     /// Loads a whole database: its realm, its rows and its point take the place of what there was, and the log begins
-    /// anew at that point. It gives the point. Without a database the log gets blocks of 2048 bytes. Memory is taken before
-    /// the first device call.
+    /// anew at that point. It gives the point. Without a database the log gets blocks of 2048 bytes. Memory is taken
+    /// before the first device call.
     ///
     /// At each moment a crash leaves the place before, or the one with these rows.
     ///
@@ -129,9 +132,11 @@ impl Replica {
         requires on { D.tells → IsHeldOn self.old.database (D.view disk.old) }
         requires whole { is_broken self.old.database self.old.failed ≡ false }
         ensures point { IfOk result (λ p. p ≡ dump.point) }
-        ensures place { OnOk result (place_of self.new ≡ place_after (place_of self.old) (task_makes self.old.size (place_of self.old) (Install (told_dump dump)))) }
+        ensures place { OnOk result (place_of self.new ≡ place_after (place_of self.old)
+            (task_makes self.old.size (place_of self.old) (Install (told_dump dump)))) }
         ensures err { OnErr result (place_of self.new ≡ place_of self.old) }
-        ensures crash { IsCrashSafe D.Disk disk.old disk.new (LeavesMade (place_of self.old) (task_makes self.old.size (place_of self.old) (Install (told_dump dump)))) }
+        ensures crash { IsCrashSafe D.Disk disk.old disk.new
+            (LeavesMade (place_of self.old) (task_makes self.old.size (place_of self.old) (Install (told_dump dump)))) }
         ensures on { D.tells → OnOk result (IsHeldOn self.new.database (D.view disk.new)) }
         ensures memory { D.tells → result ≡ Err IsMemoryOut → disk.new ≡ disk.old }
         // Where memory ran out, the replica stands on the disk as before.

@@ -1,6 +1,7 @@
 //! A replica opened.
 
-ghost use Rattle.std.specs.Prelude.{◌≡◌, ◌≢◌, ◌≤◌, ◌&&◌, ◌∷◌, [], false, true, Err, IfErr, IfOk, None, OnOk, Some, nat_eq};
+ghost use Rattle.std.specs.Prelude.{◌≡◌, ◌≢◌, ◌≤◌, ◌&&◌, ◌∷◌, [], false, true};
+ghost use Rattle.std.specs.Prelude.{Err, IfErr, IfOk, None, OnOk, Some, nat_eq};
 ghost use Rattle.iprop_truths.specs.Parts.{end_of};
 ghost use Rattle.kdb_base.specs.declared.outcomes.Halt.TheVariants.{MemoryOut as IsMemoryOut, DiskFault as IsDiskFault};
 ghost use Rattle.kdb_base.specs.declared.outcomes.Refusal.{Refusal as Refuses};
@@ -39,9 +40,12 @@ fn begin_anew<D: Disk>(
     requires on { D.tells → IsOnDisk database.old (D.view disk.old) }
     requires whole { database.old.broken ≡ false }
     requires size { (2 ≤ size) × (size ≤ 10000) }
-    ensures place { OnOk result (place_kept database.new ≡ log_anew (point_of (place_kept database.old)) size (place_kept database.old).block (place_kept database.old)) }
+    ensures place { OnOk result (place_kept database.new ≡ log_anew (point_of (place_kept database.old)) size
+        (place_kept database.old).block (place_kept database.old)) }
     ensures on { D.tells → OnOk result (IsOnDisk database.new (D.view disk.new)) }
-    ensures crash { IsCrashSafe D.Disk disk.old disk.new (LeavesPart (place_kept database.old) (log_anew (point_of (place_kept database.old)) size (place_kept database.old).block (place_kept database.old) ∷ [])) }
+    ensures crash { IsCrashSafe D.Disk disk.old disk.new
+        (LeavesPart (place_kept database.old) (log_anew (point_of (place_kept database.old)) size
+        (place_kept database.old).block (place_kept database.old) ∷ [])) }
     ensures memory { result ≡ Err IsMemoryOut → disk.new ≡ disk.old }
     ensures whole { OnOk result (database.new.broken ≡ false) }
     ensures call { IsCall D.Disk disk.old disk.new (result ≡ Err IsDiskFault) }
@@ -64,10 +68,12 @@ fn renew<D: Disk>(
     requires on { D.tells → IsOnDisk database.old (D.view disk.old) }
     requires whole { database.old.broken ≡ false }
     requires size { (2 ≤ size) × (size ≤ 10000) }
-    ensures place { OnOk result (place_kept database.new ≡ end_of (place_kept database.old) (reopened size (Some (place_kept database.old)))) }
+    ensures place { OnOk result
+        (place_kept database.new ≡ end_of (place_kept database.old) (reopened size (Some (place_kept database.old)))) }
     ensures sized { OnOk result ((database.new.control.size ≡ size) × (database.new.control.format ≡ 2)) }
     ensures on { D.tells → OnOk result (IsOnDisk database.new (D.view disk.new)) }
-    ensures crash { IsCrashSafe D.Disk disk.old disk.new (LeavesPart (place_kept database.old) (reopened size (Some (place_kept database.old)))) }
+    ensures crash { IsCrashSafe D.Disk disk.old disk.new
+        (LeavesPart (place_kept database.old) (reopened size (Some (place_kept database.old)))) }
     ensures memory { result ≡ Err IsMemoryOut → disk.new ≡ disk.old }
     ensures whole { OnOk result (database.new.broken ≡ false) }
     ensures call { IsCall D.Disk disk.old disk.new (result ≡ Err IsDiskFault) }
@@ -88,11 +94,13 @@ fn open_as<D: Disk>(
     requires on { D.tells → IsOnDisk database (D.view disk.old) }
     requires whole { database.broken ≡ false }
     requires size { (2 ≤ size) × (size ≤ 10000) }
-    ensures place { IfOk result (λ o. place_of o ≡ Some (end_of (place_kept database) (reopened size (Some (place_kept database))))) }
+    ensures place { IfOk result
+        (λ o. place_of o ≡ Some (end_of (place_kept database) (reopened size (Some (place_kept database))))) }
     ensures size { IfOk result (λ o. o.size ≡ size) }
     ensures whole { IfOk result (λ o. is_broken o.database o.failed ≡ false) }
     ensures on { D.tells → IfOk result (λ o. IsHeldOn o.database (D.view disk.new)) }
-    ensures crash { IsCrashSafe D.Disk disk.old disk.new (LeavesPart (place_kept database) (reopened size (Some (place_kept database)))) }
+    ensures crash { IsCrashSafe D.Disk disk.old disk.new
+        (LeavesPart (place_kept database) (reopened size (Some (place_kept database)))) }
     ensures memory { result ≡ Err IsMemoryOut → disk.new ≡ disk.old }
     ensures call { IsCall D.Disk disk.old disk.new (result ≡ Err IsDiskFault) }
 {
@@ -105,7 +113,8 @@ fn open_as<D: Disk>(
 // The replica without a database, where the files have none. Another stop goes on.
 fn open_none(stop: Stop, size: u32) -> Result<Replica, Stop>
     requires size { (2 ≤ size) × (size ≤ 10000) }
-    ensures none { IfOk result (λ o. (o ≡ record { database = None; size = size; failed = false }) × (stop ≡ Refused IsNotADatabase)) }
+    ensures none { IfOk result
+        (λ o. (o ≡ record { database = None; size = size; failed = false }) × (stop ≡ Refused IsNotADatabase)) }
     ensures other { IfErr result (λ why. (why ≡ stop) × (why ≢ Refused IsNotADatabase)) }
 {
     match stop {
@@ -116,8 +125,8 @@ fn open_none(stop: Stop, size: u32) -> Result<Replica, Stop>
 
 impl Replica {
     /// Opens the replica that the files stand for, with a log of so many entries (2 to 10000). Files without a control
-    /// slot in force are a replica without a database. Another size, or files of format 1, begin the log anew at the same
-    /// point.
+    /// slot in force are a replica without a database. Another size, or files of format 1, begin the log anew at the
+    /// same point.
     ///
     /// # Errors
     ///
@@ -128,10 +137,13 @@ impl Replica {
         ensures size { IfOk result (λ o. o.size ≡ size) }
         ensures whole { IfOk result (λ o. is_broken o.database o.failed ≡ false) }
         ensures on { D.tells → IfOk result (λ o. IsHeldOn o.database (D.view disk.new)) }
-        ensures moments { D.tells → LeavesOnly (D.view disk.old) (D.view disk.new) (MayOpen (D.view disk.old) size (recovers (D.view disk.old).seen)) }
-        ensures refused_keeps { D.tells → (why : Refuses) → result ≡ Err (Refused why) → Keeps (D.view disk.old) (D.view disk.new) }
+        ensures moments { D.tells → LeavesOnly (D.view disk.old) (D.view disk.new)
+            (MayOpen (D.view disk.old) size (recovers (D.view disk.old).seen)) }
+        ensures refused_keeps { D.tells → (why : Refuses) → result ≡ Err (Refused why)
+            → Keeps (D.view disk.old) (D.view disk.new) }
         // Where memory ran out, the files stand for what they stood for.
-        ensures memory { D.tells → result ≡ Err (Halts IsMemoryOut) → LeavesOnly (D.view disk.old) (D.view disk.new) (IsLike (D.view disk.old)) }
+        ensures memory { D.tells → result ≡ Err (Halts IsMemoryOut)
+            → LeavesOnly (D.view disk.old) (D.view disk.new) (IsLike (D.view disk.old)) }
         ensures call { IsCall D.Disk disk.old disk.new (result ≡ Err (Halts IsDiskFault)) }
     {
         match Database::recover(alloc, disk) {

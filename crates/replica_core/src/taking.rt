@@ -8,11 +8,14 @@ ghost use Rattle.kdb_base.specs.declared.outcomes.Halt.TheVariants.{DiskFault as
 ghost use Rattle.kdb_disk.specs.Frames.{IsCall, IsCrashSafe};
 ghost use Rattle.princ_rows.specs.Entries.{IsSent};
 ghost use Rattle.princ_rows.specs.declared.entries.Entry.{Entry as Update};
-ghost use Rattle.replica_core.specs.Opened.{HasSize, IsFaulty, IsHeldOn, IsWhole, LeavesMade, is_broken, place_in, place_of};
-ghost use Rattle.replica_core.specs.Taking.{IsAnswerOf, IsStopIn, OnHalt, UnlessFaulted, UnlessHalted, stored_in, told_reply};
+ghost use Rattle.replica_core.specs.Opened.{HasSize, IsFaulty, IsHeldOn, IsWhole};
+ghost use Rattle.replica_core.specs.Opened.{LeavesMade, is_broken, place_in, place_of};
+ghost use Rattle.replica_core.specs.Taking.{IsAnswerOf, IsStopIn, OnHalt, UnlessFaulted};
+ghost use Rattle.replica_core.specs.Taking.{UnlessHalted, stored_in, told_reply};
 ghost use Rattle.replica_core.specs.declared.stops.ReplicaStop.TheVariants.{Halt as Halts};
 ghost use Rattle.replica_steps.specs.Bridges.{MayBePart};
-ghost use Rattle.replica_steps.specs.Judging.{WrongPoint, gap_in, is_based, is_taken, judged, made_by_reply, point_in, stop_at};
+ghost use Rattle.replica_steps.specs.Judging.{WrongPoint, gap_in, is_based, is_taken};
+ghost use Rattle.replica_steps.specs.Judging.{judged, made_by_reply, point_in, stop_at};
 ghost use Rattle.replica_steps.specs.Replicas.{Take, place_after, task_makes};
 
 use crate::judging::first_gap;
@@ -37,10 +40,14 @@ fn store_in<D: Disk>(
     requires sized { (size : ℕ) × HasSize size database.old }
     requires sent { All IsSent updates.now }
     requires gap { gap_in (is_based (place_in database.old)) (point_in (place_in database.old)) updates.now ≡ None }
-    ensures stop { (size : ℕ) → HasSize size database.old → IsStopIn result (stop_at size (place_in database.old) updates.now) }
-    ensures place { (size : ℕ) → HasSize size database.old → UnlessHalted result (place_in database.new ≡ place_after (place_in database.old) (stored_in size updates.now (place_in database.old))) }
-    ensures part { (size : ℕ) → HasSize size database.old → OnHalt result (MayBePart (place_in database.old) (stored_in size updates.now (place_in database.old)) (place_in database.new)) }
-    ensures crash { (size : ℕ) → HasSize size database.old → IsCrashSafe D.Disk disk.old disk.new (LeavesMade (place_in database.old) (stored_in size updates.now (place_in database.old))) }
+    ensures stop { (size : ℕ) → HasSize size database.old
+        → IsStopIn result (stop_at size (place_in database.old) updates.now) }
+    ensures place { (size : ℕ) → HasSize size database.old → UnlessHalted result (place_in database.new
+        ≡ place_after (place_in database.old) (stored_in size updates.now (place_in database.old))) }
+    ensures part { (size : ℕ) → HasSize size database.old → OnHalt result (MayBePart (place_in database.old)
+        (stored_in size updates.now (place_in database.old)) (place_in database.new)) }
+    ensures crash { (size : ℕ) → HasSize size database.old → IsCrashSafe D.Disk disk.old disk.new
+        (LeavesMade (place_in database.old) (stored_in size updates.now (place_in database.old))) }
     ensures sized { (size : ℕ) → HasSize size database.old → HasSize size database.new }
     ensures none { place_in database.old ≡ None → disk.new ≡ disk.old }
     ensures based { is_based (place_in database.new) ≡ is_based (place_in database.old) }
@@ -65,7 +72,8 @@ fn is_point(asked: &Point, mine: &Point) -> bool
 
 // Stops a reply that answers another point than the replica's.
 fn check_point(asked: &Point, mine: &Point) -> Result<(), ReplicaStop>
-    ensures wrong { IsStopIn result (if is_point asked.now mine.now then None else Some (WrongPoint asked.now mine.now)) }
+    ensures wrong { IsStopIn result
+        (if is_point asked.now mine.now then None else Some (WrongPoint asked.now mine.now)) }
     ensures never { OnHalt result ⊥ }
 {
     if is_point(asked, mine) {
@@ -108,12 +116,20 @@ fn take_updates<D: Disk>(
     requires whole { IsWhole database.old }
     requires sized { (size : ℕ) × HasSize size database.old }
     requires sent { All IsSent updates.now }
-    ensures answer { (size : ℕ) → HasSize size database.old → IsAnswerOf result (judged size (place_in database.old) (reply_of updates_here asked.now updates.now)) }
-    ensures place { (size : ℕ) → HasSize size database.old → UnlessHalted result (place_in database.new ≡ place_after (place_in database.old) (made_by_reply size (place_in database.old) (reply_of updates_here asked.now updates.now))) }
-    ensures part { (size : ℕ) → HasSize size database.old → OnHalt result (MayBePart (place_in database.old) (made_by_reply size (place_in database.old) (reply_of updates_here asked.now updates.now)) (place_in database.new)) }
-    ensures crash { (size : ℕ) → HasSize size database.old → IsCrashSafe D.Disk disk.old disk.new (LeavesMade (place_in database.old) (made_by_reply size (place_in database.old) (reply_of updates_here asked.now updates.now))) }
+    ensures answer { (size : ℕ) → HasSize size database.old
+        → IsAnswerOf result (judged size (place_in database.old) (reply_of updates_here asked.now updates.now)) }
+    ensures place { (size : ℕ) → HasSize size database.old
+        → UnlessHalted result (place_in database.new ≡ place_after (place_in database.old)
+        (made_by_reply size (place_in database.old) (reply_of updates_here asked.now updates.now))) }
+    ensures part { (size : ℕ) → HasSize size database.old → OnHalt result (MayBePart (place_in database.old)
+        (made_by_reply size (place_in database.old) (reply_of updates_here asked.now updates.now))
+        (place_in database.new)) }
+    ensures crash { (size : ℕ)
+        → HasSize size database.old → IsCrashSafe D.Disk disk.old disk.new (LeavesMade (place_in database.old)
+        (made_by_reply size (place_in database.old) (reply_of updates_here asked.now updates.now))) }
     ensures sized { (size : ℕ) → HasSize size database.old → HasSize size database.new }
-    ensures untouched { is_taken (point_in (place_in database.old)) (reply_of updates_here asked.now updates.now) ≡ false → disk.new ≡ disk.old }
+    ensures untouched { is_taken (point_in (place_in database.old)) (reply_of updates_here asked.now updates.now)
+        ≡ false → disk.new ≡ disk.old }
     // Without a database no device call is made.
     ensures none { place_in database.old ≡ None → disk.new ≡ disk.old }
     ensures based { is_based (place_in database.new) ≡ is_based (place_in database.old) }
@@ -140,7 +156,8 @@ fn take_updates<D: Disk>(
 
 // Takes a reply with nothing new.
 fn take_nothing(database: &Option<Database>, asked: &Point) -> Result<Taken4, ReplicaStop>
-    ensures answer { (size : ℕ) (updates : List Update) → IsAnswerOf result (judged size (place_in database.now) (reply_of nothing_new asked.now updates)) }
+    ensures answer { (size : ℕ) (updates : List Update)
+        → IsAnswerOf result (judged size (place_in database.now) (reply_of nothing_new asked.now updates)) }
     ensures never { OnHalt result ⊥ }
 {
     match check_point(asked, &point_in(database)) {
@@ -159,12 +176,17 @@ fn take<D: Disk>(
     requires on { D.tells → IsHeldOn database.old (D.view disk.old) }
     requires whole { IsWhole database.old }
     requires sized { (size : ℕ) × HasSize size database.old }
-    ensures answer { (size : ℕ) → HasSize size database.old → IsAnswerOf result (judged size (place_in database.old) (told_reply reply.now)) }
-    ensures place { (size : ℕ) → HasSize size database.old → UnlessHalted result (place_in database.new ≡ place_after (place_in database.old) (made_by_reply size (place_in database.old) (told_reply reply.now))) }
-    ensures part { (size : ℕ) → HasSize size database.old → OnHalt result (MayBePart (place_in database.old) (made_by_reply size (place_in database.old) (told_reply reply.now)) (place_in database.new)) }
-    ensures crash { (size : ℕ) → HasSize size database.old → IsCrashSafe D.Disk disk.old disk.new (LeavesMade (place_in database.old) (made_by_reply size (place_in database.old) (told_reply reply.now))) }
+    ensures answer { (size : ℕ) → HasSize size database.old
+        → IsAnswerOf result (judged size (place_in database.old) (told_reply reply.now)) }
+    ensures place { (size : ℕ) → HasSize size database.old → UnlessHalted result (place_in database.new
+        ≡ place_after (place_in database.old) (made_by_reply size (place_in database.old) (told_reply reply.now))) }
+    ensures part { (size : ℕ) → HasSize size database.old → OnHalt result (MayBePart (place_in database.old)
+        (made_by_reply size (place_in database.old) (told_reply reply.now)) (place_in database.new)) }
+    ensures crash { (size : ℕ) → HasSize size database.old → IsCrashSafe D.Disk disk.old disk.new
+        (LeavesMade (place_in database.old) (made_by_reply size (place_in database.old) (told_reply reply.now))) }
     ensures sized { (size : ℕ) → HasSize size database.old → HasSize size database.new }
-    ensures untouched { is_taken (point_in (place_in database.old)) (told_reply reply.now) ≡ false → disk.new ≡ disk.old }
+    ensures untouched { is_taken (point_in (place_in database.old)) (told_reply reply.now) ≡ false
+        → disk.new ≡ disk.old }
     // Without a database no device call is made.
     ensures none { place_in database.old ≡ None → disk.new ≡ disk.old }
     ensures based { is_based (place_in database.new) ≡ is_based (place_in database.old) }
@@ -191,9 +213,9 @@ impl Replica {
     /// # Errors
     ///
     /// `WrongPoint` exactly where a reply with updates, or with nothing new, answers another point than the replica's.
-    /// `Gap` where the serials of the updates do not run on from it, or their times fall, and nothing is then stored; or
-    /// where one may not be made of the rows, and those before it are then stored. `Halt` where memory is wanted and not
-    /// given, or the disk failed.
+    /// `Gap` where the serials of the updates do not run on from it, or their times fall, and nothing is then stored;
+    /// or where one may not be made of the rows, and those before it are then stored. `Halt` where memory is wanted and
+    /// not given, or the disk failed.
     pub fn take_reply<D: Disk>(
         &mut self,
         alloc: Global,
@@ -203,10 +225,13 @@ impl Replica {
         requires on { D.tells → IsHeldOn self.old.database (D.view disk.old) }
         requires whole { is_broken self.old.database self.old.failed ≡ false }
         ensures answer { IsAnswerOf result (judged self.old.size (place_of self.old) (told_reply reply)) }
-        ensures place { UnlessHalted result (place_of self.new ≡ place_after (place_of self.old) (task_makes self.old.size (place_of self.old) (Take (told_reply reply)))) }
+        ensures place { UnlessHalted result (place_of self.new ≡ place_after (place_of self.old)
+            (task_makes self.old.size (place_of self.old) (Take (told_reply reply)))) }
         // Where it halted, what was made stands: the place before, or one that an update made.
-        ensures part { OnHalt result (MayBePart (place_of self.old) (task_makes self.old.size (place_of self.old) (Take (told_reply reply))) (place_of self.new)) }
-        ensures crash { IsCrashSafe D.Disk disk.old disk.new (LeavesMade (place_of self.old) (task_makes self.old.size (place_of self.old) (Take (told_reply reply)))) }
+        ensures part { OnHalt result (MayBePart (place_of self.old)
+            (task_makes self.old.size (place_of self.old) (Take (told_reply reply))) (place_of self.new)) }
+        ensures crash { IsCrashSafe D.Disk disk.old disk.new
+            (LeavesMade (place_of self.old) (task_makes self.old.size (place_of self.old) (Take (told_reply reply)))) }
         ensures on { D.tells → UnlessFaulted result (IsHeldOn self.new.database (D.view disk.new)) }
         // A reply that is not taken, or is refused as a whole, comes to no device call.
         ensures untouched { is_taken (point_in (place_of self.old)) (told_reply reply) ≡ false → disk.new ≡ disk.old }

@@ -63,9 +63,12 @@ fn update_anew<D: Disk>(
     requires long { is_too_long op (place_kept database.old) ≡ true }
     requires serial { (point_of (place_kept database.old)).sno < 4294967295 }
     requires time { micros (point_of (place_kept database.old)).time ≤ micros time }
-    ensures place { OnOk result (place_kept database.new ≡ end_of (place_kept database.old) (updated (place_kept database.old).size op time (place_kept database.old))) }
-    ensures part { OnErr result (IsPart (place_kept database.old) (updated (place_kept database.old).size op time (place_kept database.old)) (place_kept database.new)) }
-    ensures crash { IsCrashSafe D.Disk disk.old disk.new (LeavesPart (place_kept database.old) (updated (place_kept database.old).size op time (place_kept database.old))) }
+    ensures place { OnOk result (place_kept database.new
+        ≡ end_of (place_kept database.old) (updated (place_kept database.old).size op time (place_kept database.old))) }
+    ensures part { OnErr result (IsPart (place_kept database.old)
+        (updated (place_kept database.old).size op time (place_kept database.old)) (place_kept database.new)) }
+    ensures crash { IsCrashSafe D.Disk disk.old disk.new (LeavesPart (place_kept database.old)
+        (updated (place_kept database.old).size op time (place_kept database.old))) }
     ensures on { D.tells → OnOk result (IsOnDisk database.new (D.view disk.new)) }
     ensures memory { result ≡ Err IsMemoryOut → disk.new ≡ disk.old }
     ensures still { D.tells → result ≡ Err IsMemoryOut → IsOnDisk database.new (D.view disk.new) }
@@ -96,9 +99,12 @@ fn update_behind<D: Disk>(
     requires short { is_too_long op (place_kept database.old) ≡ false }
     requires serial { (point_of (place_kept database.old)).sno < 4294967295 }
     requires time { micros (point_of (place_kept database.old)).time ≤ micros time }
-    ensures place { OnOk result (place_kept database.new ≡ end_of (place_kept database.old) (updated (place_kept database.old).size op time (place_kept database.old))) }
-    ensures part { OnErr result (IsPart (place_kept database.old) (updated (place_kept database.old).size op time (place_kept database.old)) (place_kept database.new)) }
-    ensures crash { IsCrashSafe D.Disk disk.old disk.new (LeavesPart (place_kept database.old) (updated (place_kept database.old).size op time (place_kept database.old))) }
+    ensures place { OnOk result (place_kept database.new
+        ≡ end_of (place_kept database.old) (updated (place_kept database.old).size op time (place_kept database.old))) }
+    ensures part { OnErr result (IsPart (place_kept database.old)
+        (updated (place_kept database.old).size op time (place_kept database.old)) (place_kept database.new)) }
+    ensures crash { IsCrashSafe D.Disk disk.old disk.new (LeavesPart (place_kept database.old)
+        (updated (place_kept database.old).size op time (place_kept database.old))) }
     ensures on { D.tells → OnOk result (IsOnDisk database.new (D.view disk.new)) }
     ensures memory { result ≡ Err IsMemoryOut → disk.new ≡ disk.old }
     ensures still { D.tells → result ≡ Err IsMemoryOut → IsOnDisk database.new (D.view disk.new) }
@@ -126,11 +132,14 @@ fn update<D: Disk>(
     requires applies { may_apply op.now database.old.rows ≡ true }
     requires serial { (point_of (place_kept database.old)).sno < 4294967295 }
     requires time { micros (point_of (place_kept database.old)).time ≤ micros time }
-    ensures place { OnOk result (place_kept database.new ≡ end_of (place_kept database.old) (updated (place_kept database.old).size op.now time (place_kept database.old))) }
-    ensures part { OnErr result (IsPart (place_kept database.old) (updated (place_kept database.old).size op.now time (place_kept database.old)) (place_kept database.new)) }
+    ensures place { OnOk result (place_kept database.new ≡ end_of (place_kept database.old)
+        (updated (place_kept database.old).size op.now time (place_kept database.old))) }
+    ensures part { OnErr result (IsPart (place_kept database.old)
+        (updated (place_kept database.old).size op.now time (place_kept database.old)) (place_kept database.new)) }
     ensures point { OnOk result (point_of (place_kept database.new) ≡ next_point time (place_kept database.old)) }
     ensures sized { IsSized (place_kept database.old) (place_kept database.new) }
-    ensures crash { IsCrashSafe D.Disk disk.old disk.new (LeavesPart (place_kept database.old) (updated (place_kept database.old).size op.now time (place_kept database.old))) }
+    ensures crash { IsCrashSafe D.Disk disk.old disk.new (LeavesPart (place_kept database.old)
+        (updated (place_kept database.old).size op.now time (place_kept database.old))) }
     ensures on { D.tells → OnOk result (IsOnDisk database.new (D.view disk.new)) }
     ensures still { D.tells → result ≡ Err IsMemoryOut → IsOnDisk database.new (D.view disk.new) }
     ensures whole { OnOk result (database.new.broken ≡ false) }
@@ -171,12 +180,16 @@ fn store_one<D: Disk>(
     requires format { (place_kept database.old).format ≡ 2 }
     requires op { IsOp entry.now.op }
     requires follows { follows true (point_of (place_kept database.old)) entry.now ≡ true }
-    ensures stop { IsStopIn result (stop_or (place_kept database.old).size entry.now.op entry.now.point (place_kept database.old) (λ p. None)) }
-    ensures place { UnlessHalted result (place_kept database.new ≡ end_of (place_kept database.old) (one_updated (place_kept database.old).size entry.now.op entry.now.point.time (place_kept database.old))) }
-    ensures part { OnHalt result (IsPart (place_kept database.old) (one_updated (place_kept database.old).size entry.now.op entry.now.point.time (place_kept database.old)) (place_kept database.new)) }
+    ensures stop { IsStopIn result
+        (stop_or (place_kept database.old).size entry.now.op entry.now.point (place_kept database.old) (λ p. None)) }
+    ensures place { UnlessHalted result (place_kept database.new ≡ end_of (place_kept database.old)
+        (one_updated (place_kept database.old).size entry.now.op entry.now.point.time (place_kept database.old))) }
+    ensures part { OnHalt result (IsPart (place_kept database.old) (one_updated (place_kept database.old).size
+        entry.now.op entry.now.point.time (place_kept database.old)) (place_kept database.new)) }
     ensures point { OnOk result (point_of (place_kept database.new) ≡ entry.now.point) }
     ensures sized { IsSized (place_kept database.old) (place_kept database.new) }
-    ensures crash { IsCrashSafe D.Disk disk.old disk.new (LeavesPart (place_kept database.old) (one_updated (place_kept database.old).size entry.now.op entry.now.point.time (place_kept database.old))) }
+    ensures crash { IsCrashSafe D.Disk disk.old disk.new (LeavesPart (place_kept database.old)
+        (one_updated (place_kept database.old).size entry.now.op entry.now.point.time (place_kept database.old))) }
     ensures on { D.tells → UnlessFaulted result (IsOnDisk database.new (D.view disk.new)) }
     ensures whole { UnlessFaulted result (database.new.broken ≡ false) }
     ensures broken { result ≡ Err (Halts IsDiskFault) → database.new.broken ≡ true }
@@ -197,7 +210,8 @@ fn store_one<D: Disk>(
     }
 }
 
-/// Makes the updates one after another, each a change of the database, up to the first that may not be made of the rows.
+/// Makes the updates one after another, each a change of the database, up to the first that may not be made of the
+/// rows.
 pub(crate) fn store_all<D: Disk>(
     alloc: Global,
     database: &mut Database,
@@ -210,10 +224,13 @@ pub(crate) fn store_all<D: Disk>(
     requires sent { All IsSent updates.now }
     requires gap { gap_in true (point_of (place_kept database.old)) updates.now ≡ None }
     ensures stop { IsStopIn result (stop_in (place_kept database.old).size updates.now (place_kept database.old)) }
-    ensures place { UnlessHalted result (place_kept database.new ≡ end_of (place_kept database.old) (all_updated (place_kept database.old).size updates.now (place_kept database.old))) }
-    ensures part { OnHalt result (IsPart (place_kept database.old) (all_updated (place_kept database.old).size updates.now (place_kept database.old)) (place_kept database.new)) }
+    ensures place { UnlessHalted result (place_kept database.new ≡ end_of (place_kept database.old)
+        (all_updated (place_kept database.old).size updates.now (place_kept database.old))) }
+    ensures part { OnHalt result (IsPart (place_kept database.old)
+        (all_updated (place_kept database.old).size updates.now (place_kept database.old)) (place_kept database.new)) }
     ensures sized { IsSized (place_kept database.old) (place_kept database.new) }
-    ensures crash { IsCrashSafe D.Disk disk.old disk.new (LeavesPart (place_kept database.old) (all_updated (place_kept database.old).size updates.now (place_kept database.old))) }
+    ensures crash { IsCrashSafe D.Disk disk.old disk.new (LeavesPart (place_kept database.old)
+        (all_updated (place_kept database.old).size updates.now (place_kept database.old))) }
     ensures on { D.tells → UnlessFaulted result (IsOnDisk database.new (D.view disk.new)) }
     ensures whole { UnlessFaulted result (database.new.broken ≡ false) }
     ensures broken { result ≡ Err (Halts IsDiskFault) → database.new.broken ≡ true }

@@ -16,7 +16,8 @@ use Rattle.kdb_worlds.specs.Worlds.{AtReplica, Event, Happens, Run, World, no_wo
 use Rattle.replica_events.proofs.Falling.{fall_of, place_is}
 use Rattle.replica_events.specs.At.{FallsBy, FallsTo, IsFall, IsFallOf}
 use Rattle.replica_events.specs.Falls.{FallsIn}
-use Rattle.replica_steps.specs.Replicas.{Does, DoesPart, Falls, HappensTo, IsCopy, MayBeCopy, NodeDumps, NodeEndsDump, NodePolls, NodeServes, Replica, ReplicaEvent, ReplicaRun, Task}
+use Rattle.replica_steps.specs.Replicas.{Does, DoesPart, Falls, HappensTo, IsCopy, MayBeCopy, NodeDumps, NodeEndsDump}
+use Rattle.replica_steps.specs.Replicas.{NodePolls, NodeServes, Replica, ReplicaEvent, ReplicaRun, Task}
 use Rattle.store_files.specs.Found.{recovers}
 use Rattle.world_laws.specs.Opened.{IsReplicaOpened}
 
@@ -41,7 +42,8 @@ falls_silent sent (NodePolls client access asked) old new said fall e = absurd f
 falls_silent sent (NodeDumps client access) old new said fall e = absurd fall
 falls_silent sent NodeEndsDump old new said fall e = absurd fall
 
-falls_in : (events : List ReplicaEvent) (w : World) (i : ℕ) (r : Replica) → All IsFall events → ReplicaRun w.sent (w.replicas i) events r
+falls_in : (events : List ReplicaEvent) (w : World) (i : ℕ) (r : Replica) → All IsFall events
+    → ReplicaRun w.sent (w.replicas i) events r
     → FallsIn w i r
 falls_in [] w i r each run = record {
   events = [];
@@ -75,8 +77,10 @@ pub fall_in : (w : World) (i : ℕ) (c : Files) (h : FallsTo w.sent (w.replicas 
 fall_in w i c h = falls_in h.events w i h.new h.each h.run
 
 -- of one task alone
-pub own_fall_in : (task : Task) (w : World) (i : ℕ) (c : Files) (h : FallsBy (IsFallOf task) w.sent (w.replicas i) c) → FallsIn w i h.new
-own_fall_in task w i c h = falls_in h.events w i h.new (All-weaker (IsFallOf task) IsFall (fall_of task) h.events h.each) h.run
+pub own_fall_in : (task : Task) (w : World) (i : ℕ) (c : Files) (h : FallsBy (IsFallOf task) w.sent (w.replicas i) c)
+    → FallsIn w i h.new
+own_fall_in task w i c h =
+    falls_in h.events w i h.new (All-weaker (IsFallOf task) IsFall (fall_of task) h.events h.each) h.run
 
 run_append : (events more : List Event) (a b d : World) → Run a events b → Run b more d → Run a (events ++ more) d
 run_append [] more a b d run rest = subst (λ (w : World). Run w more d) run rest
@@ -91,7 +95,8 @@ record Recovered (w : World) (i : ℕ) (p : Place) : Type 0 where
   place : (new.replicas i).place ≡ Some p
   site : new.site ≡ w.site
 
-recovered : (events : List Event) (w : World) (i : ℕ) (c : Files) (p : Place) → Run no_world events w → FallsTo w.sent (w.replicas i) c
+recovered : (events : List Event) (w : World) (i : ℕ) (c : Files) (p : Place) → Run no_world events w
+    → FallsTo w.sent (w.replicas i) c
     → recovers c ≡ Ok p → Recovered w i p
 recovered events w i c p run h is =
     let f = fall_in w i c h in
@@ -112,15 +117,18 @@ same_primary new w p site h = record {
   shows = h.shows;
 }
 
-module _ (events : List Event) (w : World) (i : ℕ) (c : Files) (p : Place) (run : Run no_world events w) (h : FallsTo w.sent (w.replicas i) c)
+module _ (events : List Event) (w : World) (i : ℕ) (c : Files) (p : Place) (run : Run no_world events w)
+    (h : FallsTo w.sent (w.replicas i) c)
     (is : recovers c ≡ Ok p) where
   behind : Recovered w i p
   behind = recovered events w i c p run h is
 
   pub replica_shows : ((events : List Event) (w : World) → Run no_world events w → IsLawful w) → IsReplicaOf w p
-  replica_shows law = same_primary behind.new w p behind.site ((law behind.events behind.new behind.run).replicas i p behind.place)
+  replica_shows law =
+      same_primary behind.new w p behind.site ((law behind.events behind.new behind.run).replicas i p behind.place)
 
-  pub replica_opened : ((events : List Event) (w : World) (i : ℕ) (p : Place) → Run no_world events w → (w.replicas i).place ≡ Some p → IsReplicaOpened w p)
+  pub replica_opened : ((events : List Event) (w : World) (i : ℕ) (p : Place) → Run no_world events w
+      → (w.replicas i).place ≡ Some p → IsReplicaOpened w p)
       → IsReplicaOpened w p
   unfolding same_primary
   replica_opened law =
@@ -130,5 +138,6 @@ module _ (events : List Event) (w : World) (i : ℕ) (c : Files) (p : Place) (ru
   pub replica_held : (valid : StaysValid) → IsCopy (places_of w.site) p
   replica_held valid =
       let holds = (world_holds valid behind.events behind.new behind.run).replicas i in
-      let copy : IsCopy (places_of behind.new.site) p = subst (MayBeCopy (places_of behind.new.site)) behind.place holds.copy in
+      let copy : IsCopy (places_of behind.new.site) p =
+      subst (MayBeCopy (places_of behind.new.site)) behind.place holds.copy in
       subst (λ (s : Site). IsCopy (places_of s) p) behind.site copy

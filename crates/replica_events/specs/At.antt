@@ -5,7 +5,8 @@ use Rattle.iprop_truths.specs.Truths.{Message}
 use Rattle.kdb_disk.specs.Files.{Files}
 use Rattle.kdb_places.specs.Places.{Place}
 use Rattle.replica_core.specs.Opened.{Opened, place_of}
-use Rattle.replica_steps.specs.Replicas.{Does, DoesPart, Falls, HappensTo, NodeDumps, NodeEndsDump, NodePolls, NodeServes, Replica, ReplicaEvent, ReplicaRun, Task}
+use Rattle.replica_steps.specs.Replicas.{Does, DoesPart, Falls, HappensTo, NodeDumps, NodeEndsDump}
+use Rattle.replica_steps.specs.Replicas.{NodePolls, NodeServes, Replica, ReplicaEvent, ReplicaRun, Task}
 use Rattle.store_files.specs.Found.{recovers}
 use Rattle.store_files.specs.Recovery.{HasNone}
 

@@ -12,7 +12,8 @@ part_of before [] after h = (zero, h)
 part_of before (q ∷ made) after (inl h) = (zero, h)
 part_of before (q ∷ made) after (inr h) = let part = part_of (Some q) made after h in (suc part.0, part.1)
 
-pub stopped : (sent : List Message) (r : Replica) (task : Task) (up : Bool) (after : Option Place) → r.up ≡ wants_open task → WasSent sent task
+pub stopped : (sent : List Message) (r : Replica) (task : Task) (up : Bool) (after : Option Place)
+    → r.up ≡ wants_open task → WasSent sent task
     → MayBePart r.place (makes_of r task) after
     → IsTaskStopped sent r task up after
 stopped sent r task up after ready came h =
@@ -25,7 +26,8 @@ stopped sent r task up after ready came h =
       up_is = refl;
     }
 
-pub done : (sent : List Message) (r : Replica) (task : Task) (after : Option Place) → r.up ≡ wants_open task → WasSent sent task
+pub done : (sent : List Message) (r : Replica) (task : Task) (after : Option Place) → r.up ≡ wants_open task
+    → WasSent sent task
     → after ≡ place_after r.place (makes_of r task)
     → IsTaskDone sent r task after
 done sent r task after ready came h = record {

@@ -10,7 +10,8 @@ MayBePart before [] after = after ≡ before
 MayBePart before (q ∷ others) after = (after ≡ before) ⊎ MayBePart (Some q) others after
 
 -- The task stopped at this place: an event leads there, and to a replica that is open or is not.
-pub record IsTaskStopped (sent : List Message) (r : Replica) (task : Task) (up : Bool) (after : Option Place) : Type 0 where
+pub record IsTaskStopped (sent : List Message) (r : Replica) (task : Task) (up : Bool)
+    (after : Option Place) : Type 0 where
   pub part : ℕ
   pub new : Replica
   pub happens : HappensTo sent (DoesPart task part up) r new None

@@ -1,5 +1,6 @@
 -- How a replica judges a reply, and the places that it makes of one.
-use Rattle.std.specs.Prelude.{ℕ, ◌+◌, Bool, true, false, not, ◌&&◌, ◌||◌, nat_eq, nat_le, List, [], ◌∷◌, length, Option, Some, None, if◌then◌else◌}
+use Rattle.std.specs.Prelude.{ℕ, ◌+◌, Bool, true, false, not, ◌&&◌, ◌||◌, nat_eq, nat_le}
+use Rattle.std.specs.Prelude.{List, [], ◌∷◌, length, Option, Some, None, if◌then◌else◌}
 use Rattle.iprop_reply.specs.Polls.{is_point}
 use Rattle.iprop_truths.specs.Blocks.{block_for, is_too_long}
 use Rattle.iprop_truths.specs.Parts.{end_of}
@@ -64,7 +65,8 @@ abbrev pub anew_for : ℕ → Op → Place → Place
 anew_for size op p = log_anew (point_of p) size (block_for op p) p
 
 abbrev pub updated : ℕ → Op → Moment → Place → List Place
-updated size op time p = if is_too_long op p then anew_for size op p ∷ committed op time (anew_for size op p) ∷ [] else committed op time p ∷ []
+updated size op time p = if is_too_long op p then anew_for size op p ∷ committed op time (anew_for size op p) ∷ []
+    else committed op time p ∷ []
 
 -- these places, and what comes of the last of them
 abbrev pub then_all : Place → List Place → (Place → List Place) → List Place
@@ -82,7 +84,8 @@ all_updated size (u ∷ us) p = update_or_stop size u.op u.point.time p (all_upd
 
 abbrev pub stop_or : ℕ → Option Op → Point → Place → (Place → Option Judged) → Option Judged
 stop_or size None at p rest = Some (Gap at.sno at)
-stop_or size (Some op) at p rest = if may_apply op p.rows then rest (end_of p (updated size op at.time p)) else Some (Gap at.sno at)
+stop_or size (Some op) at p rest = if may_apply op p.rows then rest (end_of p (updated size op at.time p))
+    else Some (Gap at.sno at)
 
 -- the first update that may not be made of the rows
 unfoldable pub stop_in : ℕ → List Entry → Place → Option Judged
@@ -101,11 +104,13 @@ first_of (Some gap) otherwise = gap
 
 -- over the whole reply first, then one update after another
 abbrev pub judged_updates : ℕ → Option Place → List Entry → Judged
-judged_updates size place us = first_of (gap_in (is_based place) (point_in place) us) (first_of (stop_at size place us) (Updated (length us)))
+judged_updates size place us =
+    first_of (gap_in (is_based place) (point_in place) us) (first_of (stop_at size place us) (Updated (length us)))
 
 abbrev pub judged_other : ℕ → Judged
 judged_other code =
-    if nat_eq code nothing_new then Nil else if nat_eq code resync_needed then Resync else if nat_eq code dumps_busy then Busy else Denied
+    if nat_eq code nothing_new then Nil else if nat_eq code resync_needed then Resync else if nat_eq code dumps_busy
+    then Busy else Denied
 
 -- a reply that speaks of the point that was asked for
 abbrev pub names_point : ℕ → Bool

@@ -1,5 +1,6 @@
 -- What happens at a replica: what replies, dumps and openings make of it, and what it tells others as a node.
-use Rattle.std.specs.Prelude.{ℕ, ◌≡◌, ◌<◌, ◌≤◌, ◌+◌, ◌-◌, Bool, true, false, ◌&&◌, nat_eq, List, [], ◌∷◌, Contains, take, Option, Some, None, if◌then◌else◌}
+use Rattle.std.specs.Prelude.{ℕ, ◌≡◌, ◌<◌, ◌≤◌, ◌+◌, ◌-◌, Bool, true, false, ◌&&◌, nat_eq, List}
+use Rattle.std.specs.Prelude.{[], ◌∷◌, Contains, take, Option, Some, None, if◌then◌else◌}
 use Rattle.acl_text.specs.declared.rules.AclLine.{AclLine}
 use Rattle.iprop_reply.specs.Polls.{is_point}
 use Rattle.iprop_truths.specs.Polls.{PollReply, dumps_busy, nothing_new, poll_denied, poll_reply, reply_of}
@@ -85,7 +86,8 @@ fallen r = record r { up = false }
 abbrev pub is_busy : Replica → Bool
 is_busy r = nat_eq r.dumps r.room
 
--- What it tells others of what it holds. Without a database it has nothing new for its own point, and is busy for every other one.
+-- What it tells others of what it holds. Without a database it has nothing new for its own point, and is busy for every
+-- other one.
 abbrev pub node_reply : Option Place → Bool → Bool → Point → PollReply
 node_reply None denied busy asked =
     if denied then reply_of poll_denied asked [] else reply_of (if is_point asked no_point then nothing_new else dumps_busy) asked []
@@ -117,7 +119,8 @@ wants_open (Take r) = true
 wants_open (Install d) = true
 wants_open (Reopen n) = false
 
-pub record Done (sent : List Message) (old new : Replica) (task : Task) (done : List Place) (up : Bool) (said : Option Message) : Type 0 where
+pub record Done (sent : List Message) (old new : Replica) (task : Task) (done : List Place) (up : Bool)
+    (said : Option Message) : Type 0 where
   pub came : WasSent sent task
   pub ready : old.up ≡ wants_open task
   pub is : new ≡ replica_after old task done up
@@ -134,12 +137,14 @@ pub record NodeServed (old new : Replica) (room : ℕ) (said : Option Message) :
   pub is : new ≡ with_dumps 0 room old
   pub silent : said ≡ None
 
-pub record NodePolled (old new : Replica) (client : NameParts) (access : Option (List AclLine)) (asked : Point) (said : Option Message) : Type 0 where
+pub record NodePolled (old new : Replica) (client : NameParts) (access : Option (List AclLine)) (asked : Point)
+    (said : Option Message) : Type 0 where
   pub ready : old.up ≡ true
   pub is : new ≡ old
   pub says : said ≡ Some (Reply (node_reply old.place (denies_pull access client) (is_busy old) asked))
 
-pub record NodeDumped (old new : Replica) (client : NameParts) (access : Option (List AclLine)) (said : Option Message) : Type 0 where
+pub record NodeDumped (old new : Replica) (client : NameParts) (access : Option (List AclLine))
+    (said : Option Message) : Type 0 where
   pub place : Place
   pub at : old.place ≡ Some place
   pub ready : old.up ≡ true

@@ -6,7 +6,8 @@ use Rattle.iprop_truths.specs.Truths.{Has}
 use Rattle.kdb_places.specs.Places.{Place, contents_of, last_point, point_of}
 use Rattle.replica_steps.specs.Judging.{Updated, all_updated, is_taken, judged}
 
--- Each update of the reply is made, and the replica stands at the last one's point with the contents of the place there.
+-- Each update of the reply is made, and the replica stands at the last one's point with the contents of the place
+-- there.
 pub record IsTakenWhole (places : List Place) (size : ℕ) (p : Place) (r : PollReply) : Type 0 where
   pub taken : is_taken (point_of p) r ≡ true
   pub answer : judged size (Some p) r ≡ Updated (length r.updates)

@@ -1,5 +1,5 @@
-//! A replica over a disk in memory: what its calls answer, and where it stands behind them. The crate has no code of its
-//! own.
+//! A replica over a disk in memory: what its calls answer, and where it stands behind them. The crate has no code of
+//! its own.
 #![tactic(auto)]
 
 #[cfg(test)]

@@ -1,5 +1,6 @@
 -- What keys take of a block.
-use Rattle.std.proofs.Common.{◌≡◌, ℕ, ◌*◌, ◌≤◌, Bool, true, false, List, [], ◌∷◌, drop, take, length, map, refl, ap, arith}
+use Rattle.std.proofs.Common.{◌≡◌, ℕ, ◌*◌, ◌≤◌, Bool, true, false, List, []}
+use Rattle.std.proofs.Common.{◌∷◌, drop, take, length, map, refl, ap, arith}
 use Rattle.std.specs.List.{sum_by}
 use Rattle.std.proofs.lemmas.List.Sums.{sum_by-cons}
 use Rattle.kdb_base.specs.Etypes.{key_len}
@@ -24,13 +25,19 @@ unfolding taken_lens
 few_taken drawn [] = omega arith
 few_taken drawn (k ∷ keys) = omega (arith, sum_by-cons (taken_len drawn) k keys, few_each drawn k, few_taken drawn keys)
 
-pub drawn_taken : (random : List ℕ) (etypes : List Etype) (kvno : ℕ) → taken_lens true (items_of kvno (random_keys random etypes)) ≡ sum_by drawn_len etypes
+pub drawn_taken : (random : List ℕ) (etypes : List Etype) (kvno : ℕ)
+    → taken_lens true (items_of kvno (random_keys random etypes)) ≡ sum_by drawn_len etypes
 unfolding taken_lens items_of random_keys
 drawn_taken random [] kvno = refl
 drawn_taken random (e ∷ etypes) kvno =
     let rest = drop (drawn_len e) random in
     let k : PlainItem = item_of kvno (record { etype = e; bytes = take (key_len e) random }) in
-    omega (arith, sum_by-cons (taken_len true) k (map (item_of kvno) (random_keys rest etypes)), sum_by-cons drawn_len e etypes, drawn_taken rest etypes kvno)
+    omega (
+      arith,
+      sum_by-cons (taken_len true) k (map (item_of kvno) (random_keys rest etypes)),
+      sum_by-cons drawn_len e etypes,
+      drawn_taken rest etypes kvno,
+    )
 
 abbrev type_of : Key → Etype
 type_of k = k.etype
@@ -40,7 +47,8 @@ unfolding random_keys
 random_types random [] = refl
 random_types random (e ∷ etypes) = ap (λ (es : List Etype). e ∷ es) (random_types (drop (drawn_len e) random) etypes)
 
-pub password_types : (password salt : List ℕ) (etypes : List Etype) → map type_of (password_keys password salt etypes) ≡ etypes
+pub password_types : (password salt : List ℕ) (etypes : List Etype)
+    → map type_of (password_keys password salt etypes) ≡ etypes
 unfolding password_keys
 password_types password salt [] = refl
 password_types password salt (e ∷ etypes) = ap (λ (es : List Etype). e ∷ es) (password_types password salt etypes)

@@ -31,30 +31,38 @@ use Rattle.row_keys.proofs.Sides.{zip_left, zip_right}
 -- ---- keys
 
 module _ (master : Key) where
-  number_alike : (item : KeyItem) (k : PlainItem) → ShowsItem master item k → number_of item.etype ≡ number_of k.key.etype
+  number_alike : (item : KeyItem) (k : PlainItem) → ShowsItem master item k
+      → number_of item.etype ≡ number_of k.key.etype
   number_alike item k f = ap number_of (sym f.holds.of_type)
 
-  follow_alike : (a b : KeyItem) (k l : PlainItem) → ShowsItem master a k → ShowsItem master b l → kept.may_follow a b ≡ may_follow k l
+  follow_alike : (a b : KeyItem) (k l : PlainItem) → ShowsItem master a k → ShowsItem master b l
+      → kept.may_follow a b ≡ may_follow k l
   follow_alike a b k l f g =
       ap (λ n. nat_lt b.kvno n || (nat_eq b.kvno n && not (nat_eq (number_of b.etype) (number_of a.etype)))) f.kvno
       ∙ ap (λ n. nat_lt n k.kvno || (nat_eq n k.kvno && not (nat_eq (number_of b.etype) (number_of a.etype)))) g.kvno
-      ∙ ap (λ n. nat_lt l.kvno k.kvno || (nat_eq l.kvno k.kvno && not (nat_eq (number_of b.etype) n))) (number_alike a k f)
-      ∙ ap (λ n. nat_lt l.kvno k.kvno || (nat_eq l.kvno k.kvno && not (nat_eq n (number_of k.key.etype)))) (number_alike b l g)
+      ∙ ap (λ n. nat_lt l.kvno k.kvno || (nat_eq l.kvno k.kvno && not (nat_eq (number_of b.etype) n)))
+      (number_alike a k f)
+      ∙ ap (λ n. nat_lt l.kvno k.kvno || (nat_eq l.kvno k.kvno && not (nat_eq n (number_of k.key.etype))))
+      (number_alike b l g)
 
-  all_alike : (a : KeyItem) (k : PlainItem) (items : List KeyItem) (keys : List PlainItem) → ShowsItem master a k → AllZip (ShowsItem master) items keys → list_all (kept.may_follow a) items ≡ list_all (may_follow k) keys
+  all_alike : (a : KeyItem) (k : PlainItem) (items : List KeyItem) (keys : List PlainItem) → ShowsItem master a k
+      → AllZip (ShowsItem master) items keys → list_all (kept.may_follow a) items ≡ list_all (may_follow k) keys
   all_alike a k [] [] f h = refl
   all_alike a k [] (l ∷ keys) f h = absurd h
   all_alike a k (b ∷ items) [] f h = absurd h
   all_alike a k (b ∷ items) (l ∷ keys) f h =
-      ap (λ t. t && list_all (kept.may_follow a) items) (follow_alike a b k l f h.0) ∙ ap (λ t. may_follow k l && t) (all_alike a k items keys f h.1)
+      ap (λ t. t && list_all (kept.may_follow a) items) (follow_alike a b k l f h.0)
+      ∙ ap (λ t. may_follow k l && t) (all_alike a k items keys f h.1)
 
-  ordered_alike : (items : List KeyItem) (keys : List PlainItem) → AllZip (ShowsItem master) items keys → kept.are_ordered items ≡ are_ordered keys
+  ordered_alike : (items : List KeyItem) (keys : List PlainItem) → AllZip (ShowsItem master) items keys
+      → kept.are_ordered items ≡ are_ordered keys
   unfolding kept.are_ordered are_ordered
   ordered_alike [] [] h = refl
   ordered_alike [] (l ∷ keys) h = absurd h
   ordered_alike (b ∷ items) [] h = absurd h
   ordered_alike (b ∷ items) (l ∷ keys) h =
-      ap (λ t. t && kept.are_ordered items) (all_alike b l items keys h.0 h.1) ∙ ap (λ t. list_all (may_follow l) keys && t) (ordered_alike items keys h.1)
+      ap (λ t. t && kept.are_ordered items) (all_alike b l items keys h.0 h.1)
+      ∙ ap (λ t. list_all (may_follow l) keys && t) (ordered_alike items keys h.1)
 
   salt_from : (a b : Salt) → a ≡ b → IsSalt a → IsSalt b
   salt_from a b e f = subst IsSalt e f
@@ -63,36 +71,50 @@ module _ (master : Key) where
   item_from item k f g =
       let some = g.from_one in
       let short = g.kvno in
-      record { from_one = omega (arith, f.kvno); kvno = omega (arith, f.kvno); salt = salt_from item.salt k.salt f.salt g.salt }
+      record {
+        from_one = omega (arith, f.kvno);
+        kvno = omega (arith, f.kvno);
+        salt = salt_from item.salt k.salt f.salt g.salt;
+      }
 
   item_to : (item : KeyItem) (k : PlainItem) → ShowsItem master item k → IsItem k → IsKey item
   item_to item k f g =
       let some = g.from_one in
       let short = g.kvno in
-      record { from_one = omega (arith, f.kvno); kvno = omega (arith, f.kvno); salt = salt_from k.salt item.salt (sym f.salt) g.salt; wrapped = short_blob f.holds }
+      record {
+        from_one = omega (arith, f.kvno);
+        kvno = omega (arith, f.kvno);
+        salt = salt_from k.salt item.salt (sym f.salt) g.salt;
+        wrapped = short_blob f.holds;
+      }
 
-  pub items_from : (items : List KeyItem) (keys : List PlainItem) → AllZip (ShowsItem master) items keys → AreKeys items → AreItems keys
+  pub items_from : (items : List KeyItem) (keys : List PlainItem) → AllZip (ShowsItem master) items keys → AreKeys items
+      → AreItems keys
   items_from items keys h f =
       let few = f.few in
       record {
         few = omega (arith, zip_length (ShowsItem master) items keys h);
-        each = All-from_recursion IsItem keys (zip_right (ShowsItem master) IsKey IsItem item_from items keys h (recursion_from_All IsKey items f.each));
+        each = All-from_recursion IsItem keys
+            (zip_right (ShowsItem master) IsKey IsItem item_from items keys h (recursion_from_All IsKey items f.each));
         ordered = sym (ordered_alike items keys h) ∙ f.ordered;
       }
 
-  pub items_to : (items : List KeyItem) (keys : List PlainItem) → AllZip (ShowsItem master) items keys → AreItems keys → AreKeys items
+  pub items_to : (items : List KeyItem) (keys : List PlainItem) → AllZip (ShowsItem master) items keys → AreItems keys
+      → AreKeys items
   items_to items keys h f =
       let few = f.few in
       record {
         few = omega (arith, zip_length (ShowsItem master) items keys h);
-        each = All-from_recursion IsKey items (zip_left (ShowsItem master) IsKey IsItem item_to items keys h (recursion_from_All IsItem keys f.each));
+        each = All-from_recursion IsKey items
+            (zip_left (ShowsItem master) IsKey IsItem item_to items keys h (recursion_from_All IsItem keys f.each));
         ordered = ordered_alike items keys h ∙ f.ordered;
       }
 
 -- ---- remembered sets
 
 module _ (history : Key) where
-  old_short : (kept : List OldKey) (keys : List Key) → AllZip (ShowsOldKey history) kept keys → AllByRecursion IsOldKey kept
+  old_short : (kept : List OldKey) (keys : List Key) → AllZip (ShowsOldKey history) kept keys
+      → AllByRecursion IsOldKey kept
   old_short [] [] h = tt
   old_short [] (l ∷ keys) h = absurd h
   old_short (b ∷ items) [] h = absurd h
@@ -102,7 +124,10 @@ module _ (history : Key) where
   set_from kept s f g =
       let kvno = g.kvno in
       let count = g.count in
-      record { kvno = omega (arith, f.kvno); count = omega (arith, zip_length (ShowsOldKey history) kept.keys s.keys f.keys) }
+      record {
+        kvno = omega (arith, f.kvno);
+        count = omega (arith, zip_length (ShowsOldKey history) kept.keys s.keys f.keys);
+      }
 
   set_to : (kept : OldSet) (s : PlainSet) → ShowsSet history kept s → IsSet s → IsOldSet kept
   set_to kept s f g =
@@ -114,20 +139,24 @@ module _ (history : Key) where
         keys = All-from_recursion IsOldKey kept.keys (old_short kept.keys s.keys f.keys);
       }
 
-  pub sets_from : (kept : List OldSet) (sets : List PlainSet) → AllZip (ShowsSet history) kept sets → AreOldSets kept → AreSets sets
+  pub sets_from : (kept : List OldSet) (sets : List PlainSet) → AllZip (ShowsSet history) kept sets → AreOldSets kept
+      → AreSets sets
   sets_from kept sets h f =
       let few = f.few in
       record {
         few = omega (arith, zip_length (ShowsSet history) kept sets h);
-        each = All-from_recursion IsSet sets (zip_right (ShowsSet history) IsOldSet IsSet set_from kept sets h (recursion_from_All IsOldSet kept f.each));
+        each = All-from_recursion IsSet sets (zip_right (ShowsSet history) IsOldSet IsSet set_from kept sets h
+            (recursion_from_All IsOldSet kept f.each));
       }
 
-  pub sets_to : (kept : List OldSet) (sets : List PlainSet) → AllZip (ShowsSet history) kept sets → AreSets sets → AreOldSets kept
+  pub sets_to : (kept : List OldSet) (sets : List PlainSet) → AllZip (ShowsSet history) kept sets → AreSets sets
+      → AreOldSets kept
   sets_to kept sets h f =
       let few = f.few in
       record {
         few = omega (arith, zip_length (ShowsSet history) kept sets h);
-        each = All-from_recursion IsOldSet kept (zip_left (ShowsSet history) IsOldSet IsSet set_to kept sets h (recursion_from_All IsSet sets f.each));
+        each = All-from_recursion IsOldSet kept
+            (zip_left (ShowsSet history) IsOldSet IsSet set_to kept sets h (recursion_from_All IsSet sets f.each));
       }
 
 -- ---- the record
@@ -173,13 +202,16 @@ fields_fit p none f keys old = record {
   old = old;
 }
 
-pub princ_formed : (master history : Key) (p : Princ) (q : PlainPrinc) → ShowsUnder master history p q → p.chain ≡ None → IsPrinc p → IsFormed q
+pub princ_formed : (master history : Key) (p : Princ) (q : PlainPrinc) → ShowsUnder master history p q → p.chain ≡ None
+    → IsPrinc p → IsFormed q
 princ_formed master history p q f none fits = record {
   fields = subst AreFields f.fields (fields_of p none fits);
   keys = items_from master p.keys q.keys f.keys fits.keys;
   old = sets_from history p.old q.old f.old fits.old;
 }
 
-pub formed_princ : (master history : Key) (p : Princ) (q : PlainPrinc) → ShowsUnder master history p q → p.chain ≡ None → IsFormed q → IsPrinc p
+pub formed_princ : (master history : Key) (p : Princ) (q : PlainPrinc) → ShowsUnder master history p q → p.chain ≡ None
+    → IsFormed q → IsPrinc p
 formed_princ master history p q f none formed =
-    fields_fit p none (subst AreFields (sym f.fields) formed.fields) (items_to master p.keys q.keys f.keys formed.keys) (sets_to history p.old q.old f.old formed.old)
+    fields_fit p none (subst AreFields (sym f.fields) formed.fields) (items_to master p.keys q.keys f.keys formed.keys)
+    (sets_to history p.old q.old f.old formed.old)

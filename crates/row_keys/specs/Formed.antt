@@ -1,5 +1,7 @@
--- Plain principals whose records have a spelling: the plain side of princ_record's `IsPrinc`, for other principals than K/M.
-use Rattle.std.specs.Prelude.{◌≡◌, ◌^◌, ◌<◌, ◌≤◌, Bool, true, false, not, ◌&&◌, ◌||◌, nat_eq, nat_lt, List, [], ◌∷◌, length, IsTrue}
+-- Plain principals whose records have a spelling: the plain side of princ_record's `IsPrinc`, for other principals than
+-- K/M.
+use Rattle.std.specs.Prelude.{◌≡◌, ◌^◌, ◌<◌, ◌≤◌, Bool, true, false, not, ◌&&◌}
+use Rattle.std.specs.Prelude.{◌||◌, nat_eq, nat_lt, List, [], ◌∷◌, length, IsTrue}
 use Rattle.std.specs.List.{All, list_all}
 use Rattle.kdb_base.specs.Etypes.{number_of}
 use Rattle.kdb_base.specs.Limits.{most_keys, most_old_sets}
@@ -23,7 +25,8 @@ pub record IsItem (k : PlainItem) : Type 0 where
 
 -- a later key has no higher version, and of the same version another type
 abbrev pub may_follow : PlainItem → PlainItem → Bool
-may_follow k later = nat_lt later.kvno k.kvno || (nat_eq later.kvno k.kvno && not (nat_eq (number_of later.key.etype) (number_of k.key.etype)))
+may_follow k later = nat_lt later.kvno k.kvno
+    || (nat_eq later.kvno k.kvno && not (nat_eq (number_of later.key.etype) (number_of k.key.etype)))
 
 unfoldable pub are_ordered : List PlainItem → Bool
 are_ordered [] = true

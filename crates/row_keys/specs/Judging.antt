@@ -12,5 +12,7 @@ use Rattle.row_keys.specs.declared.sound.History.TheVariants.{Missing, Closed, O
 -- what was found of kadmin/history
 abbrev pub IsHistoryOf : List Master → List ℕ → List Princ → History → Type 0
 IsHistoryOf masters realm princs Missing = record_named (history_name realm) princs ≡ None
-IsHistoryOf masters realm princs Closed = (record_named (history_name realm) princs ≢ None) × ((key : Key) → HasHistoryKey masters realm princs key → ⊥)
-IsHistoryOf masters realm princs (Opened key) = HasHistoryKey masters realm princs key × ((other : Key) → HasHistoryKey masters realm princs other → key ≡ other)
+IsHistoryOf masters realm princs Closed =
+    (record_named (history_name realm) princs ≢ None) × ((key : Key) → HasHistoryKey masters realm princs key → ⊥)
+IsHistoryOf masters realm princs (Opened key) =
+    HasHistoryKey masters realm princs key × ((other : Key) → HasHistoryKey masters realm princs other → key ≡ other)

@@ -1,4 +1,5 @@
--- What is found among records by name, and how many there are of a kind. The same words over plain principals are in kdb_plain.
+-- What is found among records by name, and how many there are of a kind. The same words over plain principals are in
+-- kdb_plain.
 use Rattle.std.specs.Prelude.{ℕ, Bool, not, ◌&&◌, nat_eq, List, [], ◌∷◌, length, filter, find, Option}
 use Rattle.std.specs.Str.{bytes_eq}
 use Rattle.master_keys.specs.First.{master_name}

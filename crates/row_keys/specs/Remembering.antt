@@ -13,11 +13,13 @@ wrapped_old_key history confounder key = record { etype = key.etype; wrapped = w
 -- each with the next 16 bytes
 unfoldable pub wrapped_old_keys : Key → List ℕ → List Key → List OldKey
 wrapped_old_keys history random [] = []
-wrapped_old_keys history random (k ∷ keys) = wrapped_old_key history (take 16 random) k ∷ wrapped_old_keys history (drop 16 random) keys
+wrapped_old_keys history random (k ∷ keys) =
+    wrapped_old_key history (take 16 random) k ∷ wrapped_old_keys history (drop 16 random) keys
 
 -- the keys of the greatest version
 abbrev pub wrapped_set : Key → List ℕ → List PlainItem → OldSet
-wrapped_set history random keys = record { kvno = newest_kvno keys; keys = wrapped_old_keys history random (newest_keys keys) }
+wrapped_set history random keys =
+    record { kvno = newest_kvno keys; keys = wrapped_old_keys history random (newest_keys keys) }
 
 -- before those of earlier ones, where there is a key
 abbrev pub with_wrapped_set : Key → List ℕ → List PlainItem → List OldSet → List OldSet

@@ -8,7 +8,8 @@ use Rattle.princ_rows.specs.declared.entries.Op.{Op}
 use Rattle.princ_rows.specs.declared.entries.Op.TheVariants as op
 use Rattle.kdb_plain.specs.Changes.{IsOrdinary}
 use Rattle.kdb_plain.specs.declared.changes.PlainOp.{PlainOp}
-use Rattle.kdb_plain.specs.declared.changes.PlainOp.TheVariants.{PutPrinc, DropPrinc, Rename, PutPolicy, DropPolicy, PutMasters}
+use Rattle.kdb_plain.specs.declared.changes.PlainOp.TheVariants.{PutPrinc, DropPrinc, Rename}
+use Rattle.kdb_plain.specs.declared.changes.PlainOp.TheVariants.{PutPolicy, DropPolicy, PutMasters}
 use Rattle.kdb_plain.specs.States.{first_key, history_key, history_name, master_of}
 use Rattle.kdb_plain.specs.declared.princs.PlainPrinc.{PlainPrinc}
 use Rattle.kdb_plain.specs.declared.states.State.{State}
@@ -21,7 +22,8 @@ ShowsOp masters history (op.DropPrinc name) (DropPrinc other) = name ≡ other
 ShowsOp masters history (op.Rename old p) (Rename other q) = (old ≡ other) × ShowsPrinc masters history p q
 ShowsOp masters history (op.PutPolicy p) (PutPolicy q) = p ≡ q
 ShowsOp masters history (op.DropPolicy name) (DropPolicy other) = name ≡ other
-ShowsOp masters history (op.PutPrinc p) (PutMasters q kept activations) = ShowsPrinc kept history p q × ShowsChain kept activations p
+ShowsOp masters history (op.PutPrinc p) (PutMasters q kept activations) =
+    ShowsPrinc kept history p q × ShowsChain kept activations p
 ShowsOp masters history _ _ = ⊥
 
 -- kadmin/history is put with the key that it has
@@ -32,7 +34,8 @@ pub record MayPut (s : State) (q : PlainPrinc) : Type 0 where
 -- K/M is put, and the version of every other principal keeps its key
 pub record MayPutMasters (s : State) (q : PlainPrinc) (kept : List Master) : Type 0 where
   pub is_master : q.name ≡ master_name s.realm
-  pub same_keys : All (λ (o : PlainPrinc). (o.name ≡ master_name s.realm) ⊎ (master_of kept o.mkvno ≡ master_of s.masters o.mkvno)) s.princs
+  pub same_keys : All (λ (o : PlainPrinc). (o.name ≡ master_name s.realm)
+      ⊎ (master_of kept o.mkvno ≡ master_of s.masters o.mkvno)) s.princs
 
 -- the change leaves the database's own keys
 abbrev pub SparesKeys : State → PlainOp → Type 0

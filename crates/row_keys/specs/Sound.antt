@@ -1,5 +1,7 @@
--- What an opening and a load ask of rows beyond their grammar. Rows of which this holds show a state, and it is valid at the time.
-use Rattle.std.specs.Prelude.{ℕ, ◌≡◌, ◌≢◌, ◌<◌, List, [], ◌∷◌, length, take, get_or, Some, None, is_some, IfSome, IsTrue}
+-- What an opening and a load ask of rows beyond their grammar. Rows of which this holds show a state, and it is valid
+-- at the time.
+use Rattle.std.specs.Prelude.{ℕ, ◌≡◌, ◌≢◌, ◌<◌, List, [], ◌∷◌, length, take}
+use Rattle.std.specs.Prelude.{get_or, Some, None, is_some, IfSome, IsTrue}
 use Rattle.std.specs.List.{All}
 use Rattle.kdb_base.specs.Key.{Key}
 use Rattle.kdb_base.specs.Moment.{Moment}
@@ -79,7 +81,8 @@ pub record IsSoundChain (masters : List Master) (secs : ℕ) (p : Princ) : Type 
 
 -- where kadmin/history is missing, remembered keys are no fault of the record that has them
 abbrev pub OpensOld : List Master → List ℕ → List Princ → List OldSet → Type 0
-OpensOld masters realm princs old = record_named (history_name realm) princs ≢ None → AreRemembered masters realm princs old
+OpensOld masters realm princs old = record_named (history_name realm) princs ≢ None
+    → AreRemembered masters realm princs old
 
 -- what is asked of K/M and of kadmin/history alone
 pub record IsSoundOwn (j : Judged) (p : Princ) : Type 0 where

@@ -1,5 +1,5 @@
--- Keys wrapped with the random bytes of a command, from the front of its block: each key takes 16 for its confounder, and before them
--- its own bytes where it is a new random key.
+-- Keys wrapped with the random bytes of a command, from the front of its block: each key takes 16 for its confounder,
+-- and before them its own bytes where it is a new random key.
 use Rattle.std.specs.Prelude.{ℕ, ◌+◌, Bool, false, List, [], ◌∷◌, ◌++◌, take, drop, if◌then◌else◌}
 use Rattle.std.specs.List.{sum_by}
 use Rattle.kdb_base.specs.Etypes.{key_len}
@@ -25,13 +25,15 @@ confounder_of drawn random k = take 16 (drop (front_len drawn k) random)
 
 -- the key, wrapped with this confounder
 unfoldable pub wrapped_item : Key → List ℕ → PlainItem → KeyItem
-wrapped_item master confounder k = record { kvno = k.kvno; etype = k.key.etype; salt = k.salt; wrapped = wrapped master k.key confounder }
+wrapped_item master confounder k =
+    record { kvno = k.kvno; etype = k.key.etype; salt = k.salt; wrapped = wrapped master k.key confounder }
 
 -- one after another
 unfoldable pub wrapped_items : Key → Bool → List ℕ → List PlainItem → List KeyItem
 wrapped_items master drawn random [] = []
 wrapped_items master drawn random (k ∷ keys) =
-    wrapped_item master (confounder_of drawn random k) k ∷ wrapped_items master drawn (drop (taken_len drawn k) random) keys
+    wrapped_item master (confounder_of drawn random k) k
+    ∷ wrapped_items master drawn (drop (taken_len drawn k) random) keys
 
 -- new keys, and behind them old ones that stay and are wrapped anew
 unfoldable pub rekeyed_items : Key → Bool → List ℕ → List PlainItem → List PlainItem → List KeyItem

@@ -28,7 +28,8 @@ pub fn newest_version(items: &[KeyItem]) -> u16
 /// The keys of this version and of later ones, as they are wrapped. Memory is not asked for.
 pub fn kept_from(kvno: u16, keys: Keys) -> Keys
     ensures items { result ≡ kept_from kvno keys }
-    ensures shows { (master : Key) (plain : List PlainItem) → AllZip (ShowsItem master) keys plain → AllZip (ShowsItem master) result (keys_from kvno plain) }
+    ensures shows { (master : Key) (plain : List PlainItem) → AllZip (ShowsItem master) keys plain
+        → AllZip (ShowsItem master) result (keys_from kvno plain) }
 {
     let mut items = keys.into_vec();
     items.retain(|item| item.kvno >= kvno);
@@ -58,7 +59,8 @@ fn settled_kept(alloc: Global, name: &Name, item: &KeyItem) -> Result<KeyItem, M
 #[tactic(auto, unfolding(crate::specs::KeptKeys::settled_keys))]
 pub fn settled_keys(alloc: Global, name: &Name, items: &[KeyItem]) -> Result<Keys, MemoryOut>
     ensures items { IfOk result (λ keys. keys ≡ settled_keys name.now items.now) }
-    ensures shows { (master : Key) (plain : List PlainItem) → AllZip (ShowsItem master) items.now plain → IfOk result (λ keys. AllZip (ShowsItem master) keys (settled_items name.now plain)) }
+    ensures shows { (master : Key) (plain : List PlainItem) → AllZip (ShowsItem master) items.now plain
+        → IfOk result (λ keys. AllZip (ShowsItem master) keys (settled_items name.now plain)) }
 {
     let mut keys = Vec::with_capacity(alloc, items.len())?;
     for item in items {

@@ -19,7 +19,8 @@ use std::alloc::Global;
 
 fn open_item(alloc: Global, master: &MasterKey, item: &KeyItem) -> Result<PlainItem, Unopened>
     ensures ok { IfOk result (λ k. ShowsItem master.now item.now k) }
-    ensures only { (k : PlainItem) → ShowsItem master.now item.now k → MatchResult result (λ found. found ≡ k) (λ fault. fault ≡ Unopened.MemoryOut) }
+    ensures only { (k : PlainItem) → ShowsItem master.now item.now k
+        → MatchResult result (λ found. found ≡ k) (λ fault. fault ≡ Unopened.MemoryOut) }
 {
     match master.unwrap(alloc, item.etype, item.wrapped.as_slice()) {
         Ok(key) => match copy_salt(alloc, &item.salt) {
@@ -47,8 +48,10 @@ pub fn open_items(
 ) -> Result<PlainItems, Unopened>
     ensures ok { IfOk result (λ keys. AllZip (ShowsItem master.now) items.now keys) }
     // What the items hold is given, unless memory runs out.
-    ensures only { (plain : List PlainItem) → AllZip (ShowsItem master.now) items.now plain → MatchResult result (λ keys. keys ≡ plain) (λ fault. fault ≡ Unopened.MemoryOut) }
-    ensures wrong { result ≡ Err Unopened.Wrong → (plain : List PlainItem) → ¬ AllZip (ShowsItem master.now) items.now plain }
+    ensures only { (plain : List PlainItem) → AllZip (ShowsItem master.now) items.now plain
+        → MatchResult result (λ keys. keys ≡ plain) (λ fault. fault ≡ Unopened.MemoryOut) }
+    ensures wrong { result ≡ Err Unopened.Wrong → (plain : List PlainItem)
+        → ¬ AllZip (ShowsItem master.now) items.now plain }
 {
     let mut keys = Vec::new(alloc);
     for item in items {
@@ -62,7 +65,8 @@ pub fn open_items(
 
 fn open_old_keys(alloc: Global, history: &MasterKey, kept: &[OldKey]) -> Result<PlainKeys, Unopened>
     ensures ok { IfOk result (λ keys. AllZip (ShowsOldKey history.now) kept.now keys) }
-    ensures only { (plain : List Key) → AllZip (ShowsOldKey history.now) kept.now plain → MatchResult result (λ keys. keys ≡ plain) (λ fault. fault ≡ Unopened.MemoryOut) }
+    ensures only { (plain : List Key) → AllZip (ShowsOldKey history.now) kept.now plain
+        → MatchResult result (λ keys. keys ≡ plain) (λ fault. fault ≡ Unopened.MemoryOut) }
 {
     let mut keys = Vec::new(alloc);
     for old in kept {
@@ -76,7 +80,8 @@ fn open_old_keys(alloc: Global, history: &MasterKey, kept: &[OldKey]) -> Result<
 
 fn open_set(alloc: Global, history: &MasterKey, set: &OldSet) -> Result<PlainSet, Unopened>
     ensures ok { IfOk result (λ plain. ShowsSet history.now set.now plain) }
-    ensures only { (plain : PlainSet) → ShowsSet history.now set.now plain → MatchResult result (λ found. found ≡ plain) (λ fault. fault ≡ Unopened.MemoryOut) }
+    ensures only { (plain : PlainSet) → ShowsSet history.now set.now plain
+        → MatchResult result (λ found. found ≡ plain) (λ fault. fault ≡ Unopened.MemoryOut) }
 {
     match open_old_keys(alloc, history, set.keys.as_slice()) {
         Ok(keys) => Ok(PlainSet {
@@ -96,7 +101,8 @@ fn open_set(alloc: Global, history: &MasterKey, set: &OldSet) -> Result<PlainSet
 pub fn open_sets(alloc: Global, history: &MasterKey, sets: &[OldSet]) -> Result<PlainSets, Unopened>
     ensures ok { IfOk result (λ plain. AllZip (ShowsSet history.now) sets.now plain) }
     // What the sets hold is given, unless memory runs out.
-    ensures only { (all : List PlainSet) → AllZip (ShowsSet history.now) sets.now all → MatchResult result (λ plain. plain ≡ all) (λ fault. fault ≡ Unopened.MemoryOut) }
+    ensures only { (all : List PlainSet) → AllZip (ShowsSet history.now) sets.now all
+        → MatchResult result (λ plain. plain ≡ all) (λ fault. fault ≡ Unopened.MemoryOut) }
     ensures wrong { result ≡ Err Unopened.Wrong → (all : List PlainSet) → ¬ AllZip (ShowsSet history.now) sets.now all }
 {
     let mut plain = Vec::new(alloc);
@@ -136,7 +142,8 @@ pub fn open_princ(
 ) -> Result<PlainPrinc, Unopened>
     ensures ok { IfOk result (λ q. ShowsUnder master.now history.now princ.now q) }
     // The principal that the record shows is given, unless memory runs out.
-    ensures only { (q : PlainPrinc) → ShowsUnder master.now history.now princ.now q → MatchResult result (λ found. found ≡ q) (λ fault. fault ≡ Unopened.MemoryOut) }
+    ensures only { (q : PlainPrinc) → ShowsUnder master.now history.now princ.now q
+        → MatchResult result (λ found. found ≡ q) (λ fault. fault ≡ Unopened.MemoryOut) }
 {
     let keys = match open_items(alloc, master, princ.keys.as_slice()) {
         Ok(keys) => keys,

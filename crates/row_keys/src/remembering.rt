@@ -4,7 +4,8 @@ ghost use Rattle.std.specs.Prelude.{◌≡◌, ◌*◌, ◌≤◌, List, length,
 ghost use Rattle.std.specs.List.{AllZip};
 ghost use Rattle.plain_keys.specs.Keys.{newest_keys, newest_set, remembered, with_newest};
 ghost use Rattle.plain_keys.specs.declared.items.PlainSet.{PlainSet};
-ghost use Rattle.row_keys.specs.Remembering.{remembered_sets, wrapped_old_key, wrapped_old_keys, wrapped_set, with_wrapped_set};
+ghost use Rattle.row_keys.specs.Remembering.{remembered_sets, wrapped_old_key};
+ghost use Rattle.row_keys.specs.Remembering.{wrapped_old_keys, wrapped_set, with_wrapped_set};
 ghost use Rattle.row_keys.specs.Shows.{ShowsOldKey, ShowsSet};
 
 use kdb_base::{MemoryOut, PlainKey};
@@ -95,7 +96,8 @@ fn with_wrapped_set(
 ) -> Result<Vec<OldSet>, MemoryOut>
     requires { 16 * length (newest_keys keys.now) ≤ length random.now }
     ensures sets { IfOk result (λ v. v.items ≡ with_wrapped_set history.now random.now keys.now old) }
-    ensures shows { (plain : List PlainSet) → AllZip (ShowsSet history.now) old plain → IfOk result (λ v. AllZip (ShowsSet history.now) v.items (with_newest keys.now plain)) }
+    ensures shows { (plain : List PlainSet) → AllZip (ShowsSet history.now) old plain
+        → IfOk result (λ v. AllZip (ShowsSet history.now) v.items (with_newest keys.now plain)) }
 {
     let mut sets = old.into_vec();
     if keys.is_empty() {
@@ -124,7 +126,8 @@ pub fn remembered_sets(
 ) -> Result<OldSets, MemoryOut>
     requires { 16 * length (newest_keys keys.now) ≤ length random.now }
     ensures sets { IfOk result (λ s. s ≡ remembered_sets history.now count random.now keys.now old) }
-    ensures shows { (plain : List PlainSet) → AllZip (ShowsSet history.now) old plain → IfOk result (λ s. AllZip (ShowsSet history.now) s (remembered count keys.now plain)) }
+    ensures shows { (plain : List PlainSet) → AllZip (ShowsSet history.now) old plain
+        → IfOk result (λ s. AllZip (ShowsSet history.now) s (remembered count keys.now plain)) }
 {
     let mut sets = with_wrapped_set(alloc, history, random, keys, old)?;
     sets.truncate(usize::from(count.saturating_sub(1)));

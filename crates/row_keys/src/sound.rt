@@ -1,6 +1,7 @@
 //! Whether rows are sound: whether they show a state that is valid at a time.
 
-ghost use Rattle.std.specs.Prelude.{◌≡◌, ◌≢◌, ◌&&◌, ℕ, List, Ok, Err, Some, None, true, false, is_some, length, nat_eq, IfOk, IfSome, IsTrue, OnOk};
+ghost use Rattle.std.specs.Prelude.{◌≡◌, ◌≢◌, ◌&&◌, ℕ, List, Ok, Err, Some, None, true, false};
+ghost use Rattle.std.specs.Prelude.{is_some, length, nat_eq, IfOk, IfSome, IsTrue, OnOk};
 ghost use Rattle.std.specs.List.{All, list_all};
 ghost use Rattle.kdb_base.specs.Key.{Key};
 ghost use Rattle.kdb_base.specs.declared.versions.Master.{Master};
@@ -11,7 +12,8 @@ ghost use Rattle.princ_record.specs.declared.princs.Princ.{Princ};
 ghost use Rattle.kdb_plain.specs.States.{has_policy, history_name, master_of};
 ghost use Rattle.row_keys.specs.Judging.{IsHistoryOf};
 ghost use Rattle.row_keys.specs.Lookups.{record_named};
-ghost use Rattle.row_keys.specs.Sound.{AreHeldUnder, AreSound, HasOneKey, HoldsOldOne, IsFirstUnsound, IsSound, IsSoundChain, IsSoundOwn, LacksOwn, OpensKeys, OpensOld, judged};
+ghost use Rattle.row_keys.specs.Sound.{AreHeldUnder, AreSound, HasOneKey, HoldsOldOne, IsFirstUnsound, IsSound};
+ghost use Rattle.row_keys.specs.Sound.{IsSoundChain, IsSoundOwn, LacksOwn, OpensKeys, OpensOld, judged};
 
 use crate::lookups::{has_policy_row, record_named};
 use crate::ring::MasterRing;
@@ -180,8 +182,10 @@ fn are_empty(sets: &[OldSet]) -> bool
 
 /// Whether the remembered keys open. Where kadmin/history is missing they are not looked at.
 fn old_opens(alloc: Global, history: &History, sets: &[OldSet]) -> Result<bool, MemoryOut>
-    ensures yes { (masters : List Master) (realm : List ℕ) (princs : List Princ) → IsHistoryOf masters realm princs history.now → result ≡ Ok true → OpensOld masters realm princs sets.now }
-    ensures no { (masters : List Master) (realm : List ℕ) (princs : List Princ) → IsHistoryOf masters realm princs history.now → result ≡ Ok false → ¬ OpensOld masters realm princs sets.now }
+    ensures yes { (masters : List Master) (realm : List ℕ) (princs : List Princ)
+        → IsHistoryOf masters realm princs history.now → result ≡ Ok true → OpensOld masters realm princs sets.now }
+    ensures no { (masters : List Master) (realm : List ℕ) (princs : List Princ)
+        → IsHistoryOf masters realm princs history.now → result ≡ Ok false → ¬ OpensOld masters realm princs sets.now }
 {
     match history {
         History::Missing => Ok(true),
@@ -245,8 +249,10 @@ fn policy_is_there(rows: &Rows, princ: &Princ) -> bool
 
 /// Whether what is asked of K/M's record and of that of kadmin/history stands, where it is one of them.
 fn own_is_sound(alloc: Global, judge: &Judge, princ: &Princ) -> Result<bool, MemoryOut>
-    ensures yes { result ≡ Ok true → IsSoundOwn (judged judge.now.masters.now judge.now.realm.now judge.now.secs) princ.now }
-    ensures no { result ≡ Ok false → ¬ IsSoundOwn (judged judge.now.masters.now judge.now.realm.now judge.now.secs) princ.now }
+    ensures yes { result ≡ Ok true
+        → IsSoundOwn (judged judge.now.masters.now judge.now.realm.now judge.now.secs) princ.now }
+    ensures no { result ≡ Ok false
+        → ¬ IsSoundOwn (judged judge.now.masters.now judge.now.realm.now judge.now.secs) princ.now }
 {
     if is_history_name(judge.realm, princ.name.as_slice()) && princ.keys.as_slice().len() != 1 {
         return Ok(false);
@@ -259,9 +265,12 @@ fn own_is_sound(alloc: Global, judge: &Judge, princ: &Princ) -> Result<bool, Mem
 
 fn is_sound(alloc: Global, judge: &Judge, princ: &Princ) -> Result<bool, MemoryOut>
     requires ring { judge.now.ring.now ≡ judge.now.masters.now }
-    requires history { IsHistoryOf judge.now.masters.now judge.now.realm.now judge.now.rows.now.princs judge.now.history.now }
-    ensures yes { result ≡ Ok true → IsSound (judged judge.now.masters.now judge.now.realm.now judge.now.secs) judge.now.rows.now princ.now }
-    ensures no { result ≡ Ok false → ¬ IsSound (judged judge.now.masters.now judge.now.realm.now judge.now.secs) judge.now.rows.now princ.now }
+    requires history { IsHistoryOf judge.now.masters.now judge.now.realm.now judge.now.rows.now.princs
+        judge.now.history.now }
+    ensures yes { result ≡ Ok true
+        → IsSound (judged judge.now.masters.now judge.now.realm.now judge.now.secs) judge.now.rows.now princ.now }
+    ensures no { result ≡ Ok false
+        → ¬ IsSound (judged judge.now.masters.now judge.now.realm.now judge.now.secs) judge.now.rows.now princ.now }
 {
     if !policy_is_there(judge.rows, princ) {
         return Ok(false);
@@ -278,9 +287,13 @@ fn is_sound(alloc: Global, judge: &Judge, princ: &Princ) -> Result<bool, MemoryO
 /// The place of the first record that is not sound.
 fn first_unsound(alloc: Global, judge: &Judge) -> Result<Option<usize>, MemoryOut>
     requires ring { judge.now.ring.now ≡ judge.now.masters.now }
-    requires history { IsHistoryOf judge.now.masters.now judge.now.realm.now judge.now.rows.now.princs judge.now.history.now }
-    ensures none { result ≡ Ok None → All (IsSound (judged judge.now.masters.now judge.now.realm.now judge.now.secs) judge.now.rows.now) judge.now.rows.now.princs }
-    ensures some { (at : ℕ) → result ≡ Ok (Some at) → IsFirstUnsound (judged judge.now.masters.now judge.now.realm.now judge.now.secs) judge.now.rows.now at }
+    requires history { IsHistoryOf judge.now.masters.now judge.now.realm.now judge.now.rows.now.princs
+        judge.now.history.now }
+    ensures none { result ≡ Ok None
+        → All (IsSound (judged judge.now.masters.now judge.now.realm.now judge.now.secs) judge.now.rows.now)
+        judge.now.rows.now.princs }
+    ensures some { (at : ℕ) → result ≡ Ok (Some at)
+        → IsFirstUnsound (judged judge.now.masters.now judge.now.realm.now judge.now.secs) judge.now.rows.now at }
 {
     for (at, row) in judge.rows.princs().iter().enumerate() {
         if !is_sound(alloc, judge, row.get())? {
@@ -292,7 +305,8 @@ fn first_unsound(alloc: Global, judge: &Judge) -> Result<Option<usize>, MemoryOu
 
 /// Whether K/M and kadmin/history are there.
 fn has_own(alloc: Global, rows: &Rows, realm: &[u8]) -> Result<bool, MemoryOut>
-    ensures { IfOk result (λ there. there ≡ (is_some (record_named (master_name realm.now) rows.now.princs) && is_some (record_named (history_name realm.now) rows.now.princs))) }
+    ensures { IfOk result (λ there. there ≡ (is_some (record_named (master_name realm.now) rows.now.princs)
+        && is_some (record_named (history_name realm.now) rows.now.princs))) }
 {
     let master = master_name(alloc, realm)?;
     let history = history_name(alloc, realm)?;
@@ -319,7 +333,8 @@ pub fn check_rows(
     secs: u32,
 ) -> Result<(), Unsound>
     ensures ok { OnOk result (AreSound (judged masters.now realm.now secs) rows.now) }
-    ensures row { (at : ℕ) → result ≡ Err (Unsound.Row at) → IsFirstUnsound (judged masters.now realm.now secs) rows.now at }
+    ensures row { (at : ℕ) → result ≡ Err (Unsound.Row at)
+        → IsFirstUnsound (judged masters.now realm.now secs) rows.now at }
     ensures missing { result ≡ Err Unsound.Missing → LacksOwn (judged masters.now realm.now secs) rows.now }
 {
     let ring = MasterRing::new(alloc, masters)?;

@@ -3,7 +3,8 @@
 ghost use Rattle.std.specs.Prelude.{◌≡◌, ◌+◌, ◌≤◌, ◌++◌, false, drop, length, IfOk};
 ghost use Rattle.std.specs.List.{AllZip};
 ghost use Rattle.row_keys.specs.Shows.{ShowsItem};
-ghost use Rattle.row_keys.specs.Wraps.{confounder_of, front_len, rekeyed_items, taken_len, taken_lens, wrapped_item, wrapped_items};
+ghost use Rattle.row_keys.specs.Wraps.{confounder_of, front_len, rekeyed_items, taken_len};
+ghost use Rattle.row_keys.specs.Wraps.{taken_lens, wrapped_item, wrapped_items};
 
 use kdb_base::MemoryOut;
 use master_keys::MasterKey;

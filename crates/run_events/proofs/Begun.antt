@@ -2,7 +2,9 @@
 use Rattle.std.proofs.Common.{ℕ, ◌≡◌, Bool, List, Option, Some, None, Result, Ok, Err, refl, sym, ap, subst}
 use Rattle.first_rows.specs.Parts.{IsSpec, SpecParts}
 use Rattle.kadm_top.specs.Accounts.{texts_of}
-use Rattle.kadm_top.specs.Openings.{Adds, AddsNew, Ends, Filters, IsAddingNew, IsLoading, IsOpen, IsOpening, IsToldBy, Loads, Makes, Opening, Opens, Refuses, Renewing, Tells, adds_for, adds_new_for, create_of, destroy_of, keytab_for, loads_for, opens_for}
+use Rattle.kadm_top.specs.Openings.{Adds, AddsNew, Ends, Filters, IsAddingNew, IsLoading, IsOpen, IsOpening}
+use Rattle.kadm_top.specs.Openings.{IsToldBy, Loads, Makes, Opening, Opens, Refuses, Renewing, Tells, adds_for}
+use Rattle.kadm_top.specs.Openings.{adds_new_for, create_of, destroy_of, keytab_for, loads_for, opens_for}
 use Rattle.kadm_top.specs.declared.asking.Asking.{Asking}
 use Rattle.kadm_top.specs.declared.asking.Asking.TheVariants as asking
 use Rattle.kadm_top.specs.declared.words.Words.{Words}
@@ -24,13 +26,15 @@ use Rattle.session_base.specs.Draws.{Draws}
 use Rattle.store_files.specs.Found.{found_by, found_in, recovers}
 
 -- it opens with a log size above 0, or with none
-pub record OpenedBy (files : Files) (draws : Option Draws) (begin : Place) (made : List Place) (at : Seen) : Type 0 where
+pub record OpenedBy (files : Files) (draws : Option Draws) (begin : Place) (made : List Place)
+    (at : Seen) : Type 0 where
   pub size : Option ℕ
   pub some : IsSize size
   pub opens : IsOpen size (found_in files) draws begin made at
 
 -- it opens for new keys of some name
-pub record RenewedBy (left : Option (List ℕ)) (files : Files) (draws : Option Draws) (begin : Place) (made : List Place) (at : Seen) (reads : Bool)
+pub record RenewedBy (left : Option (List ℕ)) (files : Files) (draws : Option Draws) (begin : Place) (made : List Place)
+    (at : Seen) (reads : Bool)
     (what : Renewing) : Type 0 where
   pub word : List ℕ
   pub etypes : List Etype
@@ -51,7 +55,8 @@ module _ (left : Option (List ℕ)) (files : Files) (draws : Option Draws) where
   is_other : (o other : Opening) → o ≡ other → Facts left files draws other → Facts left files draws o
   is_other o other is facts = subst (λ (x : Opening). Facts left files draws x) (sym is) facts
 
-  opens_facts : (size : Option ℕ) (asking : Asking) (o : Opening) → IsSize size → opens_for size asking (found_in files) draws o → Facts left files draws o
+  opens_facts : (size : Option ℕ) (asking : Asking) (o : Opening) → IsSize size
+      → opens_for size asking (found_in files) draws o → Facts left files draws o
   opens_facts size asking (Refuses why drawn) some h = tt
   opens_facts size asking (Opens begin made at its) some h = record { size = size; some = some; opens = h.0 }
   opens_facts size asking (Loads begin made at what) some h = absurd h
@@ -84,7 +89,8 @@ module _ (left : Option (List ℕ)) (files : Files) (draws : Option Draws) where
   add_facts word (Makes spec) h = absurd h
   add_facts word Ends h = absurd h
 
-  renew_facts : (word : List ℕ) (etypes : List Etype) (o : Opening) → adds_new_for word etypes left (found_in files) draws o → Facts left files draws o
+  renew_facts : (word : List ℕ) (etypes : List Etype) (o : Opening)
+      → adds_new_for word etypes left (found_in files) draws o → Facts left files draws o
   renew_facts word etypes (Refuses why drawn) h = tt
   renew_facts word etypes (Opens begin made at its) h = absurd h
   renew_facts word etypes (Loads begin made at what) h = absurd h
@@ -95,7 +101,8 @@ module _ (left : Option (List ℕ)) (files : Files) (draws : Option Draws) where
   renew_facts word etypes (Makes spec) h = absurd h
   renew_facts word etypes Ends h = absurd h
 
-  keytab_facts : (words : KeytabWords) (o : Opening) → keytab_for words left (found_in files) draws o → Facts left files draws o
+  keytab_facts : (words : KeytabWords) (o : Opening) → keytab_for words left (found_in files) draws o
+      → Facts left files draws o
   keytab_facts (Remove name which) (Refuses why drawn) h = tt
   keytab_facts (Remove name which) (Opens begin made at its) h = absurd h
   keytab_facts (Remove name which) (Loads begin made at what) h = absurd h
@@ -108,14 +115,17 @@ module _ (left : Option (List ℕ)) (files : Files) (draws : Option Draws) where
   keytab_facts (AddStanding word) o h = add_facts word o h
   keytab_facts (AddRenewed word etypes) o h = renew_facts word etypes o h
 
-  tell_facts : (text : Option (Place → List ℕ)) (r : Result Place Refusal) (o : Opening) → IsToldBy text r o → Facts left files draws o
+  tell_facts : (text : Option (Place → List ℕ)) (r : Result Place Refusal) (o : Opening) → IsToldBy text r o
+      → Facts left files draws o
   tell_facts text (Err why) o h = is_other o (Refuses why _) h tt
   tell_facts None (Ok p) o h = absurd h
   tell_facts (Some text) (Ok p) o h = is_other o (Tells (text p) _) h tt
 
-  create_facts : (spec : SpecParts) (force : Force) (o : Opening) → IsSpec spec → in_force (files 0) ≡ force → o ≡ create_of spec force → Facts left files draws o
+  create_facts : (spec : SpecParts) (force : Force) (o : Opening) → IsSpec spec → in_force (files 0) ≡ force
+      → o ≡ create_of spec force → Facts left files draws o
   unfolding found_in
-  create_facts spec Nothing o within none h = is_other o (Makes spec) h (within, ap (λ (f : Force). found_by f files) none)
+  create_facts spec Nothing o within none h =
+      is_other o (Makes spec) h (within, ap (λ (f : Force). found_by f files) none)
   create_facts spec (Is choice) o within there h = is_other o (Refuses _ _) h tt
   create_facts spec (Broken place) o within there h = is_other o (Refuses _ _) h tt
 
@@ -124,7 +134,8 @@ module _ (left : Option (List ℕ)) (files : Files) (draws : Option Draws) where
   destroy_facts (Is choice) o h = is_other o Ends h tt
   destroy_facts (Broken place) o h = is_other o (Refuses _ _) h tt
 
-  pub begun : (said : Result Words Refusal) (o : Opening) → AreWithin said → IsOpening said left files draws o → Facts left files draws o
+  pub begun : (said : Result Words Refusal) (o : Opening) → AreWithin said → IsOpening said left files draws o
+      → Facts left files draws o
   unfolding IsOpening
   begun (Err refusal) o within h = is_other o (Refuses refusal _) h tt
   begun (Ok (words.Admin size)) o within h = opens_facts size asking.Input o within h

@@ -18,7 +18,8 @@ full_last history others ended t is h =
     let here : IsHeldInFull (t ∷ others ++ ended) = subst (λ (x : List Stage). IsHeldInFull (x ++ ended)) is h in
     subst (λ (x : List Stage). t.place.held ≡ last_entries t.place.size (epoch (x ++ ended))) (sym is) here.0
 
-module _ (valid : StaysValid) (s : Site) (c : Files) (p : Place) (h : HasHistory s) (stands : StandsFor s c) (is : recovers c ≡ Ok p) where
+module _ (valid : StaysValid) (s : Site) (c : Files) (p : Place) (h : HasHistory s) (stands : StandsFor s c)
+    (is : recovers c ≡ Ok p) where
   story : IsStory (story_of s)
   story = let holds = primary_holds valid h.events s h.sent h.run in holds.story
 
@@ -30,4 +31,5 @@ module _ (valid : StaysValid) (s : Site) (c : Files) (p : Place) (h : HasHistory
   pub stands_full : p.held ≡ last_entries p.size (epoch (story_of s))
   stands_full =
       let found = found_at s c p stands is in
-      subst (λ (q : Place). q.held ≡ last_entries q.size (epoch (story_of s))) found.is (full_last s.history found.at.others s.ended found.at.last found.at.is story.full)
+      subst (λ (q : Place). q.held ≡ last_entries q.size (epoch (story_of s))) found.is
+      (full_last s.history found.at.others s.ended found.at.last found.at.is story.full)

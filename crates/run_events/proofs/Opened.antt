@@ -1,5 +1,6 @@
 -- A database that a run opens: what a crash leaves of that, and the open primary behind it.
-use Rattle.std.proofs.Common.{◌≡◌, ◌≢◌, ℕ, Bool, true, false, List, [], ◌∷◌, ◌++◌, Option, None, refl, sym, ◌∙◌, ap, arith, subst}
+use Rattle.std.proofs.Common.{◌≡◌, ◌≢◌, ℕ, Bool, true, false, List, [], ◌∷◌, ◌++◌}
+use Rattle.std.proofs.Common.{Option, None, refl, sym, ◌∙◌, ap, arith, subst}
 use Rattle.std.specs.Prelude.{nat_eq, ◌&&◌, if◌then◌else◌}
 use Rattle.std.specs.List.{All}
 use Rattle.std.proofs.lemmas.List.Elements.{All-head}
@@ -39,7 +40,8 @@ use Rattle.store_files.specs.Recovery.{LeavesPart}
 
 -- rows show one state of a realm, a point and master keys
 pub record ShowOne : Type 0 where
-  pub one : (rows : RowLists) (s t : State) → Shows rows s → Shows rows t → s.realm ≡ t.realm → s.point ≡ t.point → s.masters ≡ t.masters → s ≡ t
+  pub one : (rows : RowLists) (s t : State) → Shows rows s → Shows rows t → s.realm ≡ t.realm → s.point ≡ t.point
+      → s.masters ≡ t.masters → s ≡ t
 
 same_state : ShowOne → (p : Place) (s t : State) → ShowsAt p s → ShowsAt p t → s.masters ≡ t.masters → s ≡ t
 same_state law p s t a b masters = law.one p.rows s t a.shows b.shows (a.realm ∙ sym b.realm) (a.at ∙ sym b.at) masters
@@ -49,9 +51,11 @@ anew_masters : (same : Bool) (q : Place) (history : List Stage)
 anew_masters true q history = refl
 anew_masters false q history = refl
 
-sized_last : (history others ended : List Stage) (t : Stage) → history ≡ t ∷ others → All HasRoom (places (history ++ ended)) → HasRoom t.place
+sized_last : (history others ended : List Stage) (t : Stage) → history ≡ t ∷ others
+    → All HasRoom (places (history ++ ended)) → HasRoom t.place
 sized_last history others ended t is h =
-    All-head HasRoom t.place (places (others ++ ended)) (subst (λ (x : List Stage). All HasRoom (places (x ++ ended))) is h)
+    All-head HasRoom t.place (places (others ++ ended))
+    (subst (λ (x : List Stage). All HasRoom (places (x ++ ended))) is h)
 
 -- ---- an opening, as an event
 
@@ -87,7 +91,8 @@ module _ (s : Site) (files : Files) (f : Found) (size : Option ℕ) (now : Momen
   happens = record { at = there.at; ready = may.closed; clock = may.moment; makes = makes; is = refl; silent = refl }
 
   holds : StaysValid → (h : HasHistory s) → SiteHolds new h.sent
-  holds valid h = event_holds valid (Calls call answer stages) s new h.sent None (primary_holds valid h.events s h.sent h.run) happens
+  holds valid h = event_holds valid (Calls call answer stages) s new h.sent None
+      (primary_holds valid h.events s h.sent h.run) happens
 
   tip : Tip (onto stages s.history) (end_of there.at.last.place (places stages))
   tip = tip_at s there.at stages
@@ -103,11 +108,13 @@ module _ (s : Site) (files : Files) (f : Found) (size : Option ℕ) (now : Momen
   pub masters_kept : (state_of new).masters ≡ (state_of s).masters
   masters_kept =
       ap (λ (x : List Stage). (fold x).masters) (sym (onto_rest stages s.history s.ended))
-      ∙ anew_masters (nat_eq first.format 2 && nat_eq (size_or size first) first.size) (log_anew (reset_point now first) (size_or size first) first.block first) (story_of s)
+      ∙ anew_masters (nat_eq first.format 2 && nat_eq (size_or size first) first.size)
+      (log_anew (reset_point now first) (size_or size first) first.block first) (story_of s)
 
   pub room_behind : StaysValid → HasHistory s → HasRoom behind
   room_behind valid h =
-      subst HasRoom place_there (sized_last (onto stages s.history) tip.others s.ended tip.last tip.is (holds valid h).story.good.sized)
+      subst HasRoom place_there
+      (sized_last (onto stages s.history) tip.others s.ended tip.last tip.is (holds valid h).story.good.sized)
 
   pub opening_runs : RunsOn s new
   opening_runs = record { events = Calls call answer stages ∷ []; run = λ sent. (new, None, happens, (refl, refl)) }
@@ -128,8 +135,10 @@ pub record IsReady (s : Site) (at : Seen) : Type 0 where
   pub opened : RunsTo s at
   pub room : HasRoom at.place
 
-module _ (s : Site) (files : Files) (size : Option ℕ) (draws : Option Draws) (begin : Place) (made : List Place) (at : Seen)
-    (opens : IsOpen size (found_in files) draws begin made at) (some : IsSize size) (closed : s.up ≡ false) (stands : StandsFor s files)
+module _ (s : Site) (files : Files) (size : Option ℕ) (draws : Option Draws) (begin : Place)
+    (made : List Place) (at : Seen)
+    (opens : IsOpen size (found_in files) draws begin made at) (some : IsSize size) (closed : s.up ≡ false)
+    (stands : StandsFor s files)
     (moment : IsMoment (moment_in opens.told)) where
   abbrev now_told : Moment
   now_told = moment_in opens.told
@@ -148,14 +157,18 @@ module _ (s : Site) (files : Files) (size : Option ℕ) (draws : Option Draws) (
     upto = omega arith;
   }
 
-  part_found : (c : Files) → LeavesPart begin made c → LeavesPart (place_found opens.files) (places (resized size now_told (place_found opens.files))) c
+  part_found : (c : Files) → LeavesPart begin made c
+      → LeavesPart (place_found opens.files) (places (resized size now_told (place_found opens.files))) c
   part_found c part =
       subst (λ (p : Place). LeavesPart p (places (resized size now_told (place_found opens.files))) c) opens.begin_is
       (subst (λ (ps : List Place). LeavesPart begin ps c) opens.made_are part)
 
   pub opening_comes : (c : Files) → LeavesPart begin made c → HasCome s c
   opening_comes c part =
-      come IsStop s c (opening_stops s files opens.files size 1 now_told may_open c (record { left = opens.left; part = part_found c part }))
+      come IsStop s c (opening_stops s files opens.files size 1 now_told may_open c (record {
+        left = opens.left;
+        part = part_found c part;
+      }))
 
   place_behind : at.place ≡ end_of (place_found opens.files) (places (resized size now_told (place_found opens.files)))
   place_behind =
@@ -164,9 +177,11 @@ module _ (s : Site) (files : Files) (size : Option ℕ) (draws : Option Draws) (
 
   pub is_ready : StaysValid → ShowOne → HasHistory s → HasMasters s at → IsReady s at
   is_ready valid law history masters =
-      let shown : ShowsAt (end_of (place_found opens.files) (places (resized size now_told (place_found opens.files)))) (state_of new_told) = shown_behind s files opens.files size now_told may_open opens.left valid history in
+      let shown : ShowsAt (end_of (place_found opens.files) (places (resized size now_told (place_found opens.files))))
+      (state_of new_told) = shown_behind s files opens.files size now_told may_open opens.left valid history in
       let one : state_of new_told ≡ at.state =
-      same_state law at.place (state_of new_told) at.state (subst (λ (p : Place). ShowsAt p (state_of new_told)) (sym place_behind) shown) opens.shows
+      same_state law at.place (state_of new_told) at.state
+      (subst (λ (p : Place). ShowsAt p (state_of new_told)) (sym place_behind) shown) opens.shows
       (masters_kept s files opens.files size now_told may_open opens.left ∙ sym masters) in
       record {
         opened = record {
@@ -174,7 +189,8 @@ module _ (s : Site) (files : Files) (size : Option ℕ) (draws : Option Draws) (
           runs = opening_runs s files opens.files size now_told may_open opens.left;
           stays = opened_at s files opens.files size now_told may_open opens.left at place_behind one;
         };
-        room = subst HasRoom (sym place_behind) (room_behind s files opens.files size now_told may_open opens.left valid history);
+        room = subst HasRoom (sym place_behind)
+            (room_behind s files opens.files size now_told may_open opens.left valid history);
       }
 
 -- where the place opens with the master keys that the history comes to, a run has such an opening

@@ -1,5 +1,6 @@
 -- Words that a run takes are within their limits.
-use Rattle.std.proofs.Common.{ℕ, ◌≡◌, ◌≤◌, Bool, true, false, List, [], ◌∷◌, Option, Some, None, Result, Ok, Err, refl, arith}
+use Rattle.std.proofs.Common.{ℕ, ◌≡◌, ◌≤◌, Bool, true, false, List, [], ◌∷◌}
+use Rattle.std.proofs.Common.{Option, Some, None, Result, Ok, Err, refl, arith}
 use Rattle.std.specs.Option.{option_and_then}
 use Rattle.std.specs.Prelude.{codes, if◌then◌else◌, unwrap_or}
 use Rattle.std.specs.Str.{bytes_eq}
@@ -9,7 +10,10 @@ use Rattle.kadm_options.specs.OptionValues.{first_bad_in, number_within, word_gi
 use Rattle.kadm_options.specs.Options.{is_dashes}
 use Rattle.kadm_options.specs.declared.options.Given.{Given}
 use Rattle.kadm_options.specs.declared.options.OptionName.TheVariants as option
-use Rattle.kadm_top.specs.Words.{admin_by, admin_options, create_by, create_in, create_options, destroy_by, destroy_options, generate_by, is_line_word, keytab_by, kind_named, line_refusal, load_by, log_in, no_more, options_alone, renew_by, report_by, report_in, size_given, spec_of, tell_by, unless_bad, unless_refused, words_behind, words_in}
+use Rattle.kadm_top.specs.Words.{admin_by, admin_options, create_by, create_in, create_options, destroy_by}
+use Rattle.kadm_top.specs.Words.{destroy_options, generate_by, is_line_word, keytab_by, kind_named, line_refusal}
+use Rattle.kadm_top.specs.Words.{load_by, log_in, no_more, options_alone, renew_by, report_by, report_in}
+use Rattle.kadm_top.specs.Words.{size_given, spec_of, tell_by, unless_bad, unless_refused, words_behind, words_in}
 use Rattle.kadm_top.specs.declared.words.Account.{Account}
 use Rattle.kadm_top.specs.declared.words.Account.TheVariants.{Dump, Log}
 use Rattle.kadm_top.specs.declared.words.Words.{Words}
@@ -27,7 +31,8 @@ use Rattle.made_scripts.specs.declared.words.Script.{Script}
 use Rattle.princ_name.specs.Realms.{is_realm}
 use Rattle.tab_reports.specs.declared.reports.ReportKind.{ReportKind}
 
--- the log size that is asked for is above 0, and what a database is made with has a realm and a log size that it may have
+-- the log size that is asked for is above 0, and what a database is made with has a realm and a log size that it may
+-- have
 abbrev pub AreWithin : Result Words Refusal → Type 0
 AreWithin (Ok (words.Admin size)) = IsSize size
 AreWithin (Ok (words.Create spec)) = IsSpec spec
@@ -73,13 +78,15 @@ bad_or (Some field) said p = tt
 admin_is : (options : Option (List Given)) → AreWithin (admin_by options)
 admin_is None = tt
 admin_is (Some options) =
-    bad_or (first_bad_in options) (words.Admin (size_given options)) (above_none (size_given options) (size_is (word_given option.UlogSize options)))
+    bad_or (first_bad_in options) (words.Admin (size_given options))
+    (above_none (size_given options) (size_is (word_given option.UlogSize options)))
 
 create_is : (realm : List ℕ) (options : Option (List Given)) → AreWithin (create_by realm options)
 create_is realm None = tt
 create_is realm (Some options) = by (is_realm realm) refl
   where
-    by : (b : Bool) → is_realm realm ≡ b → AreWithin (if b then unless_bad (first_bad_in options) (words.Create (spec_of realm options)) else Err (BadValue field.Realm))
+    by : (b : Bool) → is_realm realm ≡ b → AreWithin (if b
+        then unless_bad (first_bad_in options) (words.Create (spec_of realm options)) else Err (BadValue field.Realm))
     by true e =
         let size = size_is (word_given option.UlogSize options) in
         bad_or (first_bad_in options) (words.Create (spec_of realm options))
@@ -121,7 +128,8 @@ kind_is (Some kind) = tt
 log_is : (said : List (List ℕ)) → AreWithin (log_in said)
 unfolding log_in
 log_is [] = tell_is Log (options_alone [] [])
-log_is (word ∷ said) = if_both (bytes_eq word (codes "-R")) _ _ (renew_is (no_more said)) (tell_is Log (options_alone [] (word ∷ said)))
+log_is (word ∷ said) =
+    if_both (bytes_eq word (codes "-R")) _ _ (renew_is (no_more said)) (tell_is Log (options_alone [] (word ∷ said)))
 
 report_is : (said : List (List ℕ)) → AreWithin (report_in said)
 unfolding report_in
@@ -151,4 +159,5 @@ pub are_within : (said : List (List ℕ)) → AreWithin (words_in said)
 unfolding words_in
 are_within [] = tt
 are_within (word ∷ said) =
-    if_both (is_line_word word) _ _ (refused_or (word ∷ said) (line_refusal (words_answer [] (word ∷ said)))) (behind_is word said)
+    if_both (is_line_word word) _ _ (refused_or (word ∷ said) (line_refusal (words_answer [] (word ∷ said))))
+    (behind_is word said)

@@ -1,7 +1,8 @@
 -- What a run of the program begins with.
 use Rattle.std.specs.Prelude.{ℕ, ◌≡◌, ◌<◌, List, Option, Some}
 use Rattle.std.specs.List.{All}
-use Rattle.kadm_top.specs.Openings.{Adds, AddsNew, Ends, Filters, IsOpen, IsOpening, Loads, Makes, Opening, Opens, Refuses, Tells}
+use Rattle.kadm_top.specs.Openings.{Adds, AddsNew, Ends, Filters, IsOpen, IsOpening}
+use Rattle.kadm_top.specs.Openings.{Loads, Makes, Opening, Opens, Refuses, Tells}
 use Rattle.kadm_top.specs.Run.{Told}
 use Rattle.kadm_top.specs.Words.{words_in}
 use Rattle.kdb_base.specs.Moments.{micros}
@@ -33,8 +34,8 @@ pub record HasOpened (s : Site) (size : Option ℕ) (files : Files) (draws : Dra
   pub opens : IsOpen size (found_in files) (Some draws) begin made at
   pub masters : HasMasters s at
 
--- What the words and the files do not say: with which master keys a database opens that is to be changed, and that one is made at a later
--- time than all places of those that were ended.
+-- What the words and the files do not say: with which master keys a database opens that is to be changed, and that one
+-- is made at a later time than all places of those that were ended.
 abbrev pub MayBegin : Site → Draws → Opening → Type 0
 MayBegin s draws (Refuses why drawn) = Unit {0}
 MayBegin s draws (Opens begin made at asked) = HasMasters s at
@@ -46,7 +47,8 @@ MayBegin s draws (Tells text drawn) = Unit {0}
 MayBegin s draws (Makes spec) = All (λ p. micros (point_of p).time < micros (moment_in draws)) (places s.ended)
 MayBegin s draws Ends = Unit {0}
 
--- A run of these words begins on what has come of this site, with an input, a clock and random bytes that are told, and this is its opening.
+-- A run of these words begins on what has come of this site, with an input, a clock and random bytes that are told, and
+-- this is its opening.
 pub record Begins (s : Site) (words : List (List ℕ)) (old : View) (before : Told) (o : Opening) : Type 0 where
   pub rests : RestsAt s old
   -- where the files have come to that are read

@@ -32,17 +32,24 @@ use row_keys::laws::sound_rows_show_one_state;
 pub fn runs_come<D: Disk>(_before: &D)
     // The opening of a database, and what it is asked: the lines of the input, a line of master keys that is given as
     // words, or to begin its log anew.
-    ensures asked { (s : Site) (words : List (List ℕ)) (before : Told) (begin : Place) (made : List Place) (at : Seen) (asked : Option Asks) (c : Files)
-        → Begins s words (D.view _before.now) before (Opens begin made at asked) → RunLeaves (Opens begin made at asked) (D.view _before.now) before c → HasCome s c }
+    ensures asked { (s : Site) (words : List (List ℕ)) (before : Told) (begin : Place) (made : List Place) (at : Seen)
+        (asked : Option Asks) (c : Files)
+        → Begins s words (D.view _before.now) before (Opens begin made at asked)
+        → RunLeaves (Opens begin made at asked) (D.view _before.now) before c → HasCome s c }
     // A load.
-    ensures loaded { (s : Site) (words : List (List ℕ)) (before : Told) (begin : Place) (made : List Place) (at : Seen) (what : Option LoadEnd) (c : Files)
-        → Begins s words (D.view _before.now) before (Loads begin made at what) → RunLeaves (Loads begin made at what) (D.view _before.now) before c → HasCome s c }
+    ensures loaded { (s : Site) (words : List (List ℕ)) (before : Told) (begin : Place) (made : List Place) (at : Seen)
+        (what : Option LoadEnd) (c : Files)
+        → Begins s words (D.view _before.now) before (Loads begin made at what)
+        → RunLeaves (Loads begin made at what) (D.view _before.now) before c → HasCome s c }
     // New keys that are added to a keytab.
-    ensures renewed { (s : Site) (words : List (List ℕ)) (before : Told) (begin : Place) (made : List Place) (at : Seen) (reads : Bool) (what : Renewing) (c : Files)
-        → Begins s words (D.view _before.now) before (AddsNew begin made at reads what) → RunLeaves (AddsNew begin made at reads what) (D.view _before.now) before c → HasCome s c }
+    ensures renewed { (s : Site) (words : List (List ℕ)) (before : Told) (begin : Place) (made : List Place) (at : Seen)
+        (reads : Bool) (what : Renewing) (c : Files)
+        → Begins s words (D.view _before.now) before (AddsNew begin made at reads what)
+        → RunLeaves (AddsNew begin made at reads what) (D.view _before.now) before c → HasCome s c }
     // A creation.
     ensures created { (s : Site) (words : List (List ℕ)) (before : Told) (spec : SpecParts) (c : Files)
-        → Begins s words (D.view _before.now) before (Makes spec) → RunLeaves (Makes spec) (D.view _before.now) before c → HasCome s c }
+        → Begins s words (D.view _before.now) before (Makes spec) → RunLeaves (Makes spec) (D.view _before.now) before c
+        → HasCome s c }
     // An end.
     ensures ended { (s : Site) (words : List (List ℕ)) (before : Told) (c : Files)
         → Begins s words (D.view _before.now) before Ends → RunLeaves Ends (D.view _before.now) before c → HasCome s c }
@@ -59,21 +66,27 @@ pub fn runs_come<D: Disk>(_before: &D)
 /// with what is told, its opening and its status.
 pub fn runs_are_events<D: Disk>(_before: &D, _after: &D)
     // Whatever a crash leaves at any moment of it.
-    ensures moments { (s : Site) (words : List (List ℕ)) (before after : Told) (o : Opening) (result : Ended) (c : Files)
-        → Begins s words (D.view _before.now) before o → IsRun o (D.view _before.now) (D.view _after.now) before after result
+    ensures moments { (s : Site) (words : List (List ℕ)) (before after : Told) (o : Opening)
+        (result : Ended) (c : Files)
+        → Begins s words (D.view _before.now) before o
+        → IsRun o (D.view _before.now) (D.view _after.now) before after result
         → (D.view _after.now).left_since (D.view _before.now).moment c → HasCome s c }
     // Whatever a crash leaves behind it, wherever it stopped.
     ensures images { (s : Site) (words : List (List ℕ)) (before after : Told) (o : Opening) (result : Ended) (c : Files)
-        → Begins s words (D.view _before.now) before o → IsRun o (D.view _before.now) (D.view _after.now) before after result
+        → Begins s words (D.view _before.now) before o
+        → IsRun o (D.view _before.now) (D.view _after.now) before after result
         → (D.view _after.now).images c → HasCome s c }
     // So the next run may begin behind it, also where it stopped early, was killed, or met a fault.
     ensures rests { (s : Site) (words : List (List ℕ)) (before after : Told) (o : Opening) (result : Ended)
-        → Begins s words (D.view _before.now) before o → IsRun o (D.view _before.now) (D.view _after.now) before after result
+        → Begins s words (D.view _before.now) before o
+        → IsRun o (D.view _before.now) (D.view _after.now) before after result
         → RestsAt s (D.view _after.now) }
     // Behind one that went through, one site, from which the next run goes on. One that leaves the disk as it was is to
     // begin on such a disk.
-    ensures ended { D.tells → (s : Site) (words : List (List ℕ)) (before after : Told) (o : Opening) (result : Ended) (end : RunEnd)
-        → Begins s words (D.view _before.now) before o → IsRun o (D.view _before.now) (D.view _after.now) before after result
+    ensures ended { D.tells
+        → (s : Site) (words : List (List ℕ)) (before after : Told) (o : Opening) (result : Ended) (end : RunEnd)
+        → Begins s words (D.view _before.now) before o
+        → IsRun o (D.view _before.now) (D.view _after.now) before after result
         → ((drawn : Drawn) → end.disk ≡ Same drawn → RunsDown s (D.view _before.now))
         → run_end o before ≡ Some end → OnEnd result (λ _. RunsDown s (D.view _after.now)) }
 {
@@ -84,8 +97,10 @@ pub fn runs_are_events<D: Disk>(_before: &D, _after: &D)
 /// history comes to, which is valid there, and holds the entries since the last base marker in full. Where files have
 /// come of a site, all that happened leads to where they stand.
 pub fn sites_hold()
-    ensures shows { (s : Site) (c : Files) (p : Place) → HasHistory s → StandsFor s c → recovers c ≡ Ok p → ShowsAt p (state_of s) }
-    ensures full { (s : Site) (c : Files) (p : Place) → HasHistory s → StandsFor s c → recovers c ≡ Ok p → p.held ≡ last_entries p.size (epoch (story_of s)) }
+    ensures shows { (s : Site) (c : Files) (p : Place) → HasHistory s → StandsFor s c → recovers c ≡ Ok p
+        → ShowsAt p (state_of s) }
+    ensures full { (s : Site) (c : Files) (p : Place) → HasHistory s → StandsFor s c → recovers c ≡ Ok p
+        → p.held ≡ last_entries p.size (epoch (story_of s)) }
     ensures holds { (s : Site) (h : HasHistory s) → SiteHolds s h.sent }
     ensures comes { (s : Site) (c : Files) → HasHistory s → (h : HasCome s c) → HasHistory h.new }
 {
@@ -93,11 +108,13 @@ pub fn sites_hold()
 }
 
 /// Where the files open with the master keys that the history comes to (`primary_events::laws::openings_are_events`, of
-/// a stash whose first key that K/M lists is one of them), a run has an opening with these: its words say how the log is
-/// to be, and a later time is left where it is to begin anew.
+/// a stash whose first key that K/M lists is one of them), a run has an opening with these: its words say how the log
+/// is to be, and a later time is left where it is to begin anew.
 pub fn openings_are_there()
-    ensures { (s : Site) (files : Files) (f : Found) (size : Option ℕ) (draws : Draws) → HasHistory s → MayOpenAt s files f size 1 (moment_in draws) → OpensAt (place_found f) (state_of s).masters
-        → (resized size (moment_in draws) (place_found f) ≢ [] → HasTimeLeft (place_found f)) → HasOpened s size files draws }
+    ensures { (s : Site) (files : Files) (f : Found) (size : Option ℕ) (draws : Draws) → HasHistory s
+        → MayOpenAt s files f size 1 (moment_in draws) → OpensAt (place_found f) (state_of s).masters
+        → (resized size (moment_in draws) (place_found f) ≢ [] → HasTimeLeft (place_found f))
+        → HasOpened s size files draws }
 {
     valid_later();
 }

@@ -1,5 +1,6 @@
 -- A version serves where it has one of the four causes.
-use Rattle.std.proofs.Common.{◌≡◌, ◌≢◌, ◌↔◌, ℕ, suc, ◌<◌, Bool, true, false, List, [], ◌∷◌, length, Option, Some, None, refl, ap, ◌∙◌, ◌⊎◌, inl, inr, eqb-true, eq-eqb, arith}
+use Rattle.std.proofs.Common.{◌≡◌, ◌≢◌, ◌↔◌, ℕ, suc, ◌<◌, Bool, true, false, List, [], ◌∷◌, length}
+use Rattle.std.proofs.Common.{Option, Some, None, refl, ap, ◌∙◌, ◌⊎◌, inl, inr, eqb-true, eq-eqb, arith}
 use Rattle.std.specs.Prelude.{◌||◌, filter, is_some, nat_eq, nat_lt, not, if◌then◌else◌}
 use Rattle.std.specs.List.{Any, list_any}
 use Rattle.std.specs.Str.{bytes_eq}
@@ -10,7 +11,9 @@ use Rattle.key_activation.specs.Activations.{active}
 use Rattle.master_keys.specs.First.{master_name}
 use Rattle.master_keys.specs.Versions.{last_version}
 use Rattle.princ_rows.specs.EntryLaws.{same_bytes, bytes_same}
-use Rattle.serving_versions.specs.Versions.{HasActivationAfter, HasCause, HasPrincipal, becomes_active, cause_from, cause_of, is_active_at, is_pending, is_under, is_version_of, protected_by, serves}
+use Rattle.serving_versions.specs.Versions.{HasActivationAfter, HasCause, HasPrincipal, becomes_active}
+use Rattle.serving_versions.specs.Versions.{cause_from, cause_of, is_active_at, is_pending, is_under}
+use Rattle.serving_versions.specs.Versions.{is_version_of, protected_by, serves}
 use Rattle.kdb_plain.specs.declared.princs.PlainPrinc.{PlainPrinc}
 use Rattle.kdb_plain.specs.declared.states.State.{State}
 
@@ -83,8 +86,10 @@ module _ (s : State) (version : ℕ) where
 
   under_from : (q : PlainPrinc) → is_under s.realm version q ≡ true → Under q
   under_from q e =
-      let parts = and_parts (nat_eq q.mkvno version) (not (bytes_eq q.name (master_name s.realm))) e in
-      (eqb-true q.mkvno version parts.0, name_differs q.name (master_name s.realm) (not_true (bytes_eq q.name (master_name s.realm)) parts.1))
+      let parts = and_parts (nat_eq q.mkvno version) (not (bytes_eq q.name (master_name s.realm))) e in (
+        eqb-true q.mkvno version parts.0,
+        name_differs q.name (master_name s.realm) (not_true (bytes_eq q.name (master_name s.realm)) parts.1),
+      )
 
   from_under : (q : PlainPrinc) → Under q → is_under s.realm version q ≡ true
   from_under q h =
@@ -103,7 +108,8 @@ module _ (s : State) (version : ℕ) where
   from_protects h =
       let test = is_under s.realm version in
       lt-ltb 0 (length (filter test s.princs))
-      (passes_some test s.princs (list_any-from_Any test s.princs (any_to Under (λ q. test q ≡ true) from_under s.princs h)))
+      (passes_some test s.princs
+      (list_any-from_Any test s.princs (any_to Under (λ q. test q ≡ true) from_under s.princs h)))
 
 version_from : (version : ℕ) (o : Option ℕ) → is_version_of version o ≡ true → o ≡ Some version
 version_from version None e = absurd cc
@@ -122,7 +128,8 @@ module _ (s : State) (secs version : ℕ) where
       (eqb-true a.version version parts.0, ltb-true secs a.secs parts.1)
 
   from_later : (a : Activation) → Later a → becomes_active secs version a ≡ true
-  from_later a h = and_from (nat_eq a.version version) (nat_lt secs a.secs) (eq-eqb a.version version h.0) (lt-ltb secs a.secs h.1)
+  from_later a h =
+      and_from (nat_eq a.version version) (nat_lt secs a.secs) (eq-eqb a.version version h.0) (lt-ltb secs a.secs h.1)
 
   pending_from : is_pending s.activations secs version ≡ true → HasActivationAfter s secs version
   unfolding is_pending
@@ -151,7 +158,8 @@ one_of false false true d w x y z e = inr (inr (inl refl))
 one_of false false false true w x y z e = inr (inr (inr refl))
 one_of false false false false w x y z e = absurd cc
 
-first_there : {A : Type 0} (a b c d : Bool) (w x y z : A) → (a ≡ false → b ≡ false → c ≡ false → d ≡ true) → is_some (first_of a b c d w x y z) ≡ true
+first_there : {A : Type 0} (a b c d : Bool) (w x y z : A) → (a ≡ false → b ≡ false → c ≡ false → d ≡ true)
+    → is_some (first_of a b c d w x y z) ≡ true
 first_there true b c d w x y z h = refl
 first_there false true c d w x y z h = refl
 first_there false false true d w x y z h = refl
@@ -166,7 +174,8 @@ some_there a b c d w x y z (inr (inr (inr e))) = first_there a b c d w x y z (λ
 
 module _ (s : State) (secs version : ℕ) where
   abbrev Tests : Type 0
-  Tests = OneOf (nat_lt 0 (protected_by s.realm s.princs version)) (is_active_at s.activations secs version) (nat_eq version (last_version s.masters)) (is_pending s.activations secs version)
+  Tests = OneOf (nat_lt 0 (protected_by s.realm s.princs version)) (is_active_at s.activations secs version)
+      (nat_eq version (last_version s.masters)) (is_pending s.activations secs version)
 
   causes_from : Tests → HasCause s secs version
   causes_from (inl e) = inl (protects_from s version e)

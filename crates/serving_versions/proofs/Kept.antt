@@ -1,5 +1,6 @@
 -- Filters that keep what is looked for.
-use Rattle.std.proofs.Common.{◌≡◌, Bool, true, false, List, [], ◌∷◌, ◌++◌, map, reverse, Option, Some, None, refl, sym, ap, ◌∙◌, ◌⊎◌, inl, inr, append-nil}
+use Rattle.std.proofs.Common.{◌≡◌, Bool, true, false, List, [], ◌∷◌, ◌++◌, map, reverse, Option}
+use Rattle.std.proofs.Common.{Some, None, refl, sym, ap, ◌∙◌, ◌⊎◌, inl, inr, append-nil}
 use Rattle.std.specs.Prelude.{cond, filter, find, is_some}
 use Rattle.std.specs.List.{last_or}
 use Rattle.std.specs.Option.{option_or}
@@ -25,7 +26,8 @@ module _ {A : Type 0} where
   later t x xs e = rw e refl
 
   -- a filter that keeps what a search may find
-  pub find_kept : (t p : A → Bool) → ((x : A) → t x ≡ true → p x ≡ true) → (xs : List A) → find t (filter p xs) ≡ find t xs
+  pub find_kept : (t p : A → Bool) → ((x : A) → t x ≡ true → p x ≡ true) → (xs : List A)
+      → find t (filter p xs) ≡ find t xs
   find_kept t p keeps [] = refl
   find_kept t p keeps (x ∷ xs) =
       elim (truth (t x)) [
@@ -51,7 +53,8 @@ module _ {A : Type 0} where
   find_in_front t xs ys e = ap is_some (find-append t xs ys) ∙ or_there (find t xs) (find t ys) e
 
   pub find_last : (t : A → Bool) (xs : List A) (x : A) → t x ≡ true → is_some (find t (xs ++ x ∷ [])) ≡ true
-  find_last t xs x e = ap is_some (find-append t xs (x ∷ [])) ∙ ap (λ (o : Option A). is_some (option_or (find t xs) o)) (here t x [] e) ∙ or_behind (find t xs) x
+  find_last t xs x e = ap is_some (find-append t xs (x ∷ []))
+      ∙ ap (λ (o : Option A). is_some (option_or (find t xs) o)) (here t x [] e) ∙ or_behind (find t xs) x
 
   -- ---- the last
 
@@ -62,16 +65,19 @@ module _ {A : Type 0} where
   same_passes : (p : A → Bool) (x y : A) → ◌≡◌ {A = Option A} (Some y) (Some x) → p x ≡ true → p y ≡ false → ⊥
   same_passes p x y e a b = cc
 
-  last_from : (p : A → Bool) (x : A) → p x ≡ true → (xs : List A) (o left : Option A) → last_or o xs ≡ Some x → (o ≡ Some x → left ≡ Some x) → last_or left (filter p xs) ≡ Some x
+  last_from : (p : A → Bool) (x : A) → p x ≡ true → (xs : List A) (o left : Option A) → last_or o xs ≡ Some x
+      → (o ≡ Some x → left ≡ Some x) → last_or left (filter p xs) ≡ Some x
   last_from p x passes [] o left is known = known is
   last_from p x passes (y ∷ ys) o left is known =
       elim (truth (p y)) [
         | inl e ↦ ap (last_or left) (kept p y ys e) ∙ last_from p x passes ys (Some y) (Some y) is (λ same. same)
-        | inr e ↦ ap (last_or left) (left_out p y ys e) ∙ last_from p x passes ys (Some y) left is (λ same. absurd (same_passes p x y same passes e))
+        | inr e ↦ ap (last_or left) (left_out p y ys e)
+            ∙ last_from p x passes ys (Some y) left is (λ same. absurd (same_passes p x y same passes e))
       ]
 
   -- a filter that keeps the last
-  pub last_kept : (p : A → Bool) (xs : List A) (x : A) → p x ≡ true → last_or None xs ≡ Some x → last_or None (filter p xs) ≡ Some x
+  pub last_kept : (p : A → Bool) (xs : List A) (x : A) → p x ≡ true → last_or None xs ≡ Some x
+      → last_or None (filter p xs) ≡ Some x
   last_kept p xs x passes is = last_from p x passes xs None None is (λ same. same)
 
   -- ---- from behind
@@ -88,10 +94,12 @@ module _ {A : Type 0} where
       ∙ ap (λ ys. ys ++ cond (p x) (x ∷ []) []) (filter_reverse p xs)
       ∙ reverse_step (p x) x (filter p xs)
 
-map_step : {A B : Type 0} (f : A → B) (b : Bool) (x : A) (l : List A) (r : List B) → map f l ≡ r → map f (cond b (x ∷ l) l) ≡ cond b (f x ∷ r) r
+map_step : {A B : Type 0} (f : A → B) (b : Bool) (x : A) (l : List A) (r : List B) → map f l ≡ r
+    → map f (cond b (x ∷ l) l) ≡ cond b (f x ∷ r) r
 map_step f true x l r e = ap (λ ys. f x ∷ ys) e
 map_step f false x l r e = e
 
-pub map_filter : {A B : Type 0} (f : A → B) (p : B → Bool) (xs : List A) → map f (filter (λ x. p (f x)) xs) ≡ filter p (map f xs)
+pub map_filter : {A B : Type 0} (f : A → B) (p : B → Bool) (xs : List A)
+    → map f (filter (λ x. p (f x)) xs) ≡ filter p (map f xs)
 map_filter f p [] = refl
 map_filter f p (x ∷ xs) = map_step f (p (f x)) x _ _ (map_filter f p xs)

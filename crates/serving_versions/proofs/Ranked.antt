@@ -1,5 +1,6 @@
 -- Lists by rising versions, and the same from behind.
-use Rattle.std.proofs.Common.{◌≡◌, ℕ, ◌<◌, ◌≤◌, Bool, true, false, ◌&&◌, List, [], ◌∷◌, ◌++◌, map, reverse, refl, sym, ap, subst, ◌∙◌, arith, inl, inr, ◌⊎◌}
+use Rattle.std.proofs.Common.{◌≡◌, ℕ, ◌<◌, ◌≤◌, Bool, true, false, ◌&&◌, List, [], ◌∷◌, ◌++◌}
+use Rattle.std.proofs.Common.{map, reverse, refl, sym, ap, subst, ◌∙◌, arith, inl, inr, ◌⊎◌}
 use Rattle.std.specs.Prelude.{Some, filter, nat_le, ⊤}
 use Rattle.std.specs.List.{AllByRecursion, list_all}
 use Rattle.std.specs.List.Sorted.{IsStrictlySortedBy}
@@ -72,7 +73,8 @@ module _ {X : Type 0} (version : X → ℕ) where
         | inr e ↦ rw e (rises_filter p xs h.1)
       ]
 
-  passed : (P : X → Type 0) (p : X → Bool) → ((x : X) → p x ≡ true → P x) → (xs : List X) → AllByRecursion P (filter p xs)
+  passed : (P : X → Type 0) (p : X → Bool) → ((x : X) → p x ≡ true → P x) → (xs : List X)
+      → AllByRecursion P (filter p xs)
   passed P p is [] = tt
   passed P p is (x ∷ xs) =
       elim (truth (p x)) [
@@ -84,37 +86,46 @@ module _ {X : Type 0} (version : X → ℕ) where
   above_joined n [] ys f g = g
   above_joined n (x ∷ xs) ys f g = (f.0, above_joined n xs ys f.1 g)
 
-  joined : (xs : List X) (y : X) (ys : List X) → Rises xs → AreBelow (version y) xs → Rises (y ∷ ys) → Rises (xs ++ y ∷ ys)
+  joined : (xs : List X) (y : X) (ys : List X) → Rises xs → AreBelow (version y) xs → Rises (y ∷ ys)
+      → Rises (xs ++ y ∷ ys)
   joined [] y ys f below g = g
   joined (x ∷ xs) y ys f below g =
-      let lt = below.0 in
-      (above_joined (version x) xs (y ∷ ys) f.0 (lt, farther (version x) (version y) ys (omega arith) g.0), joined xs y ys f.1 below.1 g)
+      let lt = below.0 in (
+        above_joined (version x) xs (y ∷ ys) f.0 (lt, farther (version x) (version y) ys (omega arith) g.0),
+        joined xs y ys f.1 below.1 g,
+      )
 
   -- some left out
   pub rising_filter : (p : X → Bool) (xs : List X) → AreRising (map version xs) → AreRising (map version (filter p xs))
   rising_filter p xs h = rising (filter p xs) (rises_filter p xs (rises xs h))
 
   -- one more behind
-  pub rising_push : (xs : List X) (y : X) → AreRising (map version xs) → AreBelow (version y) xs → AreRising (map version (xs ++ y ∷ []))
+  pub rising_push : (xs : List X) (y : X) → AreRising (map version xs) → AreBelow (version y) xs
+      → AreRising (map version (xs ++ y ∷ []))
   rising_push xs y h below = rising (xs ++ y ∷ []) (joined xs y [] (rises xs h) below (tt, tt))
 
   -- one between those below and those above
-  pub rising_between : (low high : X → Bool) (y : X) (xs : List X) → AreRising (map version xs) → ((x : X) → low x ≡ true → version x < version y) → ((x : X) → high x ≡ true → version y < version x)
+  pub rising_between : (low high : X → Bool) (y : X) (xs : List X) → AreRising (map version xs)
+      → ((x : X) → low x ≡ true → version x < version y) → ((x : X) → high x ≡ true → version y < version x)
       → AreRising (map version (filter low xs ++ y ∷ filter high xs))
   rising_between low high y xs h below over =
       let all = rises xs h in
       rising (filter low xs ++ y ∷ filter high xs)
-      (joined (filter low xs) y (filter high xs) (rises_filter low xs all) (passed (λ (x : X). version x < version y) low below xs)
+      (joined (filter low xs) y (filter high xs) (rises_filter low xs all)
+      (passed (λ (x : X). version x < version y) low below xs)
       (passed (λ (x : X). version y < version x) high over xs, rises_filter high xs all))
 
-pub activation_rising : (version secs : ℕ) (xs : List Activation) → AreRising (map (λ a. a.version) xs) → AreRising (map (λ a. a.version) (with_activation version secs xs))
+pub activation_rising : (version secs : ℕ) (xs : List Activation) → AreRising (map (λ a. a.version) xs)
+    → AreRising (map (λ a. a.version) (with_activation version secs xs))
 unfolding with_activation
 activation_rising version secs xs h =
-    rising_between (λ (a : Activation). a.version) _ _ (record { version = version; secs = secs }) xs h (λ a e. ltb-true a.version version e) (λ a e. ltb-true version a.version e)
+    rising_between (λ (a : Activation). a.version) _ _ (record { version = version; secs = secs }) xs h
+    (λ a e. ltb-true a.version version e) (λ a e. ltb-true version a.version e)
 
 -- ---- the greatest is the last
 
-up_to_last : (masters : List Master) → Rises (λ (m : Master). m.version) masters → AllByRecursion (λ (m : Master). m.version ≤ last_version masters) masters
+up_to_last : (masters : List Master) → Rises (λ (m : Master). m.version) masters
+    → AllByRecursion (λ (m : Master). m.version ≤ last_version masters) masters
 unfolding last_version
 up_to_last [] h = tt
 up_to_last (m ∷ []) h = (omega arith, tt)
@@ -124,13 +135,16 @@ up_to_last (m ∷ n ∷ masters) h =
     let lt = h.0.0 in
     (omega arith, rest)
 
-below_from : (n last : ℕ) (masters : List Master) → last < n → AllByRecursion (λ (m : Master). m.version ≤ last) masters → AreBelow (λ (m : Master). m.version) n masters
+below_from : (n last : ℕ) (masters : List Master) → last < n → AllByRecursion (λ (m : Master). m.version ≤ last) masters
+    → AreBelow (λ (m : Master). m.version) n masters
 below_from n last [] lt h = tt
 below_from n last (m ∷ masters) lt h = let le = h.0 in (omega arith, below_from n last masters lt h.1)
 
-pub master_rising : (masters : List Master) (m : Master) → AreRising (map (λ (m : Master). m.version) masters) → last_version masters < m.version → AreRising (map (λ (m : Master). m.version) (masters ++ m ∷ []))
+pub master_rising : (masters : List Master) (m : Master) → AreRising (map (λ (m : Master). m.version) masters)
+    → last_version masters < m.version → AreRising (map (λ (m : Master). m.version) (masters ++ m ∷ []))
 master_rising masters m h lt =
-    rising_push (λ (m : Master). m.version) masters m h (below_from m.version (last_version masters) masters lt (up_to_last masters (rises (λ (m : Master). m.version) masters h)))
+    rising_push (λ (m : Master). m.version) masters m h (below_from m.version (last_version masters) masters lt
+    (up_to_last masters (rises (λ (m : Master). m.version) masters h)))
 
 -- ---- from behind
 
@@ -147,40 +161,52 @@ push_falls [] v h le = (tt, tt)
 push_falls (w ∷ vs) v h le = (push_each (λ u. u ≤ w) vs v h.0 le.0, push_falls vs v h.1 le.1)
 
 -- the versions of a list from behind
-versions_behind : (x : Master) (xs : List Master) → map (λ (m : Master). m.version) (reverse (x ∷ xs)) ≡ map (λ (m : Master). m.version) (reverse xs) ++ x.version ∷ []
+versions_behind : (x : Master) (xs : List Master) → map (λ (m : Master). m.version) (reverse (x ∷ xs))
+    ≡ map (λ (m : Master). m.version) (reverse xs) ++ x.version ∷ []
 versions_behind x xs = ap (map (λ (m : Master). m.version)) (reverse-append (x ∷ []) xs) ∙ pushed (reverse xs) x
   where
-    pushed : (ys : List Master) (y : Master) → map (λ (m : Master). m.version) (ys ++ y ∷ []) ≡ map (λ (m : Master). m.version) ys ++ y.version ∷ []
+    pushed : (ys : List Master) (y : Master)
+        → map (λ (m : Master). m.version) (ys ++ y ∷ []) ≡ map (λ (m : Master). m.version) ys ++ y.version ∷ []
     pushed [] y = refl
     pushed (z ∷ ys) y = ap (λ (vs : List ℕ). z.version ∷ vs) (pushed ys y)
 
-each_behind : (n : ℕ) (masters : List Master) → AreAbove (λ (m : Master). m.version) n masters → AllByRecursion (λ w. n ≤ w) (map (λ (m : Master). m.version) (reverse masters))
+each_behind : (n : ℕ) (masters : List Master) → AreAbove (λ (m : Master). m.version) n masters
+    → AllByRecursion (λ w. n ≤ w) (map (λ (m : Master). m.version) (reverse masters))
 each_behind n [] h = tt
 each_behind n (m ∷ masters) h =
     let lt = h.0 in
     subst (λ (vs : List ℕ). AllByRecursion (λ w. n ≤ w) vs) (sym (versions_behind m masters))
-    (push_each (λ w. n ≤ w) (map (λ (m : Master). m.version) (reverse masters)) m.version (each_behind n masters h.1) (omega arith))
+    (push_each (λ w. n ≤ w) (map (λ (m : Master). m.version) (reverse masters)) m.version (each_behind n masters h.1)
+    (omega arith))
 
-falls_behind : (masters : List Master) → Rises (λ (m : Master). m.version) masters → Falls (map (λ (m : Master). m.version) (reverse masters))
+falls_behind : (masters : List Master) → Rises (λ (m : Master). m.version) masters
+    → Falls (map (λ (m : Master). m.version) (reverse masters))
 falls_behind [] h = tt
 falls_behind (m ∷ masters) h =
     subst Falls (sym (versions_behind m masters))
-    (push_falls (map (λ (m : Master). m.version) (reverse masters)) m.version (falls_behind masters h.1) (each_behind m.version masters h.0))
+    (push_falls (map (λ (m : Master). m.version) (reverse masters)) m.version (falls_behind masters h.1)
+    (each_behind m.version masters h.0))
 
-versions_in : (keys : List PlainItem) → map (λ (m : Master). m.version) (map master_in keys) ≡ map (λ (k : PlainItem). k.kvno) keys
+versions_in : (keys : List PlainItem)
+    → map (λ (m : Master). m.version) (map master_in keys) ≡ map (λ (k : PlainItem). k.kvno) keys
 versions_in [] = refl
 versions_in (k ∷ keys) = ap (λ (vs : List ℕ). k.kvno ∷ vs) (versions_in keys)
 
-may_each : (k : PlainItem) (keys : List PlainItem) → AllByRecursion (λ w. w ≤ k.kvno) (map (λ (k : PlainItem). k.kvno) keys) → list_all (may_follow k) keys ≡ true
+may_each : (k : PlainItem) (keys : List PlainItem)
+    → AllByRecursion (λ w. w ≤ k.kvno) (map (λ (k : PlainItem). k.kvno) keys) → list_all (may_follow k) keys ≡ true
 may_each k [] h = refl
-may_each k (o ∷ keys) h = and_from (nat_le o.kvno k.kvno) (list_all (may_follow k) keys) (le-leb o.kvno k.kvno h.0) (may_each k keys h.1)
+may_each k (o ∷ keys) h =
+    and_from (nat_le o.kvno k.kvno) (list_all (may_follow k) keys) (le-leb o.kvno k.kvno h.0) (may_each k keys h.1)
 
 pub falls_never_rise : (keys : List PlainItem) → Falls (map (λ (k : PlainItem). k.kvno) keys) → never_rise keys ≡ true
 unfolding never_rise
 falls_never_rise [] h = refl
-falls_never_rise (k ∷ keys) h = and_from (list_all (may_follow k) keys) (never_rise keys) (may_each k keys h.0) (falls_never_rise keys h.1)
+falls_never_rise (k ∷ keys) h =
+    and_from (list_all (may_follow k) keys) (never_rise keys) (may_each k keys h.0) (falls_never_rise keys h.1)
 
 -- keys that are the master keys from behind
-pub masters_never_rise : (keys : List PlainItem) (masters : List Master) → map master_in keys ≡ reverse masters → AreRising (map (λ (m : Master). m.version) masters) → never_rise keys ≡ true
+pub masters_never_rise : (keys : List PlainItem) (masters : List Master) → map master_in keys ≡ reverse masters
+    → AreRising (map (λ (m : Master). m.version) masters) → never_rise keys ≡ true
 masters_never_rise keys masters is h =
-    falls_never_rise keys (subst Falls (sym (ap (map (λ (m : Master). m.version)) is) ∙ versions_in keys) (falls_behind masters (rises (λ (m : Master). m.version) masters h)))
+    falls_never_rise keys (subst Falls (sym (ap (map (λ (m : Master). m.version)) is) ∙ versions_in keys)
+    (falls_behind masters (rises (λ (m : Master). m.version) masters h)))

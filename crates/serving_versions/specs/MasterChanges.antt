@@ -1,5 +1,5 @@
--- Changes of the master keys, as MIT's kdb5_util makes them: add_mkey, use_mkey and purge_mkeys. They leave all of K/M but its keys and
--- its version.
+-- Changes of the master keys, as MIT's kdb5_util makes them: add_mkey, use_mkey and purge_mkeys. They leave all of K/M
+-- but its keys and its version.
 use Rattle.std.specs.Prelude.{ℕ, List, [], ◌∷◌, ◌++◌, filter}
 use Rattle.kdb_base.specs.declared.keys.Salt.TheVariants.{Normal}
 use Rattle.kdb_base.specs.declared.versions.Activation.{Activation}
@@ -43,4 +43,5 @@ with_serving s secs entry = record entry { keys = filter (λ (k : PlainItem). se
 
 -- what does not serve at these seconds goes
 unfoldable pub purges_masters : State → ℕ → PlainPrinc → PlainOp
-purges_masters s secs entry = PutMasters (with_serving s secs entry) (serving_masters s secs) (serving_activations s secs)
+purges_masters s secs entry =
+    PutMasters (with_serving s secs entry) (serving_masters s secs) (serving_activations s secs)

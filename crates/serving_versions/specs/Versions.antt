@@ -1,6 +1,7 @@
--- Which versions of the master key serve, as MIT's kdb5_util purge_mkeys counts the versions that are in use; that the active one, the
--- newest one and one that is yet to become active serve too is this project's own rule.
-use Rattle.std.specs.Prelude.{ℕ, ◌≡◌, ◌≢◌, ◌<◌, ◌⊎◌, Bool, not, ◌&&◌, nat_eq, nat_lt, List, length, map, filter, Option, Some, None, is_some, unwrap_or, if◌then◌else◌}
+-- Which versions of the master key serve, as MIT's kdb5_util purge_mkeys counts the versions that are in use; that the
+-- active one, the newest one and one that is yet to become active serve too is this project's own rule.
+use Rattle.std.specs.Prelude.{ℕ, ◌≡◌, ◌≢◌, ◌<◌, ◌⊎◌, Bool, not, ◌&&◌, nat_eq, nat_lt, List, length}
+use Rattle.std.specs.Prelude.{map, filter, Option, Some, None, is_some, unwrap_or, if◌then◌else◌}
 use Rattle.std.specs.List.{Any, list_any}
 use Rattle.std.specs.Str.{bytes_eq}
 use Rattle.kdb_base.specs.declared.versions.Activation.{Activation}
@@ -37,8 +38,8 @@ becomes_active secs version a = nat_eq a.version version && nat_lt secs a.secs
 unfoldable pub is_pending : List Activation → ℕ → ℕ → Bool
 is_pending activations secs version = list_any (becomes_active secs version) activations
 
--- why a version serves at these seconds, where it protects so many principals: the first cause that holds; None where it does not
--- serve
+-- why a version serves at these seconds, where it protects so many principals: the first cause that holds; None where
+-- it does not serve
 unfoldable pub cause_from : ℕ → List Master → List Activation → ℕ → ℕ → Option Cause
 cause_from count masters activations secs version =
     if nat_lt 0 count then Some (Protects count)

@@ -14,6 +14,7 @@ ghost use Rattle.serving_versions.specs.Versions.{HasCause, dead_versions, serve
 pub fn serving_versions_stay()
     ensures causes { (s : State) (secs version : ℕ) → (serves s secs version ≡ true) ↔ HasCause s secs version }
     ensures newest { (s : State) (secs : ℕ) → serves s secs (last_version s.masters) ≡ true }
-    ensures rising { (s : State) (secs : ℕ) → AreRising (map (λ (m : Master). m.version) s.masters) → AreRising (dead_versions s secs) }
+    ensures rising { (s : State) (secs : ℕ) → AreRising (map (λ (m : Master). m.version) s.masters)
+        → AreRising (dead_versions s secs) }
     ensures purged { (s : State) (secs : ℕ) → live_masters (dead_versions s secs) s.masters ≡ serving_masters s secs }
 {}

@@ -3,7 +3,8 @@
 ghost use Rattle.std.specs.Prelude.{◌≡◌, ◌≤◌, IfOk, nat_eq, option_map};
 ghost use Rattle.kdb_base.specs.Limits.{most_rows};
 ghost use Rattle.master_keys.specs.Versions.{last_version};
-ghost use Rattle.serving_versions.specs.Versions.{cause_from, cause_of, dead_versions, is_active_at, is_pending, is_under, protected_by, serves, serving_masters};
+ghost use Rattle.serving_versions.specs.Versions.{cause_from, cause_of, dead_versions, is_active_at};
+ghost use Rattle.serving_versions.specs.Versions.{is_pending, is_under, protected_by, serves, serving_masters};
 
 use kdb_base::{Activations, Masters, MemoryOut};
 use kdb_plain::{PlainPrinc, PlainPrincs, State, is_master_name};

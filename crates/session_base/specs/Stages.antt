@@ -10,8 +10,8 @@ use Rattle.store_files.specs.Recovery.{LeavesPart}
 abbrev pub Stage : Type 1
 Stage = Option (List ℕ) → Place → List Place → Type 0
 
--- Nothing of the reply was written, and a crash leaves the place before the line or one that the line makes. Or a part of the reply was,
--- and it leaves the place after it alone.
+-- Nothing of the reply was written, and a crash leaves the place before the line or one that the line makes. Or a part
+-- of the reply was, and it leaves the place after it alone.
 abbrev pub StopsAt : Option (List ℕ) → List ℕ → Place → List Place → Place → Stage
 StopsAt taken text before made later out first others =
     ((out ≡ taken) × (first ≡ before) × (others ≡ made)) ⊎ (SaidPart text taken out × (first ≡ later) × (others ≡ []))

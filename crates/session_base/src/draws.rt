@@ -14,7 +14,8 @@ pub fn draw<E: Entropy>(
     count: usize,
 ) -> Result<Vec<u8>, SessionHalt>
     ensures length { IfOk result (λ bytes. length bytes.items ≡ count) }
-    ensures value { IfOk result (λ bytes. IfSome (E.stream entropy.old) (λ stream. bytes.items ≡ bytes_of count stream)) }
+    ensures value { IfOk result
+        (λ bytes. IfSome (E.stream entropy.old) (λ stream. bytes.items ≡ bytes_of count stream)) }
     ensures rest { OnOk result (E.stream entropy.new ≡ option_map (later_bytes count) (E.stream entropy.old)) }
     ensures halt { IfErr result (λ halt. (halt ≡ SessionHalt.MemoryOut) ⊎ (halt ≡ SessionHalt.DrawFault)) }
     ensures faults { Counts (E.faults entropy.old) (E.faults entropy.new) (result ≡ Err SessionHalt.DrawFault) }

@@ -30,4 +30,5 @@ pub length-tag : (key : Key) (usage : ℕ) (text : List ℕ) → length (tag key
 unfolding tag
 length-tag key usage text =
     let digest = length-hmac_of key.etype (integrity_key key usage) (replicate 16 0 ++ text) in
-    length-take-le (tag_len key.etype) (hmac_of key.etype (integrity_key key usage) (replicate 16 0 ++ text)) (omega (arith, digest, tag_inside key.etype))
+    length-take-le (tag_len key.etype) (hmac_of key.etype (integrity_key key usage) (replicate 16 0 ++ text))
+    (omega (arith, digest, tag_inside key.etype))

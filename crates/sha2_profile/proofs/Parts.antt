@@ -9,7 +9,8 @@ module _ (enciphered tagged : List ℕ → List ℕ) (n : ℕ) (each : (text : L
       omega (arith, length-append (enciphered text) (tagged text), each text, whole)
 
   -- what it begins with
-  pub begins : (text blob : List ℕ) → blob ≡ enciphered text ++ tagged text → enciphered text ≡ take (length blob - n) blob
+  pub begins : (text blob : List ℕ) → blob ≡ enciphered text ++ tagged text
+      → enciphered text ≡ take (length blob - n) blob
   begins text blob is =
       sym (take_at (enciphered text) (tagged text) (length blob - n) (front_len text blob is))
       ∙ ap (take (length blob - n)) (sym is)
@@ -21,6 +22,7 @@ module _ (enciphered tagged : List ℕ → List ℕ) (n : ℕ) (each : (text : L
       ∙ ap (drop (length blob - n)) (sym is)
 
   -- what begins and ends so is the blob
-  pub joined_is : (text blob : List ℕ) → enciphered text ≡ take (length blob - n) blob → tagged text ≡ drop (length blob - n) blob →
+  pub joined_is : (text blob : List ℕ) → enciphered text ≡ take (length blob - n) blob
+      → tagged text ≡ drop (length blob - n) blob →
       blob ≡ enciphered text ++ tagged text
   joined_is text blob front end = rw (front, end) (sym (take-append-drop (length blob - n) blob))

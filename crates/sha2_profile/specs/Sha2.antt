@@ -1,5 +1,6 @@
 -- The encryption types of RFC 8009.
-use Rattle.std.specs.Prelude.{◌≡◌, ◌≢◌, ℕ, ◌+◌, ◌-◌, ◌*◌, ◌≤◌, Bool, true, false, List, [], ◌∷◌, ◌++◌, length, take, drop, replicate, codes}
+use Rattle.std.specs.Prelude.{◌≡◌, ◌≢◌, ℕ, ◌+◌, ◌-◌, ◌*◌, ◌≤◌, Bool, true, false, List}
+use Rattle.std.specs.Prelude.{[], ◌∷◌, ◌++◌, length, take, drop, replicate, codes}
 use Rattle.std.specs.Int.{w32, to_be_bytes}
 use Rattle.aes_cts.specs.BlockKeys.{AreBytes}
 use Rattle.aes_cts.specs.Stealing.{cts}

@@ -47,7 +47,8 @@ impl Mac {
     /// Fills `into` with the first bytes of the HMAC of a text in three pieces.
     pub fn write(&self, first: &[u8], second: &[u8], third: &[u8], into: &mut [u8])
         requires { length into.old ≤ 32 }
-        ensures { (etype : EtypeWord) → (key : List ℕ) → IsMac etype self.now key → into.new ≡ take (length into.old) (hmac_of etype key (first.now ++ (second.now ++ third.now))) }
+        ensures { (etype : EtypeWord) → (key : List ℕ) → IsMac etype self.now key
+            → into.new ≡ take (length into.old) (hmac_of etype key (first.now ++ (second.now ++ third.now))) }
     {
         match self {
             Mac::Sha256(keyed) => put_front(&keyed.tag(first, second, third), into),

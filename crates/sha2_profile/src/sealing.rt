@@ -1,11 +1,13 @@
 //! Texts that are sealed under a key (RFC 8009, section 5).
 
-ghost use Rattle.std.specs.Prelude.{◌≡◌, ◌≢◌, ℕ, ◌+◌, ◌<◌, ◌≤◌, ◌↔◌, true, List, ◌++◌, length, take, IfOk, IsTrue, MatchResult};
+ghost use Rattle.std.specs.Prelude.{◌≡◌, ◌≢◌, ℕ, ◌+◌, ◌<◌, ◌≤◌, ◌↔◌, true, List};
+ghost use Rattle.std.specs.Prelude.{◌++◌, length, take, IfOk, IsTrue, MatchResult};
 ghost use Rattle.aes_cts.specs.BlockKeys.{AreBytes, bytes_of};
 ghost use Rattle.aes_cts.specs.Stealing.{cts};
 ghost use Rattle.kdb_base.specs.Etypes.{tag_len};
 ghost use Rattle.sha2_profile.specs.Macs.{IsMac};
-ghost use Rattle.sha2_profile.specs.Sha2.{IsMistagged, IsSealed, encryption_key, integrity_key, is_sha2, sealed, tag as tag_of};
+ghost use Rattle.sha2_profile.specs.Sha2.{IsMistagged, IsSealed, encryption_key};
+ghost use Rattle.sha2_profile.specs.Sha2.{integrity_key, is_sha2, sealed, tag as tag_of};
 
 use crate::derivation::usage_key;
 use crate::faults::UnsealFault;
@@ -94,7 +96,8 @@ impl Sha2Keys {
         ensures bad_tag { (result ≡ Err UnsealFault.BadTag) ↔ IsMistagged self.now.key self.now.usage blob.now }
 
         // What was sealed is given back.
-        ensures after_seal { (plain : List ℕ) → IsSealed self.now.key self.now.usage blob.now plain → MatchResult result (λ text. text ≡ plain) (λ fault. fault ≡ UnsealFault.MemoryOut) }
+        ensures after_seal { (plain : List ℕ) → IsSealed self.now.key self.now.usage blob.now plain
+            → MatchResult result (λ text. text ≡ plain) (λ fault. fault ≡ UnsealFault.MemoryOut) }
     {
         let tag_len = self.key.etype().tag_len();
         if blob.len() < CONFOUNDER_LEN + tag_len {
@@ -126,7 +129,8 @@ impl Sha2Keys {
     fn opened(&self, alloc: Global, front: &[u8]) -> Result<Vec<u8>, MemoryOut>
         requires { 16 ≤ length front.now }
         ensures holds { IfOk result (λ text. cts (encryption_key self.now.key self.now.usage) text.items ≡ front.now) }
-        ensures only { IfOk result (λ text. (t : List ℕ) → AreBytes t → cts (encryption_key self.now.key self.now.usage) t ≡ front.now → t ≡ text.items) }
+        ensures only { IfOk result (λ text. (t : List ℕ) → AreBytes t
+            → cts (encryption_key self.now.key self.now.usage) t ≡ front.now → t ≡ text.items) }
         ensures bytes { IfOk result (λ text. AreBytes text.items) }
         ensures len { IfOk result (λ text. length text.items ≡ length front.now) }
     {
@@ -221,7 +225,8 @@ pub fn unseal2(alloc: Global, key: &PlainKey, usage: u32, blob: &[u8]) -> Result
     ensures bad_tag { (result ≡ Err UnsealFault.BadTag) ↔ IsMistagged key.now usage blob.now }
 
     // What was sealed is given back.
-    ensures after_seal { (plain : List ℕ) → IsSealed key.now usage blob.now plain → MatchResult result (λ text. text ≡ plain) (λ fault. fault ≡ UnsealFault.MemoryOut) }
+    ensures after_seal { (plain : List ℕ) → IsSealed key.now usage blob.now plain
+        → MatchResult result (λ text. text ≡ plain) (λ fault. fault ≡ UnsealFault.MemoryOut) }
 {
     Sha2Keys::new(key, usage).unseal(alloc, blob)
 }

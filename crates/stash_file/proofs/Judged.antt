@@ -1,5 +1,6 @@
 -- Each text of bytes is a stash, or it is bad somewhere.
-use Rattle.std.proofs.Common.{◌≡◌, ℕ, zero, suc, ◌<◌, ◌≤◌, Bool, true, false, List, [], ◌∷◌, ◌++◌, length, take, drop, Option, Some, None, refl, sym, ap, subst, ◌∙◌, append_assoc, arith, ◌⊎◌, inl, inr}
+use Rattle.std.proofs.Common.{◌≡◌, ℕ, zero, suc, ◌<◌, ◌≤◌, Bool, true, false, List, [], ◌∷◌, ◌++◌, length, take, drop}
+use Rattle.std.proofs.Common.{Option, Some, None, refl, sym, ap, subst, ◌∙◌, append_assoc, arith, ◌⊎◌, inl, inr}
 use Rattle.std.specs.List.{All, flat_map, list_all}
 use Rattle.std.specs.Str.{bytes_eq}
 use Rattle.std.proofs.lemmas.List.{flat_map_more, length-append, take-append-drop, take_at}
@@ -47,14 +48,18 @@ unfolding zeros
 ends [] = inl (inl refl)
 ends (b ∷ rest) =
     elim (cases_lists (take 4 (b ∷ rest)) (zeros 4)) [
-      | inl same ↦ inl (inr (record { ignored = drop 4 (b ∷ rest); is = sym (take-append-drop 4 (b ∷ rest)) ∙ ap (λ (front : List ℕ). front ++ drop 4 (b ∷ rest)) same }))
+      | inl same ↦ inl (inr (record {
+        ignored = drop 4 (b ∷ rest);
+        is = sym (take-append-drop 4 (b ∷ rest)) ∙ ap (λ (front : List ℕ). front ++ drop 4 (b ∷ rest)) same;
+      }))
       | inr other ↦ inr (λ end. elim end [
         | inl none ↦ absurd cc
         | inr mark ↦ other (ap (take 4) mark.is ∙ take_at (zeros 4) mark.ignored 4 refl)
       ])
     ]
 
-one_more : (test : Told → Bool) (text : List ℕ) (pieces : List Piece) (rest : List ℕ) (p : Piece) (after : List ℕ) → IsSoFar test text pieces rest
+one_more : (test : Told → Bool) (text : List ℕ) (pieces : List Piece) (rest : List ℕ) (p : Piece) (after : List ℕ)
+    → IsSoFar test text pieces rest
     → Stands test p → rest ≡ piece_text p ++ after → IsSoFar test text (pieces ++ p ∷ []) after
 one_more test text pieces rest p after so stands e = record {
   each = All-append (Stands test) pieces (p ∷ []) so.each (All-from_recursion (Stands test) (p ∷ []) (stands, tt));
@@ -66,14 +71,25 @@ one_more test text pieces rest p after so stands e = record {
       ∙ ap (λ (b : List ℕ). with_version (b ++ after)) (flat_map_more piece_text [] pieces p);
 }
 
-broken_here : (test : Told → Bool) (text : List ℕ) (pieces : List Piece) (rest : List ℕ) → IsSoFar test text pieces rest → (IsEnd rest → ⊥) → NoPiece test rest → Judged test text
+broken_here : (test : Told → Bool) (text : List ℕ) (pieces : List Piece) (rest : List ℕ) → IsSoFar test text pieces rest
+    → (IsEnd rest → ⊥) → NoPiece test rest → Judged test text
 broken_here test text pieces rest so going none =
     Broken (length (with_version (flat_map piece_text pieces)))
-    (inr (record { pieces = pieces; rest = rest; each = so.each; no_end = going; no_piece = none; spelled = so.spelled; place_is = refl }))
+    (inr (record {
+      pieces = pieces;
+      rest = rest;
+      each = so.each;
+      no_end = going;
+      no_piece = none;
+      spelled = so.spelled;
+      place_is = refl;
+    }))
 
 -- a text whose rest is the end, a piece and more, or broken
-by_rest : (test : Told → Bool) (text : List ℕ) (pieces : List Piece) (rest : List ℕ) → IsBytes rest → IsSoFar test text pieces rest
-    → ((p : Piece) (after : List ℕ) → rest ≡ piece_text p ++ after → IsSoFar test text (pieces ++ p ∷ []) after → Judged test text) → Judged test text
+by_rest : (test : Told → Bool) (text : List ℕ) (pieces : List Piece) (rest : List ℕ) → IsBytes rest
+    → IsSoFar test text pieces rest
+    → ((p : Piece) (after : List ℕ) → rest ≡ piece_text p ++ after → IsSoFar test text (pieces ++ p ∷ []) after
+    → Judged test text) → Judged test text
 by_rest test text pieces rest fits so further =
     elim (ends rest) [
       | inl end ↦ Whole pieces (record { end = rest; each = so.each; ended = end; spelled = so.spelled })
@@ -86,24 +102,29 @@ by_rest test text pieces rest fits so further =
                 let e = piece_field.spelled rest p after fits found.1 in
                 let is = piece_field.fits rest p after fits found.1 in
                 elim (truth (list_all test (told_by p))) [
-                  | inl passes ↦ further p after e (one_more test text pieces rest p after so (record { piece = is; passes = passes }) e)
+                  | inl passes ↦ further p after e
+                      (one_more test text pieces rest p after so (record { piece = is; passes = passes }) e)
                   | inr fails ↦ broken_here test text pieces rest so going (none_beside test rest p after is e fails)
                 ]
           ]
     ]
 
 shorter : (p : Piece) (rest after : List ℕ) → rest ≡ piece_text p ++ after → length after < length rest
-shorter p rest after e = let least = piece_takes_bytes p in omega (arith, ap (length {A = ℕ}) e, length-append (piece_text p) after)
+shorter p rest after e = let least =
+    piece_takes_bytes p in omega (arith, ap (length {A = ℕ}) e, length-append (piece_text p) after)
 
 -- the rest has at most n bytes
-judged_on : (test : Told → Bool) (text : List ℕ) (n : ℕ) (pieces : List Piece) (rest : List ℕ) → length rest ≤ n → IsBytes rest → IsSoFar test text pieces rest → Judged test text
+judged_on : (test : Told → Bool) (text : List ℕ) (n : ℕ) (pieces : List Piece) (rest : List ℕ) → length rest ≤ n
+    → IsBytes rest → IsSoFar test text pieces rest → Judged test text
 judged_on test text zero pieces rest le fits so =
     by_rest test text pieces rest fits so (λ p after e more. let less = shorter p rest after e in absurd (omega arith))
 judged_on test text (suc n) pieces rest le fits so =
     by_rest test text pieces rest fits so
-    (λ p after e more. let less = shorter p rest after e in judged_on test text n (pieces ++ p ∷ []) after (omega arith) (IsBytes-back (piece_text p) after (subst IsBytes e fits)) more)
+    (λ p after e more. let less = shorter p rest after e in judged_on test text n (pieces ++ p ∷ []) after (omega arith)
+    (IsBytes-back (piece_text p) after (subst IsBytes e fits)) more)
 
-versioned : (text : List ℕ) → ((rest : List ℕ) × (text ≡ with_version rest)) ⊎ ((rest : List ℕ) → text ≡ with_version rest → ⊥)
+versioned : (text : List ℕ)
+    → ((rest : List ℕ) × (text ≡ with_version rest)) ⊎ ((rest : List ℕ) → text ≡ with_version rest → ⊥)
 versioned text =
     elim (cases_lists (take 2 text) (5 ∷ 2 ∷ [])) [
       | inl same ↦ inl (drop 2 text, sym (take-append-drop 2 text) ∙ ap (λ (front : List ℕ). front ++ drop 2 text) same)
@@ -114,7 +135,8 @@ judged : (test : Told → Bool) (text : List ℕ) → IsBytes text → Judged te
 judged test text fits =
     elim (versioned text) [
       | inl is ↦
-          judged_on test text (length is.0) [] is.0 (omega arith) (IsBytes-back (5 ∷ 2 ∷ []) is.0 (subst IsBytes is.1 fits))
+          judged_on test text (length is.0) [] is.0 (omega arith)
+          (IsBytes-back (5 ∷ 2 ∷ []) is.0 (subst IsBytes is.1 fits))
           (record { each = All-from_recursion (Stands test) [] tt; spelled = is.1 })
       | inr other ↦ Broken 0 (inl (record { version = other; place_is = refl }))
     ]

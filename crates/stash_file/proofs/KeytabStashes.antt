@@ -12,7 +12,8 @@ use Rattle.stash_file.specs.Pieces.{Piece, Told, told_by}
 use Rattle.stash_file.specs.Stashes.{IsStash, has_master_key, is_master, key_of, keys_by}
 
 -- where an entry may be skipped, less is asked of its key
-skipped_passes : (master : Bool) (t : Option Etype) (key : List ℕ) → has_length t key ≡ true → has_length (if master then t else None) key ≡ true
+skipped_passes : (master : Bool) (t : Option Etype) (key : List ℕ) → has_length t key ≡ true
+    → has_length (if master then t else None) key ≡ true
 skipped_passes true t key e = e
 skipped_passes false t key e = refl
 
@@ -20,23 +21,29 @@ master_passes : (list : List Told) → list_all has_key list ≡ true → list_a
 master_passes [] e = refl
 master_passes (t ∷ list) e =
     let both = and_parts (has_key t) (list_all has_key list) e in
-    and_from (has_master_key t) (list_all has_master_key list) (skipped_passes (is_master t.parts) (etype_of t.key_type) t.key both.0) (master_passes list both.1)
+    and_from (has_master_key t) (list_all has_master_key list)
+    (skipped_passes (is_master t.parts) (etype_of t.key_type) t.key both.0) (master_passes list both.1)
 
-pieces_stand : (pieces : List Piece) → AllByRecursion (Stands has_key) pieces → AllByRecursion (Stands has_master_key) pieces
+pieces_stand : (pieces : List Piece) → AllByRecursion (Stands has_key) pieces
+    → AllByRecursion (Stands has_master_key) pieces
 pieces_stand [] f = tt
-pieces_stand (p ∷ pieces) f = (record { piece = f.0.piece; passes = master_passes (told_by p) f.0.passes }, pieces_stand pieces f.1)
+pieces_stand (p ∷ pieces) f =
+    (record { piece = f.0.piece; passes = master_passes (told_by p) f.0.passes }, pieces_stand pieces f.1)
 
 keys_told : (pieces : List Piece) → flat_map key_of (flat_map told_by pieces) ≡ flat_map keys_by pieces
 unfolding keys_by
 keys_told [] = refl
-keys_told (p ∷ pieces) = flat_map-append key_of (told_by p) (flat_map told_by pieces) ∙ ap (λ rest. flat_map key_of (told_by p) ++ rest) (keys_told pieces)
+keys_told (p ∷ pieces) = flat_map-append key_of (told_by p) (flat_map told_by pieces)
+    ∙ ap (λ rest. flat_map key_of (told_by p) ++ rest) (keys_told pieces)
 
-pub keytab_stashes : (text : List ℕ) (entries : List Told) → IsKeytab text entries → IsStash text (flat_map key_of entries)
+pub keytab_stashes : (text : List ℕ) (entries : List Told) → IsKeytab text entries
+    → IsStash text (flat_map key_of entries)
 keytab_stashes text entries f = record {
   pieces = f.pieces;
   is = record {
     end = f.is.end;
-    each = All-from_recursion (Stands has_master_key) f.pieces (pieces_stand f.pieces (recursion_from_All (Stands has_key) f.pieces f.is.each));
+    each = All-from_recursion (Stands has_master_key) f.pieces
+        (pieces_stand f.pieces (recursion_from_All (Stands has_key) f.pieces f.is.each));
     ended = f.is.ended;
     spelled = f.is.spelled;
   };

@@ -1,5 +1,6 @@
 -- Reading a keytab piece by piece, whatever each piece tells and whichever may stand there.
-use Rattle.std.proofs.Common.{◌≡◌, ℕ, ◌+◌, ◌-◌, ◌^◌, ◌<◌, ◌≤◌, Bool, List, [], ◌∷◌, ◌++◌, length, refl, sym, ap, ◌∙◌, append_assoc, arith, inr}
+use Rattle.std.proofs.Common.{◌≡◌, ℕ, ◌+◌, ◌-◌, ◌^◌, ◌<◌, ◌≤◌, Bool, List, [], ◌∷◌, ◌++◌}
+use Rattle.std.proofs.Common.{length, refl, sym, ap, ◌∙◌, append_assoc, arith, inr}
 use Rattle.std.specs.List.{All, flat_map}
 use Rattle.std.proofs.lemmas.List.{length-append, flat_map_more}
 use Rattle.std.proofs.lemmas.List.Elements.{All-append, All-from_recursion}
@@ -11,21 +12,27 @@ use Rattle.stash_file.specs.Pieces.{Piece, Told, piece_text, entry_text}
 use Rattle.stash_file.specs.Pieces.Piece.{Hole, Held}
 
 -- pieces that tell these items were read of the text, and the rest is left
-pub record IsReadBy {A : Type 0} (test : Told → Bool) (tell : Piece → List A) (text : List ℕ) (items : List A) (rest : List ℕ) : Type 0 where
+pub record IsReadBy {A : Type 0} (test : Told → Bool) (tell : Piece → List A) (text : List ℕ) (items : List A)
+    (rest : List ℕ) : Type 0 where
   pub pieces : List Piece
   pub each : All (Stands test) pieces
   pub spelled : text ≡ with_version (flat_map piece_text pieces ++ rest)
   pub told : items ≡ flat_map tell pieces
 
-pub nothing_by : {A : Type 0} (test : Told → Bool) (tell : Piece → List A) (text rest : List ℕ) → text ≡ with_version rest → IsReadBy test tell text [] rest
-nothing_by test tell text rest e = record { pieces = []; each = All-from_recursion (Stands test) [] tt; spelled = e; told = refl }
+pub nothing_by : {A : Type 0} (test : Told → Bool) (tell : Piece → List A) (text rest : List ℕ)
+    → text ≡ with_version rest → IsReadBy test tell text [] rest
+nothing_by test tell text rest e =
+    record { pieces = []; each = All-from_recursion (Stands test) [] tt; spelled = e; told = refl }
 
 -- one more piece
-pub more_by : {A : Type 0} (test : Told → Bool) (tell : Piece → List A) (text : List ℕ) (items : List A) (rest : List ℕ) (more : List A) (after : List ℕ)
-    → IsReadBy test tell text items rest → IsNextBy test tell rest more after → IsReadBy test tell text (items ++ more) after
+pub more_by : {A : Type 0} (test : Told → Bool) (tell : Piece → List A) (text : List ℕ) (items : List A) (rest : List ℕ)
+    (more : List A) (after : List ℕ)
+    → IsReadBy test tell text items rest → IsNextBy test tell rest more after
+    → IsReadBy test tell text (items ++ more) after
 more_by {A} test tell text items rest more after read next = record {
   pieces = read.pieces ++ next.piece ∷ [];
-  each = All-append (Stands test) read.pieces (next.piece ∷ []) read.each (All-from_recursion (Stands test) (next.piece ∷ []) (next.fits, tt));
+  each = All-append (Stands test) read.pieces (next.piece ∷ []) read.each
+      (All-from_recursion (Stands test) (next.piece ∷ []) (next.fits, tt));
   spelled =
       let before = flat_map piece_text read.pieces in
       read.spelled
@@ -40,26 +47,32 @@ more_by {A} test tell text items rest more after read next = record {
 
 pub piece_takes_bytes : (p : Piece) → 4 ≤ length (piece_text p)
 unfolding piece_text
-piece_takes_bytes (Hole bytes) = omega (arith, length-append (big 4 (2 ^ 32 - length bytes)) bytes, length-big 4 (2 ^ 32 - length bytes))
+piece_takes_bytes (Hole bytes) =
+    omega (arith, length-append (big 4 (2 ^ 32 - length bytes)) bytes, length-big 4 (2 ^ 32 - length bytes))
 piece_takes_bytes (Held e more) =
     let body = entry_text e ++ more in
     omega (arith, length-append (big 4 (length body)) body, length-big 4 (length body))
 
-pub less_by : {A : Type 0} (test : Told → Bool) (tell : Piece → List A) (old : List ℕ) (items : List A) (new : List ℕ) → IsNextBy test tell old items new → length new < length old
+pub less_by : {A : Type 0} (test : Told → Bool) (tell : Piece → List A) (old : List ℕ) (items : List A) (new : List ℕ)
+    → IsNextBy test tell old items new → length new < length old
 less_by test tell old items new next =
     let at_least = piece_takes_bytes next.piece in
     omega (arith, ap (length {A = ℕ}) next.spelled, length-append (piece_text next.piece) new)
 
 -- what is left is a part of the text
-pub length_by : {A : Type 0} (test : Told → Bool) (tell : Piece → List A) (text : List ℕ) (items : List A) (rest : List ℕ) → (read : IsReadBy test tell text items rest)
+pub length_by : {A : Type 0} (test : Told → Bool) (tell : Piece → List A) (text : List ℕ) (items : List A)
+    (rest : List ℕ) → (read : IsReadBy test tell text items rest)
     → length text ≡ length (with_version (flat_map piece_text read.pieces)) + length rest
 length_by test tell text items rest read =
     omega (arith, ap (length {A = ℕ}) read.spelled, length-append (flat_map piece_text read.pieces) rest)
 
-pub ends_by : {A : Type 0} (test : Told → Bool) (tell : Piece → List A) (text : List ℕ) (items : List A) (rest : List ℕ) → (read : IsReadBy test tell text items rest) → IsEnd rest → IsText test text read.pieces
-ends_by test tell text items rest read end = record { end = rest; each = read.each; ended = end; spelled = read.spelled }
+pub ends_by : {A : Type 0} (test : Told → Bool) (tell : Piece → List A) (text : List ℕ) (items : List A) (rest : List ℕ)
+    → (read : IsReadBy test tell text items rest) → IsEnd rest → IsText test text read.pieces
+ends_by test tell text items rest read end =
+    record { end = rest; each = read.each; ended = end; spelled = read.spelled }
 
-pub breaks_by : {A : Type 0} (test : Told → Bool) (tell : Piece → List A) (text : List ℕ) (items : List A) (rest : List ℕ) → IsReadBy test tell text items rest
+pub breaks_by : {A : Type 0} (test : Told → Bool) (tell : Piece → List A) (text : List ℕ) (items : List A)
+    (rest : List ℕ) → IsReadBy test tell text items rest
     → (IsEnd rest → ⊥) → NoPiece test rest → IsBadText test text (length text - length rest)
 breaks_by test tell text items rest read going_on none = inr (record {
   pieces = read.pieces;

@@ -1,5 +1,6 @@
 -- What a reader of a stash answers.
-use Rattle.std.specs.Prelude.{◌≡◌, ℕ, Bool, true, false, map, Vec, List, [], ◌∷◌, ◌++◌, Option, Some, None, option_map, Result, Ok, Err}
+use Rattle.std.specs.Prelude.{◌≡◌, ℕ, Bool, true, false, map, Vec, List, [], ◌∷◌}
+use Rattle.std.specs.Prelude.{◌++◌, Option, Some, None, option_map, Result, Ok, Err}
 use Rattle.std.specs.declared.alloc.Global.{Global}
 use Rattle.kdb_format.specs.Answers.{Refuses}
 use Rattle.kdb_format.specs.declared.faults.FormatFault.{FormatFault}
@@ -67,7 +68,8 @@ pub record IsNext (old : List ℕ) (entries : List Told) (new : List ℕ) : Type
   pub told : entries ≡ told_by piece
 
 -- a piece that may stand there is at the front of the bytes, and tells these items
-pub record IsNextBy {A : Type 0} (test : Told → Bool) (tell : Piece → List A) (old : List ℕ) (items : List A) (new : List ℕ) : Type 0 where
+pub record IsNextBy {A : Type 0} (test : Told → Bool) (tell : Piece → List A) (old : List ℕ) (items : List A)
+    (new : List ℕ) : Type 0 where
   pub piece : Piece
   pub fits : Stands test piece
   pub spelled : old ≡ piece_text piece ++ new
@@ -75,5 +77,6 @@ pub record IsNextBy {A : Type 0} (test : Told → Bool) (tell : Piece → List A
 
 -- the key of this type, or None where it is skipped; refused where its length is wrong
 abbrev pub Judges : Result (Option StashKey) Malformed → Option Etype → ℕ → List ℕ → Type 0
-Judges (Ok key) etype version bytes = (has_length etype bytes ≡ true) × (option_to_list key ≡ option_to_list (option_map (λ t. stash_key version t bytes) etype))
+Judges (Ok key) etype version bytes = (has_length etype bytes ≡ true)
+    × (option_to_list key ≡ option_to_list (option_map (λ t. stash_key version t bytes) etype))
 Judges (Err fault) etype version bytes = has_length etype bytes ≡ false

@@ -15,7 +15,15 @@ entry_at = do
   version ← big_at 1
   key_type ← big_at 2
   key ← counted_at
-  done (record { realm = realm; components = components; name_type = name_type; time = time; version = version; key_type = key_type; key = key })
+  done (record {
+    realm = realm;
+    components = components;
+    name_type = name_type;
+    time = time;
+    version = version;
+    key_type = key_type;
+    key = key;
+  })
 
 -- an entry, and what remains of the bytes
 unfoldable pub entry_in : List ℕ → Option Piece

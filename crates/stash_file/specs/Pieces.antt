@@ -1,6 +1,7 @@
 -- The pieces of a keytab: holes and entries. MIT's keytab file format, version 0502:
 -- https://web.mit.edu/kerberos/krb5-latest/doc/formats/keytab_file_format.html
-use Rattle.std.specs.Prelude.{ℕ, ◌-◌, ◌^◌, ◌<◌, ◌≤◌, List, [], ◌∷◌, ◌++◌, length, Option, Some, None, nat_eq, if◌then◌else◌}
+use Rattle.std.specs.Prelude.{ℕ, ◌-◌, ◌^◌, ◌<◌, ◌≤◌, List, [], ◌∷◌, ◌++◌, length}
+use Rattle.std.specs.Prelude.{Option, Some, None, nat_eq, if◌then◌else◌}
 use Rattle.std.specs.List.{All, flat_map}
 use Rattle.kdb_format.specs.Readings.{big_at}
 use Rattle.kdb_format.specs.Spellings.{big, counted}
@@ -24,7 +25,8 @@ pub data Piece : Type 0 where
 
 unfoldable pub entry_text : Entry → List ℕ
 entry_text e =
-    big 2 (length e.components) ++ (counted e.realm ++ (flat_map counted e.components ++ (big 4 e.name_type ++ (big 4 e.time ++ (big 1 e.version ++ (big 2 e.key_type ++ counted e.key))))))
+    big 2 (length e.components) ++ (counted e.realm ++ (flat_map counted e.components
+    ++ (big 4 e.name_type ++ (big 4 e.time ++ (big 1 e.version ++ (big 2 e.key_type ++ counted e.key))))))
 
 -- a signed size of 32 bits, below zero for a hole, and as many bytes
 unfoldable pub piece_text : Piece → List ℕ

@@ -37,7 +37,8 @@ pub fn keytab_is_a_stash()
 
 /// What is written is a stash of the keys that it is written of, whoever writes it.
 pub fn what_is_written_is_read()
-    ensures { (realm : List ℕ) (secs : ℕ) (masters : List Master) → length realm ≤ 64 → secs < 2 ^ 32 → All IsStashed masters
+    ensures { (realm : List ℕ) (secs : ℕ) (masters : List Master) → length realm ≤ 64 → secs < 2 ^ 32
+        → All IsStashed masters
         → IsStash (stash_text realm secs masters) (stash_keys masters) }
 {}
 

@@ -68,7 +68,15 @@ fn read_text(alloc: Global, reader: &mut Reader) -> Result<Blob, FormatFault>
 
 #[tactic(auto, unfolding(crate::specs::Parsing::entry_at))]
 fn read_front(alloc: Global, reader: &mut Reader) -> Result<Front, FormatFault>
-    ensures { GivesAs (λ f. record { realm = f.realm; components = f.parts.items; name_type = f.name_type; time = f.time; version = f.version; key_type = f.key_type; key = f.key }) result reader.new (entry_at reader.old) }
+    ensures { GivesAs (λ f. record {
+      realm = f.realm;
+      components = f.parts.items;
+      name_type = f.name_type;
+      time = f.time;
+      version = f.version;
+      key_type = f.key_type;
+      key = f.key;
+    }) result reader.new (entry_at reader.old) }
 {
     let count = reader.u16()?;
     let realm = read_text(alloc, reader)?;

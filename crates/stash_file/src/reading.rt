@@ -75,7 +75,8 @@ fn judge(etype: Option<Etype>, version: u32, key: &[u8]) -> Result<Option<StashK
 
 /// The key of an entry that is not skipped.
 fn key_of(entry: &Option<Entry>) -> Result<Option<StashKey>, Malformed>
-    ensures found { IfOk result (λ key. (option_to_list key ≡ flat_map key_of (told_list entry.now)) × (list_all has_master_key (told_list entry.now) ≡ true)) }
+    ensures found { IfOk result (λ key. (option_to_list key ≡ flat_map key_of (told_list entry.now))
+        × (list_all has_master_key (told_list entry.now) ≡ true)) }
     ensures none { IfErr result (λ _. list_all has_master_key (told_list entry.now) ≡ false) }
 {
     match entry {

@@ -37,7 +37,8 @@ fn push_piece(out: &mut Vec<u8>, realm: &[u8], secs: u32, master: &Master) -> Re
     requires { length realm.now ≤ 64 }
     ensures text { OnOk result (out.new.items ≡ out.old.items ++ piece_text (piece_of realm.now secs master.now)) }
     ensures fits { OnOk result (Stands has_master_key (piece_of realm.now secs master.now)) }
-    ensures told { OnOk result (keys_by (piece_of realm.now secs master.now) ≡ record { version = master.now.version; key = master.now.key } ∷ []) }
+    ensures told { OnOk result (keys_by (piece_of realm.now secs master.now)
+        ≡ record { version = master.now.version; key = master.now.key } ∷ []) }
 {
     let size = FIXED + realm.len() + master.key.as_slice().len();
     push_u32(out, size as u32)?;

@@ -1,5 +1,6 @@
 -- The causes of refusals exclude each other.
-use Rattle.std.proofs.Common.{◌≡◌, ℕ, ◌<◌, List, [], ◌∷◌, get_or, length, Option, Some, None, refl, sym, ap, subst, ◌∙◌, inl, inr, arith}
+use Rattle.std.proofs.Common.{◌≡◌, ℕ, ◌<◌, List, [], ◌∷◌, get_or, length, Option}
+use Rattle.std.proofs.Common.{Some, None, refl, sym, ap, subst, ◌∙◌, inl, inr, arith}
 use Rattle.std.specs.Prelude.{Result, Ok, Err, IfOk}
 use Rattle.std.specs.List.{All}
 use Rattle.std.proofs.lemmas.List.Elements.{All-contains, Contains-get_or}
@@ -28,7 +29,8 @@ pub one_keys : (stash : Option (List ℕ)) (a b : List StashKey) → HasKeys sta
 one_keys None a b h k = h ∙ sym k
 one_keys (Some text) a b h k = one_list text a b h k
 
-not_broken : (stash : Option (List ℕ)) (keys : List StashKey) (place : ℕ) → HasKeys stash keys → IsBroken stash place → ⊥
+not_broken : (stash : Option (List ℕ)) (keys : List StashKey) (place : ℕ) → HasKeys stash keys
+    → IsBroken stash place → ⊥
 not_broken None keys place h bad = bad
 not_broken (Some text) keys place h bad = not_bad text keys place h bad
 
@@ -38,7 +40,8 @@ one_broken (Some text) a b h k = one_place has_master_key text a b h k
 
 -- ---- one choice
 
-pub none_of_none : (items : List KeyItem) (keys : List StashKey) (m : Master) → keys ≡ [] → first_listed items keys ≡ Some m → ⊥
+pub none_of_none : (items : List KeyItem) (keys : List StashKey) (m : Master) → keys ≡ []
+    → first_listed items keys ≡ Some m → ⊥
 unfolding first_listed
 none_of_none items [] m e h = absurd cc
 none_of_none items (k ∷ keys) m e h = absurd cc
@@ -65,14 +68,18 @@ module _ (entry : Option Princ) (keys : List StashKey) where
   one_key_cause a b (inl f) (inr (inr g)) = absurd (none_of_none (keys_in entry) keys g.found f.none g.first)
   one_key_cause a b (inr (inl f)) (inl g) = absurd (no_first keys f.first f.others g.none f.keys_are)
   one_key_cause a b (inr (inl f)) (inr (inl g)) =
-      f.why_is ∙ ap (λ (k : StashKey). UnknownMaster k.version) (same_first f.first g.first f.others g.others (sym f.keys_are ∙ g.keys_are)) ∙ sym
+      f.why_is ∙ ap (λ (k : StashKey). UnknownMaster k.version)
+      (same_first f.first g.first f.others g.others (sym f.keys_are ∙ g.keys_are)) ∙ sym
       g.why_is
-  one_key_cause a b (inr (inl f)) (inr (inr g)) = absurd (some_of_none (first_listed (keys_in entry) keys) g.found f.none g.first)
+  one_key_cause a b (inr (inl f)) (inr (inr g)) =
+      absurd (some_of_none (first_listed (keys_in entry) keys) g.found f.none g.first)
   one_key_cause a b (inr (inr f)) (inl g) = absurd (none_of_none (keys_in entry) keys f.found g.none f.first)
-  one_key_cause a b (inr (inr f)) (inr (inl g)) = absurd (some_of_none (first_listed (keys_in entry) keys) f.found g.none f.first)
+  one_key_cause a b (inr (inr f)) (inr (inl g)) =
+      absurd (some_of_none (first_listed (keys_in entry) keys) f.found g.none f.first)
   one_key_cause a b (inr (inr f)) (inr (inr g)) = f.why_is ∙ sym g.why_is
 
-  keys_not_refused : (masters : List Master) (why : Refusal) → KeysOpen entry keys masters → IsKeyCause entry keys why → ⊥
+  keys_not_refused : (masters : List Master) (why : Refusal) → KeysOpen entry keys masters
+      → IsKeyCause entry keys why → ⊥
   keys_not_refused masters why o (inl f) = none_of_none (keys_in entry) keys o.found f.none o.first
   keys_not_refused masters why o (inr (inl f)) = some_of_none (first_listed (keys_in entry) keys) o.found f.none o.first
   keys_not_refused masters why o (inr (inr f)) =
@@ -80,32 +87,39 @@ module _ (entry : Option Princ) (keys : List StashKey) where
       let found = same_master o.found f.found (sym o.first ∙ f.first) in
       f.wrong masters (moved o.own f.own o.found f.found own found o.opens)
     where
-      moved : (a b : Princ) (m n : Master) → a ≡ b → m ≡ n → Opens a m.version m.key masters → Opens b n.version n.key masters
-      moved a b m n e f o = subst (λ (x : Master). Opens b x.version x.key masters) f (subst (λ (p : Princ). Opens p m.version m.key masters) e o)
+      moved : (a b : Princ) (m n : Master) → a ≡ b → m ≡ n → Opens a m.version m.key masters
+          → Opens b n.version n.key masters
+      moved a b m n e f o = subst (λ (x : Master). Opens b x.version x.key masters) f
+          (subst (λ (p : Princ). Opens p m.version m.key masters) e o)
 
 -- ---- the stash
 
 module _ (stash : Option (List ℕ)) (file : ℕ) (entry : Option Princ) where
   pub one_stash_cause : (a b : Refusal) → IsStashCause stash file entry a → IsStashCause stash file entry b → a ≡ b
-  one_stash_cause a b (inl f) (inl g) = f.why_is ∙ ap (λ (n : ℕ). Damaged file n) (one_broken stash f.place g.place f.broken g.broken) ∙ sym g.why_is
+  one_stash_cause a b (inl f) (inl g) =
+      f.why_is ∙ ap (λ (n : ℕ). Damaged file n) (one_broken stash f.place g.place f.broken g.broken) ∙ sym g.why_is
   one_stash_cause a b (inl f) (inr g) = absurd (not_broken stash g.keys f.place g.spelled f.broken)
   one_stash_cause a b (inr f) (inl g) = absurd (not_broken stash f.keys g.place f.spelled g.broken)
   one_stash_cause a b (inr f) (inr g) =
       one_key_cause entry f.keys a b f.cause
       (subst (λ (ks : List StashKey). IsKeyCause entry ks b) (one_keys stash g.keys f.keys g.spelled f.spelled) g.cause)
 
-  pub stash_not_refused : (masters : List Master) (why : Refusal) → StashOpens stash entry masters → IsStashCause stash file entry why → ⊥
+  pub stash_not_refused : (masters : List Master) (why : Refusal) → StashOpens stash entry masters
+      → IsStashCause stash file entry why → ⊥
   stash_not_refused masters why o (inl f) = not_broken stash o.keys f.place o.spelled f.broken
   stash_not_refused masters why o (inr f) =
       keys_not_refused entry o.keys masters why o.opened
-      (subst (λ (ks : List StashKey). IsKeyCause entry ks why) (one_keys stash f.keys o.keys f.spelled o.spelled) f.cause)
+      (subst (λ (ks : List StashKey). IsKeyCause entry ks why)
+      (one_keys stash f.keys o.keys f.spelled o.spelled) f.cause)
 
 -- ---- answers
 
 -- where each refusal has a cause, and there is one, it is told
-pub told_why : {A : Type 0} (Cause : Refusal → Type 0) (result : Result A Stop) (why : Refusal) → ((a b : Refusal) → Cause a → Cause b → a ≡ b)
+pub told_why : {A : Type 0} (Cause : Refusal → Type 0) (result : Result A Stop) (why : Refusal)
+    → ((a b : Refusal) → Cause a → Cause b → a ≡ b)
     → ((x : A) → result ≡ Ok x → ⊥)
-    → ((other : Refusal) → result ≡ Err (stop.Refused other) → Cause other) → ((halt : Halt) → result ≡ Err (stop.Halt halt) → halt ≡ MemoryOut)
+    → ((other : Refusal) → result ≡ Err (stop.Refused other) → Cause other)
+    → ((halt : Halt) → result ≡ Err (stop.Halt halt) → halt ≡ MemoryOut)
     → Cause why → Refuses result why
 told_why Cause (Ok x) why one never refused halted cause = absurd (never x refl)
 told_why Cause (Err (stop.Refused other)) why one never refused halted cause = one other why (refused other refl) cause
@@ -117,7 +131,8 @@ same_stop a b e = cc
 pub no_value : {A : Type 0} (s : Stop) (x : A) → ◌≡◌ {A = Result A Stop} (Err s) (Ok x) → ⊥
 no_value s x e = cc
 
-pub same_why : {A : Type 0} (a b : Refusal) → ◌≡◌ {A = Result A Stop} (Err (stop.Refused a)) (Err (stop.Refused b)) → b ≡ a
+pub same_why : {A : Type 0} (a b : Refusal)
+    → ◌≡◌ {A = Result A Stop} (Err (stop.Refused a)) (Err (stop.Refused b)) → b ≡ a
 same_why a b e = cc
 
 pub at_ok : {A : Type 0} (P : A → Type 0) (result : Result A Stop) (x : A) → IfOk result P → result ≡ Ok x → P x
@@ -128,18 +143,21 @@ at_ok {A = A} P result x h e = subst (λ (r : Result A Stop). IfOk r P) e h
 -- what cannot be read is no stash that opens
 pub damage_gives : (stash : Option (List ℕ)) (file : ℕ) (entry : Option Princ) (why_not : Stop) (masters : List Master)
     → ((why : Refusal) → why_not ≡ stop.Refused why → IsDamage stash file why)
-    → ((halt : Halt) → why_not ≡ stop.Halt halt → halt ≡ MemoryOut) → StashOpens stash entry masters → Gives (Err why_not) masters
+    → ((halt : Halt) → why_not ≡ stop.Halt halt → halt ≡ MemoryOut) → StashOpens stash entry masters
+    → Gives (Err why_not) masters
 damage_gives stash file entry (stop.Refused why) masters refused halted o = absurd
     (stash_not_refused stash file entry masters why o (inl (refused why refl)))
 damage_gives stash file entry (stop.Halt halt) masters refused halted o = halted halt refl
 
-pub opened_by : (stash : Option (List ℕ)) (entry : Option Princ) (keys : List StashKey) (result : Result (List Master) Stop) → HasKeys stash keys
+pub opened_by : (stash : Option (List ℕ)) (entry : Option Princ) (keys : List StashKey)
+    (result : Result (List Master) Stop) → HasKeys stash keys
     → IfOk result (λ masters. KeysOpen entry keys masters)
     → IfOk result (λ masters. StashOpens stash entry masters)
 opened_by stash entry keys (Ok masters) spelled o = record { keys = keys; spelled = spelled; opened = o }
 opened_by stash entry keys (Err why_not) spelled o = tt
 
-pub keys_open : (stash : Option (List ℕ)) (entry : Option Princ) (keys : List StashKey) (masters : List Master) → HasKeys stash keys
+pub keys_open : (stash : Option (List ℕ)) (entry : Option Princ) (keys : List StashKey) (masters : List Master)
+    → HasKeys stash keys
     → StashOpens stash entry masters → KeysOpen entry keys masters
 keys_open stash entry keys masters spelled o = subst (λ (ks : List StashKey). KeysOpen entry ks masters)
     (one_keys stash o.keys keys o.spelled spelled) o.opened
@@ -152,9 +170,11 @@ gives_refuses (stop.Halt halt) masters why h = h
 
 -- ---- rows that are not sound
 
-no_fault : (F : Princ → Type 0) (princs : List Princ) (at : ℕ) → at < length princs → ((d : Princ) → F (get_or princs at d) → ⊥) → All F princs → ⊥
+no_fault : (F : Princ → Type 0) (princs : List Princ) (at : ℕ) → at < length princs
+    → ((d : Princ) → F (get_or princs at d) → ⊥) → All F princs → ⊥
 no_fault F [] at lt never all = absurd (omega arith)
-no_fault F (p ∷ princs) at lt never all = never p (All-contains F (p ∷ princs) (get_or (p ∷ princs) at p) all (Contains-get_or (p ∷ princs) at p lt))
+no_fault F (p ∷ princs) at lt never all =
+    never p (All-contains F (p ∷ princs) (get_or (p ∷ princs) at p) all (Contains-get_or (p ∷ princs) at p lt))
 
 pub first_is_unsound : (j : Judged) (rows : RowLists) (at : ℕ) → IsFirstUnsound j rows at → AreSound j rows → ⊥
 first_is_unsound j rows at f s = no_fault (IsSound j rows) rows.princs at f.in_range f.here s.each

@@ -1,5 +1,6 @@
--- The master keys by which rows are read: those that the first key of the stash opens whose version K/M lists. Whoever holds one of the
--- listed master keys opens all (MIT's kdb5_util add_mkey). That the order of the file decides is this project's own rule.
+-- The master keys by which rows are read: those that the first key of the stash opens whose version K/M lists. Whoever
+-- holds one of the listed master keys opens all (MIT's kdb5_util add_mkey). That the order of the file decides is this
+-- project's own rule.
 use Rattle.std.specs.Prelude.{ℕ, ◌≡◌, ◌⊎◌, Bool, nat_eq, List, [], ◌∷◌, find, Option, Some, None, option_map}
 use Rattle.std.specs.List.{list_any}
 use Rattle.kdb_base.specs.declared.outcomes.Refusal.{Refusal}
@@ -112,7 +113,8 @@ IsStashCause stash file entry why = IsDamage stash file why ⊎ KeysRefused stas
 -- ---- what rows are read by
 
 -- the stash opens these master keys, and the rows are not sound under them
-pub record AreUnsound (stash : Option (List ℕ)) (entry : Option Princ) (realm : List ℕ) (secs : ℕ) (rows : RowLists) (why : Refusal) : Type 0 where
+pub record AreUnsound (stash : Option (List ℕ)) (entry : Option Princ) (realm : List ℕ) (secs : ℕ) (rows : RowLists)
+    (why : Refusal) : Type 0 where
   pub masters : List Master
   pub opened : StashOpens stash entry masters
   pub unsound : AreSound (judged masters realm secs) rows → ⊥
@@ -120,4 +122,5 @@ pub record AreUnsound (stash : Option (List ℕ)) (entry : Option Princ) (realm 
 
 -- why an opening of these rows is refused
 abbrev pub IsOpeningCause : Option (List ℕ) → ℕ → Option Princ → List ℕ → ℕ → RowLists → Refusal → Type 0
-IsOpeningCause stash file entry realm secs rows why = IsStashCause stash file entry why ⊎ AreUnsound stash entry realm secs rows why
+IsOpeningCause stash file entry realm secs rows why =
+    IsStashCause stash file entry why ⊎ AreUnsound stash entry realm secs rows why

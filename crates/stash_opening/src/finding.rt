@@ -61,9 +61,11 @@ fn first_listed(items: &[KeyItem], keys: &[StashKey]) -> Option<Master>
 fn open_found(alloc: Global, entry: &Princ, found: &Master) -> Result<Masters, Stop>
     requires { lists entry.now.keys found.now.version ≡ true }
     ensures ok { IfOk result (λ masters. Opens entry.now found.now.version found.now.key masters) }
-    ensures complete { (masters : List Master) → Opens entry.now found.now.version found.now.key masters → Gives result masters }
+    ensures complete { (masters : List Master) → Opens entry.now found.now.version found.now.key masters
+        → Gives result masters }
     ensures refused { (why : Refusal) → result ≡ Err (Stop.Refused why) → why ≡ Refusal.StashWrong }
-    ensures wrong { (why : Refusal) → result ≡ Err (Stop.Refused why) → (masters : List Master) → Opens entry.now found.now.version found.now.key masters → ⊥ }
+    ensures wrong { (why : Refusal) → result ≡ Err (Stop.Refused why) → (masters : List Master)
+        → Opens entry.now found.now.version found.now.key masters → ⊥ }
     ensures halted { (halt : Halt) → result ≡ Err (Stop.Halt halt) → halt ≡ Halt.MemoryOut }
 {
     match open_with(alloc, entry, found.version, &found.key) {
@@ -82,8 +84,10 @@ pub(crate) fn open_by(
     keys: &[StashKey],
 ) -> Result<Masters, Stop>
     ensures ok { IfOk result (λ masters. KeysOpen (option_map (λ p. p.now) entry.entry) keys.now masters) }
-    ensures complete { (masters : List Master) → KeysOpen (option_map (λ p. p.now) entry.entry) keys.now masters → Gives result masters }
-    ensures refused { (why : Refusal) → result ≡ Err (Stop.Refused why) → IsKeyCause (option_map (λ p. p.now) entry.entry) keys.now why }
+    ensures complete { (masters : List Master) → KeysOpen (option_map (λ p. p.now) entry.entry) keys.now masters
+        → Gives result masters }
+    ensures refused { (why : Refusal) → result ≡ Err (Stop.Refused why)
+        → IsKeyCause (option_map (λ p. p.now) entry.entry) keys.now why }
     ensures halted { (halt : Halt) → result ≡ Err (Stop.Halt halt) → halt ≡ Halt.MemoryOut }
 {
     let [first, ..] = keys else {

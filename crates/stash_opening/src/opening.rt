@@ -24,10 +24,16 @@ fn by_stash(
     stash: Option<&[u8]>,
     file: u8,
 ) -> Result<Masters, Stop>
-    ensures ok { IfOk result (λ masters. StashOpens (option_map (λ s. s.now) stash.entry) (option_map (λ p. p.now) entry.entry) masters) }
-    ensures complete { (masters : List Master) → StashOpens (option_map (λ s. s.now) stash.entry) (option_map (λ p. p.now) entry.entry) masters → Gives result masters }
-    ensures refused { (why : Refusal) → result ≡ Err (Stop.Refused why) → IsStashCause (option_map (λ s. s.now) stash.entry) file (option_map (λ p. p.now) entry.entry) why }
-    ensures only_refused { (why : Refusal) → IsStashCause (option_map (λ s. s.now) stash.entry) file (option_map (λ p. p.now) entry.entry) why → Refuses result why }
+    ensures ok { IfOk result
+        (λ masters. StashOpens (option_map (λ s. s.now) stash.entry) (option_map (λ p. p.now) entry.entry) masters) }
+    ensures complete { (masters : List Master)
+        → StashOpens (option_map (λ s. s.now) stash.entry) (option_map (λ p. p.now) entry.entry) masters
+        → Gives result masters }
+    ensures refused { (why : Refusal) → result ≡ Err (Stop.Refused why)
+        → IsStashCause (option_map (λ s. s.now) stash.entry) file (option_map (λ p. p.now) entry.entry) why }
+    ensures only_refused { (why : Refusal)
+        → IsStashCause (option_map (λ s. s.now) stash.entry) file (option_map (λ p. p.now) entry.entry) why
+        → Refuses result why }
     ensures halted { (halt : Halt) → result ≡ Err (Stop.Halt halt) → halt ≡ Halt.MemoryOut }
 {
     let keys = match stash_keys(alloc, stash, file) {
@@ -52,12 +58,18 @@ pub fn stash_masters(
     stash: Option<&[u8]>,
     file: u8,
 ) -> Result<Masters, Stop>
-    ensures ok { IfOk result (λ masters. StashOpens (option_map (λ s. s.now) stash.entry) (own_record realm.now rows.now) masters) }
+    ensures ok { IfOk result
+        (λ masters. StashOpens (option_map (λ s. s.now) stash.entry) (own_record realm.now rows.now) masters) }
     // What the stash opens is opened, unless memory runs out.
-    ensures complete { (masters : List Master) → StashOpens (option_map (λ s. s.now) stash.entry) (own_record realm.now rows.now) masters → Gives result masters }
-    ensures refused { (why : Refusal) → result ≡ Err (Stop.Refused why) → IsStashCause (option_map (λ s. s.now) stash.entry) file (own_record realm.now rows.now) why }
+    ensures complete { (masters : List Master)
+        → StashOpens (option_map (λ s. s.now) stash.entry) (own_record realm.now rows.now) masters
+        → Gives result masters }
+    ensures refused { (why : Refusal) → result ≡ Err (Stop.Refused why)
+        → IsStashCause (option_map (λ s. s.now) stash.entry) file (own_record realm.now rows.now) why }
     // Where there is a cause it is told, unless memory runs out.
-    ensures only_refused { (why : Refusal) → IsStashCause (option_map (λ s. s.now) stash.entry) file (own_record realm.now rows.now) why → Refuses result why }
+    ensures only_refused { (why : Refusal)
+        → IsStashCause (option_map (λ s. s.now) stash.entry) file (own_record realm.now rows.now) why
+        → Refuses result why }
     ensures halted { (halt : Halt) → result ≡ Err (Stop.Halt halt) → halt ≡ Halt.MemoryOut }
 {
     let Ok(name) = master_name(alloc, realm) else {
@@ -100,13 +112,18 @@ pub fn find_masters(
     file: u8,
     secs: u32,
 ) -> Result<Masters, Stop>
-    ensures opened { IfOk result (λ masters. StashOpens (option_map (λ s. s.now) stash.entry) (own_record realm.now rows.now) masters) }
+    ensures opened { IfOk result
+        (λ masters. StashOpens (option_map (λ s. s.now) stash.entry) (own_record realm.now rows.now) masters) }
     ensures sound { IfOk result (λ masters. AreSound (judged masters realm.now secs) rows.now) }
     // Where the rows are sound under what the stash opens, that is given, unless memory runs out.
-    ensures complete { (masters : List Master) → StashOpens (option_map (λ s. s.now) stash.entry) (own_record realm.now rows.now) masters → AreSound (judged masters realm.now secs) rows.now → Gives result masters }
-    ensures refused { (why : Refusal) → result ≡ Err (Stop.Refused why) → IsOpeningCause (option_map (λ s. s.now) stash.entry) file (own_record realm.now rows.now) realm.now secs rows.now why }
+    ensures complete { (masters : List Master)
+        → StashOpens (option_map (λ s. s.now) stash.entry) (own_record realm.now rows.now) masters
+        → AreSound (judged masters realm.now secs) rows.now → Gives result masters }
+    ensures refused { (why : Refusal) → result ≡ Err (Stop.Refused why) → IsOpeningCause
+        (option_map (λ s. s.now) stash.entry) file (own_record realm.now rows.now) realm.now secs rows.now why }
     // Where there is a cause it is told, unless memory runs out.
-    ensures only_refused { (why : Refusal) → IsOpeningCause (option_map (λ s. s.now) stash.entry) file (own_record realm.now rows.now) realm.now secs rows.now why → Refuses result why }
+    ensures only_refused { (why : Refusal) → IsOpeningCause (option_map (λ s. s.now) stash.entry) file
+        (own_record realm.now rows.now) realm.now secs rows.now why → Refuses result why }
     ensures halted { (halt : Halt) → result ≡ Err (Stop.Halt halt) → halt ≡ Halt.MemoryOut }
 {
     let masters = match stash_masters(alloc, rows, realm, stash, file) {

@@ -19,7 +19,8 @@ pub(crate) fn memory_out() -> Stop
 /// The keys of the stash that stands in this file; none where there is no stash.
 pub(crate) fn stash_keys(alloc: Global, stash: Option<&[u8]>, file: u8) -> Result<StashList, Stop>
     ensures ok { IfOk result (λ keys. HasKeys (option_map (λ s. s.now) stash.entry) keys) }
-    ensures refused { (why : Refusal) → result ≡ Err (Stop.Refused why) → IsDamage (option_map (λ s. s.now) stash.entry) file why }
+    ensures refused { (why : Refusal) → result ≡ Err (Stop.Refused why)
+        → IsDamage (option_map (λ s. s.now) stash.entry) file why }
     ensures halted { (halt : Halt) → result ≡ Err (Stop.Halt halt) → halt ≡ Halt.MemoryOut }
 {
     let Some(text) = stash else {

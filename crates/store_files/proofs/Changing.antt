@@ -1,5 +1,6 @@
 -- A change in the unit that is given for it.
-use Rattle.std.proofs.Common.{◌≡◌, ◌≢◌, ℕ, zero, suc, ◌+◌, ◌<◌, ◌≤◌, ◌⊎◌, inl, inr, ⊎_elim, Bool, true, false, List, [], ◌∷◌, length, Option, Some, None, refl, sym, ap, subst, ◌∙◌, arith}
+use Rattle.std.proofs.Common.{◌≡◌, ◌≢◌, ℕ, zero, suc, ◌+◌, ◌<◌, ◌≤◌, ◌⊎◌, inl, inr, ⊎_elim, Bool, true, false}
+use Rattle.std.proofs.Common.{List, [], ◌∷◌, length, Option, Some, None, refl, sym, ap, subst, ◌∙◌, arith}
 use Rattle.std.specs.Str.{bytes_eq}
 use Rattle.std.specs.List.{All}
 use Rattle.std.proofs.lemmas.Bool.{cases_eq, false_from_ne_true, true≢false, le-ltb}
@@ -27,7 +28,9 @@ use Rattle.kdb_cells.proofs.Cellwise.{lead_cells}
 use Rattle.kdb_cells.proofs.Sheeting.{taken_set}
 use Rattle.store_files.specs.Standing.{has_princ, has_policy, has_old, IsUnitFor, IsGivenFor, AreRowCells}
 use Rattle.store_files.proofs.Units.{IsApart}
-use Rattle.store_files.proofs.CellRows.{with_row, rows_by, Lacks, Differ, Agrees, IsEdit, edited, untouched, put_dropped, drop_absent, length-rows_by, princ_of, policy_of, princ_key, policy_key, lists, rows_are, princs_are, policies_are, taken_kinds}
+use Rattle.store_files.proofs.CellRows.{with_row, rows_by, Lacks, Differ, Agrees, IsEdit, edited, untouched}
+use Rattle.store_files.proofs.CellRows.{put_dropped, drop_absent, length-rows_by, princ_of, policy_of, princ_key}
+use Rattle.store_files.proofs.CellRows.{policy_key, lists, rows_are, princs_are, policies_are, taken_kinds}
 use Rattle.store_files.proofs.Placing.{each_princ, each_policy, princs_apart, policies_apart, old_key, key_old}
 
 -- ---- the unit
@@ -39,7 +42,8 @@ free_old (Rename old p) = refl
 free_old (PutPolicy p) = refl
 free_old (DropPolicy name) = refl
 
-other_old : (u : Units) (cells : List Cell) (op : Op) (i j : ℕ) (c : Cell) → AreCellsOf u cells → IsGivenFor (key_of (Some op)) i u → Some i ≢ Some j
+other_old : (u : Units) (cells : List Cell) (op : Op) (i j : ℕ) (c : Cell) → AreCellsOf u cells
+    → IsGivenFor (key_of (Some op)) i u → Some i ≢ Some j
     → cell_no j cells ≡ c → has_old op c ≡ false
 other_old u cells op i j None are given apart here = free_old op
 other_old u cells op i j (Some r) are given apart here = false_from_ne_true _ (λ has.
@@ -48,34 +52,43 @@ other_old u cells op i j (Some r) are given apart here = false_from_ne_true _ (�
 key_there : (key : List ℕ) (c : Cell) (r : StoredRow) → c ≡ Some r → HasKey key c → name_of r ≡ key
 key_there key c r is has = subst (HasKey key) is has
 
-own_old : (u : Units) (cells : List Cell) (rows : RowLists) (op : Op) (i : ℕ) (r : StoredRow) (o : Option ℕ) → AreRowCells u cells rows
-    → IsOp (Some op) → IsGivenFor (key_of (Some op)) i u → u.of (key_of (Some op)) ≡ o → cell_no i cells ≡ Some r → has_old op (Some r) ≡ true
-own_old u cells rows op i r None is fits given leads here = absurd ((given.new leads).free (name_of r) (is.are.found i r here))
+own_old : (u : Units) (cells : List Cell) (rows : RowLists) (op : Op) (i : ℕ) (r : StoredRow) (o : Option ℕ)
+    → AreRowCells u cells rows
+    → IsOp (Some op) → IsGivenFor (key_of (Some op)) i u → u.of (key_of (Some op)) ≡ o → cell_no i cells ≡ Some r
+    → has_old op (Some r) ≡ true
+own_old u cells rows op i r None is fits given leads here =
+    absurd ((given.new leads).free (name_of r) (is.are.found i r here))
 own_old u cells rows op i r (Some j) is fits given leads here =
     let same = given.own j leads in
     key_old u cells rows op i r is fits here
-    (key_there (key_of (Some op)) (cell_no j cells) r (ap (λ (k : ℕ). cell_no k cells) (sym same) ∙ here) (is.are.leads (key_of (Some op)) j leads))
+    (key_there (key_of (Some op)) (cell_no j cells) r (ap (λ (k : ℕ). cell_no k cells) (sym same) ∙ here)
+    (is.are.leads (key_of (Some op)) j leads))
 
-pub unit_for : (u : Units) (cells : List Cell) (rows : RowLists) (op : Op) (i : ℕ) → AreRowCells u cells rows → IsOp (Some op)
+pub unit_for : (u : Units) (cells : List Cell) (rows : RowLists) (op : Op) (i : ℕ) → AreRowCells u cells rows
+    → IsOp (Some op)
     → IsGivenFor (key_of (Some op)) i u → IsUnitFor op (Some i) cells
 unit_for u cells rows op i is fits given = record {
   others = λ j apart. other_old u cells op i j (cell_no j cells) is.are given apart refl;
   own = λ j r at here.
       let same : i ≡ j = cc in
-      own_old u cells rows op i r (u.of (key_of (Some op))) is fits given refl (ap (λ (k : ℕ). cell_no k cells) same ∙ here);
+      own_old u cells rows op i r (u.of (key_of (Some op))) is fits given refl
+      (ap (λ (k : ℕ). cell_no k cells) same ∙ here);
 }
 
 -- ---- no other row has the key of the new one
 
-princ_clash : (p : Principal) (c : Cell) → ((q : Principal) → c ≡ Some (Princ q) → q.name ≢ p.name) → clash (Some (Princ p)) c ≡ false
+princ_clash : (p : Principal) (c : Cell) → ((q : Principal) → c ≡ Some (Princ q) → q.name ≢ p.name)
+    → clash (Some (Princ p)) c ≡ false
 princ_clash p None apart = refl
 princ_clash p (Some (Princ q)) apart = false_from_ne_true _ (λ same. apart q refl (sym (same_bytes p.name q.name same)))
 princ_clash p (Some (Policy q)) apart = refl
 
-policy_clash : (p : Rules) (c : Cell) → ((q : Rules) → c ≡ Some (Policy q) → q.name ≢ p.name) → clash (Some (Policy p)) c ≡ false
+policy_clash : (p : Rules) (c : Cell) → ((q : Rules) → c ≡ Some (Policy q) → q.name ≢ p.name)
+    → clash (Some (Policy p)) c ≡ false
 policy_clash p None apart = refl
 policy_clash p (Some (Princ q)) apart = refl
-policy_clash p (Some (Policy q)) apart = false_from_ne_true _ (λ same. apart q refl (sym (same_bytes p.name q.name same)))
+policy_clash p (Some (Policy q)) apart =
+    false_from_ne_true _ (λ same. apart q refl (sym (same_bytes p.name q.name same)))
 
 not_princ : (name : List ℕ) (c : Cell) (q : Principal) → has_princ name c ≡ false → c ≡ Some (Princ q) → q.name ≢ name
 not_princ name c q none is e = true≢false (sym (bytes_same q.name name e) ∙ sym (ap (has_princ name) is) ∙ none)
@@ -89,14 +102,19 @@ some_apart i j apart e = let same : i ≡ j = cc in apart (sym same)
 free_clash : (c : Cell) → clash None c ≡ false
 free_clash c = refl
 
-pub new_apart : (u : Units) (cells : List Cell) (rows : RowLists) (op : Op) (i : ℕ) → AreRowCells u cells rows → IsNewName op rows
+pub new_apart : (u : Units) (cells : List Cell) (rows : RowLists) (op : Op) (i : ℕ) → AreRowCells u cells rows
+    → IsNewName op rows
     → IsUnitFor op (Some i) cells → IsApart i (cell_after op) cells
-new_apart u cells rows (PutPrinc p) i is new unit j other = princ_clash p (cell_no j cells) (λ q here. not_princ p.name (cell_no j cells) q (unit.others j (some_apart i j other)) here)
+new_apart u cells rows (PutPrinc p) i is new unit j other = princ_clash p (cell_no j cells)
+    (λ q here. not_princ p.name (cell_no j cells) q (unit.others j (some_apart i j other)) here)
 new_apart u cells rows (DropPrinc name) i is new unit j other = refl
 new_apart u cells rows (Rename old p) i is (inl same) unit j other =
-    princ_clash p (cell_no j cells) (λ q here e. not_princ old (cell_no j cells) q (unit.others j (some_apart i j other)) here (e ∙ same))
-new_apart u cells rows (Rename old p) i is (inr none) unit j other = princ_clash p (cell_no j cells) (λ q here. each_princ (λ x. x.name ≢ p.name) u cells rows is.are is.rows_is none j q here)
-new_apart u cells rows (PutPolicy p) i is new unit j other = policy_clash p (cell_no j cells) (λ q here. not_policy p.name (cell_no j cells) q (unit.others j (some_apart i j other)) here)
+    princ_clash p (cell_no j cells)
+    (λ q here e. not_princ old (cell_no j cells) q (unit.others j (some_apart i j other)) here (e ∙ same))
+new_apart u cells rows (Rename old p) i is (inr none) unit j other = princ_clash p (cell_no j cells)
+    (λ q here. each_princ (λ x. x.name ≢ p.name) u cells rows is.are is.rows_is none j q here)
+new_apart u cells rows (PutPolicy p) i is new unit j other = policy_clash p (cell_no j cells)
+    (λ q here. not_policy p.name (cell_no j cells) q (unit.others j (some_apart i j other)) here)
 new_apart u cells rows (DropPolicy name) i is new unit j other = refl
 
 -- ---- the rows
@@ -138,52 +156,75 @@ same_lists a b c d x y = ap (λ (l : List Principal). lists l c) x ∙ ap (λ (l
 
 -- a cell of a principal is changed
 princ_changed : (name : List ℕ) (i : ℕ) (c : Cell) (cells : List Cell) → i ≤ length cells → policy_of c ≡ None
-    → ((j : ℕ) → j ≢ i → has_princ name (cell_no j cells) ≡ false) → ((r : StoredRow) → cell_no i cells ≡ Some r → has_princ name (Some r) ≡ true)
+    → ((j : ℕ) → j ≢ i → has_princ name (cell_no j cells) ≡ false)
+    → ((r : StoredRow) → cell_no i cells ≡ Some r → has_princ name (Some r) ≡ true)
     → ((j : ℕ) → j ≢ i → Differ princ_key (princ_of c) (princ_of (cell_no j cells)))
-    → rows_of (set_cell i c cells) ≡ lists (with_row princ_key (princ_of c) (drop_by princ_key name (rows_by princ_key princ_of cells))) (rows_by policy_key policy_of cells)
+    → rows_of (set_cell i c cells) ≡ lists (with_row princ_key (princ_of c)
+    (drop_by princ_key name (rows_by princ_key princ_of cells))) (rows_by policy_key policy_of cells)
 princ_changed name i c cells within none others own new =
     let here = own_princ name (cell_no i cells) own in
     rows_are (set_cell i c cells)
     ∙ same_lists _ _ _ _
-    (edited princ_key princ_of name i c cells refl (record { within = within; own = here.0; others = λ j apart. lacks_princ name (cell_no j cells) (others j apart); new = new }))
+    (edited princ_key princ_of name i c cells refl (record {
+      within = within;
+      own = here.0;
+      others = λ j apart. lacks_princ name (cell_no j cells) (others j apart);
+      new = new;
+    }))
     (untouched policy_key policy_of i c cells within refl none here.1)
 
 policy_changed : (name : List ℕ) (i : ℕ) (c : Cell) (cells : List Cell) → i ≤ length cells → princ_of c ≡ None
-    → ((j : ℕ) → j ≢ i → has_policy name (cell_no j cells) ≡ false) → ((r : StoredRow) → cell_no i cells ≡ Some r → has_policy name (Some r) ≡ true)
+    → ((j : ℕ) → j ≢ i → has_policy name (cell_no j cells) ≡ false)
+    → ((r : StoredRow) → cell_no i cells ≡ Some r → has_policy name (Some r) ≡ true)
     → ((j : ℕ) → j ≢ i → Differ policy_key (policy_of c) (policy_of (cell_no j cells)))
-    → rows_of (set_cell i c cells) ≡ lists (rows_by princ_key princ_of cells) (with_row policy_key (policy_of c) (drop_by policy_key name (rows_by policy_key policy_of cells)))
+    → rows_of (set_cell i c cells) ≡ lists (rows_by princ_key princ_of cells)
+    (with_row policy_key (policy_of c) (drop_by policy_key name (rows_by policy_key policy_of cells)))
 policy_changed name i c cells within none others own new =
     let here = own_policy name (cell_no i cells) own in
     rows_are (set_cell i c cells)
     ∙ same_lists _ _ _ _
     (untouched princ_key princ_of i c cells within refl none here.1)
-    (edited policy_key policy_of name i c cells refl (record { within = within; own = here.0; others = λ j apart. lacks_policy name (cell_no j cells) (others j apart); new = new }))
+    (edited policy_key policy_of name i c cells refl (record {
+      within = within;
+      own = here.0;
+      others = λ j apart. lacks_policy name (cell_no j cells) (others j apart);
+      new = new;
+    }))
 
 -- the change has its effect
-pub rows_changed : (op : Op) (i : ℕ) (cells : List Cell) → i ≤ length cells → IsUnitFor op (Some i) cells → IsApart i (cell_after op) cells
+pub rows_changed : (op : Op) (i : ℕ) (cells : List Cell) → i ≤ length cells → IsUnitFor op (Some i) cells
+    → IsApart i (cell_after op) cells
     → rows_of (set_cell i (cell_after op) cells) ≡ effect (Some op) (rows_of cells)
 unfolding effect put_princ drop_princ put_policy drop_policy
 rows_changed (PutPrinc p) i cells within unit apart =
-    princ_changed p.name i (Some (Princ p)) cells within refl (λ j other. unit.others j (some_apart i j other)) (λ r. unit.own i r refl) (λ j other. clash_princ p (cell_no j cells) (apart j other))
-    ∙ ap (λ (l : List Principal). lists l (rows_by policy_key policy_of cells)) (put_dropped princ_key p.name p (rows_by princ_key princ_of cells) refl)
+    princ_changed p.name i (Some (Princ p)) cells within refl (λ j other. unit.others j (some_apart i j other))
+    (λ r. unit.own i r refl) (λ j other. clash_princ p (cell_no j cells) (apart j other))
+    ∙ ap (λ (l : List Principal). lists l (rows_by policy_key policy_of cells))
+    (put_dropped princ_key p.name p (rows_by princ_key princ_of cells) refl)
     ∙ ap (put_princ p) (sym (rows_are cells))
 rows_changed (DropPrinc name) i cells within unit apart =
-    princ_changed name i None cells within refl (λ j other. unit.others j (some_apart i j other)) (λ r. unit.own i r refl) (λ j other. tt)
+    princ_changed name i None cells within refl (λ j other. unit.others j (some_apart i j other))
+    (λ r. unit.own i r refl) (λ j other. tt)
     ∙ ap (drop_princ name) (sym (rows_are cells))
 rows_changed (Rename old p) i cells within unit apart =
-    princ_changed old i (Some (Princ p)) cells within refl (λ j other. unit.others j (some_apart i j other)) (λ r. unit.own i r refl) (λ j other. clash_princ p (cell_no j cells) (apart j other))
+    princ_changed old i (Some (Princ p)) cells within refl (λ j other. unit.others j (some_apart i j other))
+    (λ r. unit.own i r refl) (λ j other. clash_princ p (cell_no j cells) (apart j other))
     ∙ ap (λ (r : RowLists). put_princ p (drop_princ old r)) (sym (rows_are cells))
 rows_changed (PutPolicy p) i cells within unit apart =
-    policy_changed p.name i (Some (Policy p)) cells within refl (λ j other. unit.others j (some_apart i j other)) (λ r. unit.own i r refl) (λ j other. clash_policy p (cell_no j cells) (apart j other))
-    ∙ ap (λ (l : List Rules). lists (rows_by princ_key princ_of cells) l) (put_dropped policy_key p.name p (rows_by policy_key policy_of cells) refl)
+    policy_changed p.name i (Some (Policy p)) cells within refl (λ j other. unit.others j (some_apart i j other))
+    (λ r. unit.own i r refl) (λ j other. clash_policy p (cell_no j cells) (apart j other))
+    ∙ ap (λ (l : List Rules). lists (rows_by princ_key princ_of cells) l)
+    (put_dropped policy_key p.name p (rows_by policy_key policy_of cells) refl)
     ∙ ap (put_policy p) (sym (rows_are cells))
 rows_changed (DropPolicy name) i cells within unit apart =
-    policy_changed name i None cells within refl (λ j other. unit.others j (some_apart i j other)) (λ r. unit.own i r refl) (λ j other. tt)
+    policy_changed name i None cells within refl (λ j other. unit.others j (some_apart i j other))
+    (λ r. unit.own i r refl) (λ j other. tt)
     ∙ ap (drop_policy name) (sym (rows_are cells))
 
 -- ---- how many rows there are
 
-pub taken_rows : (u : Units) (cells : List Cell) → AreCellsOf u cells → taken cells ≡ length (rows_of cells).princs + length (rows_of cells).policies
+pub taken_rows : (u : Units) (cells : List Cell) → AreCellsOf u cells
+    → taken cells ≡ length (rows_of cells).princs + length (rows_of cells).policies
 taken_rows u cells are =
     let princs = length-rows_by princ_key princ_of cells (princs_apart u cells are) in
     let policies = length-rows_by policy_key policy_of cells (policies_apart u cells are) in
@@ -194,10 +235,13 @@ taken_rows u cells are =
 row_stored : (p : Principal) → IsRow p → IsRowOf 2 p
 row_stored p row = record { row = row; first = λ e. absurd (omega (arith, e)) }
 
-pub stored_each : (u : Units) (cells : List Cell) (rows : RowLists) (j : ℕ) (r : StoredRow) → AreRowCells u cells rows → cell_no j cells ≡ Some r
+pub stored_each : (u : Units) (cells : List Cell) (rows : RowLists) (j : ℕ) (r : StoredRow) → AreRowCells u cells rows
+    → cell_no j cells ≡ Some r
     → IsStored 2 r
-stored_each u cells rows j (Princ p) is here = row_stored p (each_princ IsRow u cells rows is.are is.rows_is is.sound.princs j p here)
-stored_each u cells rows j (Policy p) is here = each_policy IsPolicy u cells rows is.are is.rows_is is.sound.policies j p here
+stored_each u cells rows j (Princ p) is here =
+    row_stored p (each_princ IsRow u cells rows is.are is.rows_is is.sound.princs j p here)
+stored_each u cells rows j (Policy p) is here =
+    each_policy IsPolicy u cells rows is.are is.rows_is is.sound.policies j p here
 
 pub cell_fits : (op : Op) → IsOp (Some op) → IsCell 2 (cell_after op)
 cell_fits (PutPrinc p) fits = row_stored p fits
@@ -211,7 +255,8 @@ key_of_some key None has = absurd has
 key_of_some key (Some s) has = (s, (refl, has))
 
 -- the index leads from the new row's name to no other unit
-pub leads_alone : (u : Units) (cells : List Cell) (rows : RowLists) (i : ℕ) (r : StoredRow) → AreRowCells u cells rows → IsStored 2 r
+pub leads_alone : (u : Units) (cells : List Cell) (rows : RowLists) (i : ℕ) (r : StoredRow) → AreRowCells u cells rows
+    → IsStored 2 r
     → IsApart i (Some r) cells → (j : ℕ) → u.of (name_of r) ≡ Some j → j ≡ i
 leads_alone u cells rows i r is stored apart j leads =
     let there = key_of_some (name_of r) (cell_no j cells) (is.are.leads (name_of r) j leads) in
@@ -227,8 +272,10 @@ near_unit i None le = refl
 near_unit i (Some r) le = le-ltb _ _ le
 
 -- there is room for what stands in the unit
-few_for : (u : Units) (cells : List Cell) (rows : RowLists) (op : Op) (i : ℕ) (c : Cell) → AreRowCells u cells rows → IsOp (Some op)
-    → IsRoom (effect (Some op) rows) → i ≤ length cells → IsUnitFor op (Some i) cells → IsApart i (cell_after op) cells → cell_after op ≡ c
+few_for : (u : Units) (cells : List Cell) (rows : RowLists) (op : Op) (i : ℕ) (c : Cell) → AreRowCells u cells rows
+    → IsOp (Some op)
+    → IsRoom (effect (Some op) rows) → i ≤ length cells → IsUnitFor op (Some i) cells → IsApart i (cell_after op) cells
+    → cell_after op ≡ c
     → taken cells + taken_by c ≤ most_rows + taken_by (cell_no i cells)
 few_for u cells rows op i None is fits room within unit apart left =
     let few = is.sound.few in
@@ -238,12 +285,21 @@ few_for u cells rows op i (Some r) is fits room within unit apart left =
     let alone = leads_alone u cells rows i r is stored (subst (λ (d : Cell). IsApart i d cells) left apart) in
     let after = lead_cells u cells i r is.are within alone in
     let same : rows_of (set_cell i (Some r) cells) ≡ effect (Some op) rows =
-    ap (λ (d : Cell). rows_of (set_cell i d cells)) (sym left) ∙ rows_changed op i cells within unit apart ∙ ap (effect (Some op)) is.rows_is in
-    omega (arith, taken_set i (Some r) cells within, taken_rows (leading (name_of r) i u) (set_cell i (Some r) cells) after, ap (λ (x : RowLists). length x.princs + length x.policies) same, room)
+    ap (λ (d : Cell). rows_of (set_cell i d cells)) (sym left) ∙ rows_changed op i cells within unit apart
+    ∙ ap (effect (Some op)) is.rows_is in
+    omega (
+      arith,
+      taken_set i (Some r) cells within,
+      taken_rows (leading (name_of r) i u) (set_cell i (Some r) cells) after,
+      ap (λ (x : RowLists). length x.princs + length x.policies) same,
+      room,
+    )
 
 -- what the change leaves may stand in its unit
-pub may_stand : (u : Units) (cells : List Cell) (rows : RowLists) (op : Op) (i : ℕ) → AreRowCells u cells rows → IsOp (Some op) → IsNewName op rows
-    → IsRoom (effect (Some op) rows) → i ≤ last_unit → IsGivenFor (key_of (Some op)) i u → MayStand 2 i (cell_after op) cells
+pub may_stand : (u : Units) (cells : List Cell) (rows : RowLists) (op : Op) (i : ℕ) → AreRowCells u cells rows
+    → IsOp (Some op) → IsNewName op rows
+    → IsRoom (effect (Some op) rows) → i ≤ last_unit → IsGivenFor (key_of (Some op)) i u
+    → MayStand 2 i (cell_after op) cells
 may_stand u cells rows op i is fits new room near given =
     let within : i ≤ length cells = omega (arith, given.within, is.are.next) in
     let unit = unit_for u cells rows op i is fits given in
@@ -268,7 +324,8 @@ pub drop_princ_absent : (name : List ℕ) (cells : List Cell) → ((j : ℕ) →
 unfolding effect drop_princ
 drop_princ_absent name cells none =
     rows_are cells
-    ∙ ap (λ (l : List Principal). lists l (rows_by policy_key policy_of cells)) (sym (drop_absent princ_key princ_of name cells (λ j. lacks_princ name (cell_no j cells) (none j))))
+    ∙ ap (λ (l : List Principal). lists l (rows_by policy_key policy_of cells))
+    (sym (drop_absent princ_key princ_of name cells (λ j. lacks_princ name (cell_no j cells) (none j))))
     ∙ ap (drop_princ name) (sym (rows_are cells))
 
 pub drop_policy_absent : (name : List ℕ) (cells : List Cell) → ((j : ℕ) → has_policy name (cell_no j cells) ≡ false)
@@ -276,17 +333,20 @@ pub drop_policy_absent : (name : List ℕ) (cells : List Cell) → ((j : ℕ) �
 unfolding effect drop_policy
 drop_policy_absent name cells none =
     rows_are cells
-    ∙ ap (λ (l : List Rules). lists (rows_by princ_key princ_of cells) l) (sym (drop_absent policy_key policy_of name cells (λ j. lacks_policy name (cell_no j cells) (none j))))
+    ∙ ap (λ (l : List Rules). lists (rows_by princ_key princ_of cells) l)
+    (sym (drop_absent policy_key policy_of name cells (λ j. lacks_policy name (cell_no j cells) (none j))))
     ∙ ap (drop_policy name) (sym (rows_are cells))
 
 -- where no row has the name, no cell has it
-pub princ_absent : (u : Units) (cells : List Cell) (rows : RowLists) (name : List ℕ) → AreRowCells u cells rows → All (λ q. q.name ≢ name) rows.princs
+pub princ_absent : (u : Units) (cells : List Cell) (rows : RowLists) (name : List ℕ) → AreRowCells u cells rows
+    → All (λ q. q.name ≢ name) rows.princs
     → (j : ℕ) → has_princ name (cell_no j cells) ≡ false
 princ_absent u cells rows name is none j = by (cell_no j cells) refl
   where
     by : (c : Cell) → cell_no j cells ≡ c → has_princ name c ≡ false
     by None here = refl
-    by (Some (Princ q)) here = false_from_ne_true _ (λ same. each_princ (λ x. x.name ≢ name) u cells rows is.are is.rows_is none j q here (same_bytes q.name name same))
+    by (Some (Princ q)) here = false_from_ne_true _ (λ same.
+        each_princ (λ x. x.name ≢ name) u cells rows is.are is.rows_is none j q here (same_bytes q.name name same))
     by (Some (Policy q)) here = refl
 
 pub policy_absent : (u : Units) (cells : List Cell) (rows : RowLists) (name : List ℕ) → AreRowCells u cells rows
@@ -296,10 +356,12 @@ policy_absent u cells rows name is none j = by (cell_no j cells) refl
     by : (c : Cell) → cell_no j cells ≡ c → has_policy name c ≡ false
     by None here = refl
     by (Some (Princ q)) here = refl
-    by (Some (Policy q)) here = false_from_ne_true _ (λ same. each_policy (λ x. x.name ≢ name) u cells rows is.are is.rows_is none j q here (same_bytes q.name name same))
+    by (Some (Policy q)) here = false_from_ne_true _ (λ same.
+        each_policy (λ x. x.name ≢ name) u cells rows is.are is.rows_is none j q here (same_bytes q.name name same))
 
 -- and the rows are then those of its effect
-pub rows_given : (u : Units) (cells : List Cell) (rows : RowLists) (op : Op) (i : ℕ) → AreRowCells u cells rows → IsOp (Some op) → IsNewName op rows
+pub rows_given : (u : Units) (cells : List Cell) (rows : RowLists) (op : Op) (i : ℕ) → AreRowCells u cells rows
+    → IsOp (Some op) → IsNewName op rows
     → IsGivenFor (key_of (Some op)) i u → rows_of (set_cell i (cell_after op) cells) ≡ effect (Some op) rows
 rows_given u cells rows op i is fits new given =
     let within : i ≤ length cells = omega (arith, given.within, is.are.next) in

@@ -1,5 +1,6 @@
 -- The places of what is found and of what is kept.
-use Rattle.std.proofs.Common.{◌≡◌, ◌≢◌, ℕ, zero, suc, ◌+◌, ◌-◌, ◌<◌, ◌≤◌, ◌⊎◌, inl, inr, ⊎_elim, List, [], ◌∷◌, ◌++◌, length, map, get_or, drop, Option, Some, None, refl, sym, ap, subst, ◌∙◌, arith}
+use Rattle.std.proofs.Common.{◌≡◌, ◌≢◌, ℕ, zero, suc, ◌+◌, ◌-◌, ◌<◌, ◌≤◌, ◌⊎◌, inl, inr, ⊎_elim, List, [], ◌∷◌, ◌++◌}
+use Rattle.std.proofs.Common.{length, map, get_or, drop, Option, Some, None, refl, sym, ap, subst, ◌∙◌, arith}
 use Rattle.std.specs.Prelude.{Ok}
 use Rattle.std.proofs.lemmas.List.{map-append, length-map, drop-map}
 use Rattle.kdb_base.specs.Moment.{Moment}
@@ -43,22 +44,30 @@ last_held point (l ∷ []) d some = refl
 last_held point (l ∷ (next ∷ held)) d some =
     let here : length (next ∷ held) - 1 ≡ length held = omega arith in
     let there : suc (length held) ≡ length (l ∷ (next ∷ held)) - 1 = omega arith in
-    last_held l.entry.point (next ∷ held) d (omega arith) ∙ ap (λ (i : ℕ). (get_or (next ∷ held) i d).entry.point) here ∙ ap (λ (i : ℕ). (get_or (l ∷ (next ∷ held)) i d).entry.point) there
+    last_held l.entry.point (next ∷ held) d (omega arith) ∙ ap (λ (i : ℕ). (get_or (next ∷ held) i d).entry.point) here
+    ∙ ap (λ (i : ℕ). (get_or (l ∷ (next ∷ held)) i d).entry.point) there
 
 -- ---- a change
 
-same_place : (realm : List ℕ) (rows other : RowLists) (held others : List Entry) (stash : Option (List ℕ)) (size block format : ℕ) → rows ≡ other
+same_place : (realm : List ℕ) (rows other : RowLists) (held others : List Entry) (stash : Option (List ℕ))
+    (size block format : ℕ) → rows ≡ other
     → held ≡ others
-    → ◌≡◌ {A = Place} (record { realm = realm; rows = rows; held = held; stash = stash; size = size; block = block; format = format }) (record { realm = realm; rows = other; held = others; stash = stash; size = size; block = block; format = format })
+    → ◌≡◌ {A = Place}
+    (record { realm = realm; rows = rows; held = held; stash = stash; size = size; block = block; format = format })
+    (record { realm = realm; rows = other; held = others; stash = stash; size = size; block = block; format = format })
 same_place realm rows other held others stash size block format a b =
-    let made : RowLists → List Entry → Place = λ (r : RowLists) (h : List Entry). record { realm = realm; rows = r; held = h; stash = stash; size = size; block = block; format = format } in
+    let made : RowLists → List Entry → Place = λ (r : RowLists) (h : List Entry).
+    record { realm = realm; rows = r; held = h; stash = stash; size = size; block = block; format = format } in
     ap (λ (r : RowLists). made r held) a ∙ ap (made other) b
 
-pub place_after : (l : Logged) (o : Found) (op : Op) (time : Moment) → l.entry ≡ change op (next_point time (place_of o))
-    → rows_of (redone l o.sheet.cells) ≡ effect (Some op) (rows_of o.sheet.cells) → place_of (after l o) ≡ committed op time (place_of o)
+pub place_after : (l : Logged) (o : Found) (op : Op) (time : Moment)
+    → l.entry ≡ change op (next_point time (place_of o))
+    → rows_of (redone l o.sheet.cells) ≡ effect (Some op) (rows_of o.sheet.cells)
+    → place_of (after l o) ≡ committed op time (place_of o)
 place_after l o op time is rows =
     same_place o.sheet.realm _ _ _ _ o.stash o.control.size o.control.block o.control.format rows
-    (held_after o.control.size o.held l ∙ ap (λ (e : Entry). last_entries o.control.size (map entry_of o.held ++ e ∷ [])) is)
+    (held_after o.control.size o.held l
+    ∙ ap (λ (e : Entry). last_entries o.control.size (map entry_of o.held ++ e ∷ [])) is)
 
 -- ---- what is kept
 
@@ -68,7 +77,8 @@ place_is k cells rows = same_place k.realm _ _ _ _ k.stash k.control.size k.cont
 -- whatever a crash leaves recovers to the place of what is kept
 pub kept_recovers : (k : Kept) (v : View) → IsOnDisk k v → RecoversTo (place_kept k) v
 kept_recovers k v is c now =
-    ap place_in (stands_found (found_with k is.cells) c is.stands.done (is.stands.each c now)) ∙ ap Ok (place_is k is.cells is.rows)
+    ap place_in (stands_found (found_with k is.cells) c is.stands.done (is.stands.each c now))
+    ∙ ap Ok (place_is k is.cells is.rows)
 
 -- what is found to be as before or as after a change recovers to the one place or to the other
 pub either_place : {before next : Place} (a b : Found) (c : Files) → place_of a ≡ before → place_of b ≡ next

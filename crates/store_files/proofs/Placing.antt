@@ -1,5 +1,6 @@
 -- The unit that is given for a change: what stands there, what may stand there, and which rows the cells then have.
-use Rattle.std.proofs.Common.{◌≡◌, ◌≢◌, ℕ, zero, suc, ◌+◌, ◌<◌, ◌≤◌, ◌⊎◌, inl, inr, ⊎_elim, Bool, true, false, List, [], ◌∷◌, ◌++◌, length, Option, Some, None, refl, sym, ap, subst, ◌∙◌, arith}
+use Rattle.std.proofs.Common.{◌≡◌, ◌≢◌, ℕ, zero, suc, ◌+◌, ◌<◌, ◌≤◌, ◌⊎◌, inl, inr, ⊎_elim, Bool, true, false}
+use Rattle.std.proofs.Common.{List, [], ◌∷◌, ◌++◌, length, Option, Some, None, refl, sym, ap, subst, ◌∙◌, arith}
 use Rattle.std.specs.Prelude.{filter}
 use Rattle.std.specs.Str.{bytes_eq}
 use Rattle.std.specs.List.{All, AllByRecursion}
@@ -17,7 +18,8 @@ use Rattle.princ_rows.specs.Entries.{IsOp, key_of}
 use Rattle.princ_rows.specs.declared.entries.Op.{Op}
 use Rattle.princ_rows.specs.declared.entries.Op.TheVariants.{PutPrinc, DropPrinc, Rename, PutPolicy, DropPolicy}
 use Rattle.princ_rows.specs.Rows.{RowLists, AreRows}
-use Rattle.princ_rows.specs.Effects.{is_lower, is_higher, put_by, drop_by, put_princ, drop_princ, put_policy, drop_policy, effect, IsRoom}
+use Rattle.princ_rows.specs.Effects.{is_lower, is_higher, put_by, drop_by, put_princ}
+use Rattle.princ_rows.specs.Effects.{drop_princ, put_policy, drop_policy, effect, IsRoom}
 use Rattle.princ_rows.specs.Undoing.{IsNewName}
 use Rattle.kdb_cells.specs.declared.units.StoredRow.{StoredRow}
 use Rattle.kdb_cells.specs.declared.units.StoredRow.TheVariants.{Princ, Policy}
@@ -30,16 +32,20 @@ use Rattle.kdb_cells.specs.FileCells.{HasKey, AreCellsOf, MayStand}
 use Rattle.kdb_cells.proofs.Cellwise.{same_key_name}
 use Rattle.store_files.specs.Standing.{has_princ, has_policy, has_old, AreRowCells}
 use Rattle.store_files.proofs.KeyEdits.{drop_edit, edit}
-use Rattle.store_files.proofs.CellRows.{with_row, rows_by, Lacks, Differ, IsEdit, edited, untouched, put_dropped, drop_absent, princ_of, policy_of, princ_key, policy_key, rows_are, princs_are, policies_are}
+use Rattle.store_files.proofs.CellRows.{with_row, rows_by, Lacks, Differ, IsEdit, edited}
+use Rattle.store_files.proofs.CellRows.{untouched, put_dropped, drop_absent, princ_of, policy_of}
+use Rattle.store_files.proofs.CellRows.{princ_key, policy_key, rows_are, princs_are, policies_are}
 
 -- ---- each row of the cells is one of the rows
 
 module _ {X : Type 0} where
-  all_parted : (P : X → Type 0) (xs : List X) (x : X) (ys : List X) → AllByRecursion P (xs ++ x ∷ ys) → P x × AllByRecursion P (xs ++ ys)
+  all_parted : (P : X → Type 0) (xs : List X) (x : X) (ys : List X) → AllByRecursion P (xs ++ x ∷ ys)
+      → P x × AllByRecursion P (xs ++ ys)
   all_parted P [] x ys all = all
   all_parted P (z ∷ xs) x ys all = let rest = all_parted P xs x ys all.1 in (rest.0, (all.0, rest.1))
 
-  all_put : (P : X → Type 0) (key : X → List ℕ) (x : X) (xs : List X) → drop_by key (key x) xs ≡ xs → AllByRecursion P (put_by key x xs)
+  all_put : (P : X → Type 0) (key : X → List ℕ) (x : X) (xs : List X) → drop_by key (key x) xs ≡ xs
+      → AllByRecursion P (put_by key x xs)
       → P x × AllByRecursion P xs
   unfolding put_by drop_by
   all_put P key x xs absent all =
@@ -53,35 +59,43 @@ module _ {X : Type 0} where
   abbrev pub AreApart : (X → List ℕ) → (Cell → Option X) → List Cell → Type 0
   AreApart key row cells = (i j : ℕ) → i < j → Differ key (row (cell_no i cells)) (row (cell_no j cells))
 
-  next_apart : (key : X → List ℕ) (row : Cell → Option X) (c : Cell) (cells : List Cell) → AreApart key row (c ∷ cells) → AreApart key row cells
+  next_apart : (key : X → List ℕ) (row : Cell → Option X) (c : Cell) (cells : List Cell) → AreApart key row (c ∷ cells)
+      → AreApart key row cells
   unfolding cell_no
   next_apart key row c cells apart i j lt = apart (suc i) (suc j) (omega (arith, lt))
 
-  first_apart : (key : X → List ℕ) (row : Cell → Option X) (c : Cell) (cells : List Cell) → AreApart key row (c ∷ cells) → (x : X) → row c ≡ Some x
+  first_apart : (key : X → List ℕ) (row : Cell → Option X) (c : Cell) (cells : List Cell) → AreApart key row (c ∷ cells)
+      → (x : X) → row c ≡ Some x
       → (j : ℕ) → Lacks key (key x) (row (cell_no j cells))
   unfolding cell_no
-  first_apart key row c cells apart x is j = subst (λ (o : Option X). Differ key o (row (cell_no j cells))) is (apart 0 (suc j) (omega arith))
+  first_apart key row c cells apart x is j =
+      subst (λ (o : Option X). Differ key o (row (cell_no j cells))) is (apart 0 (suc j) (omega arith))
 
   -- what holds of all rows holds of the first cell's, and of all rows of the others
-  all_first : (P : X → Type 0) (key : X → List ℕ) (o : Option X) (xs : List X) → ((x : X) → o ≡ Some x → drop_by key (key x) xs ≡ xs)
+  all_first : (P : X → Type 0) (key : X → List ℕ) (o : Option X) (xs : List X)
+      → ((x : X) → o ≡ Some x → drop_by key (key x) xs ≡ xs)
       → AllByRecursion P (with_row key o xs) → IfRow P o × AllByRecursion P xs
   all_first P key None xs absent all = (tt, all)
   all_first P key (Some x) xs absent all = all_put P key x xs (absent x refl) all
 
-  pub each_row : (P : X → Type 0) (key : X → List ℕ) (row : Cell → Option X) (cells : List Cell) → row None ≡ None → AreApart key row cells
+  pub each_row : (P : X → Type 0) (key : X → List ℕ) (row : Cell → Option X) (cells : List Cell) → row None ≡ None
+      → AreApart key row cells
       → AllByRecursion P (rows_by key row cells) → (j : ℕ) → IfRow P (row (cell_no j cells))
   unfolding rows_by cell_no
   each_row P key row [] none apart all j = subst (IfRow P) (sym none) tt
   each_row P key row (c ∷ cells) none apart all zero =
-      (all_first P key (row c) (rows_by key row cells) (λ x is. drop_absent key row (key x) cells (first_apart key row c cells apart x is)) all).0
+      (all_first P key (row c) (rows_by key row cells)
+      (λ x is. drop_absent key row (key x) cells (first_apart key row c cells apart x is)) all).0
   each_row P key row (c ∷ cells) none apart all (suc j) =
       each_row P key row cells none (next_apart key row c cells apart)
-      (all_first P key (row c) (rows_by key row cells) (λ x is. drop_absent key row (key x) cells (first_apart key row c cells apart x is)) all).1 j
+      (all_first P key (row c) (rows_by key row cells)
+      (λ x is. drop_absent key row (key x) cells (first_apart key row c cells apart x is)) all).1 j
 
 -- ---- cells to which an index leads
 
 -- two rows of one name stand in one unit
-one_place : (u : Units) (cells : List Cell) (i j : ℕ) (r s : StoredRow) → AreCellsOf u cells → cell_no i cells ≡ Some r → cell_no j cells ≡ Some s
+one_place : (u : Units) (cells : List Cell) (i j : ℕ) (r s : StoredRow) → AreCellsOf u cells → cell_no i cells ≡ Some r
+    → cell_no j cells ≡ Some s
     → name_of r ≡ name_of s → i ≡ j
 one_place u cells i j r s are here there same =
     let both : Some i ≡ Some j = sym (are.found i r here) ∙ ap u.of same ∙ are.found j s there in
@@ -97,30 +111,37 @@ policy_there None p is = absurd cc
 policy_there (Some (Princ q)) p is = absurd cc
 policy_there (Some (Policy q)) p is = let same : q ≡ p = cc in ap (λ (x : Rules). Some (Policy x)) same
 
-differ_by : {X : Type 0} (key : X → List ℕ) (a b : Option X) → ((x y : X) → a ≡ Some x → b ≡ Some y → key y ≢ key x) → Differ key a b
+differ_by : {X : Type 0} (key : X → List ℕ) (a b : Option X) → ((x y : X) → a ≡ Some x → b ≡ Some y → key y ≢ key x)
+    → Differ key a b
 differ_by key None b apart = tt
 differ_by key (Some x) None apart = tt
 differ_by key (Some x) (Some y) apart = apart x y refl refl
 
 pub princs_apart : (u : Units) (cells : List Cell) → AreCellsOf u cells → AreApart princ_key princ_of cells
 princs_apart u cells are i j lt = differ_by princ_key _ _ (λ p q here there same.
-    let eq = one_place u cells i j (Princ p) (Princ q) are (princ_there _ p here) (princ_there _ q there) (sym same) in absurd (omega (arith, lt, eq)))
+    let eq = one_place u cells i j (Princ p) (Princ q) are (princ_there _ p here) (princ_there _ q there) (sym same) in
+    absurd (omega (arith, lt, eq)))
 
 pub policies_apart : (u : Units) (cells : List Cell) → AreCellsOf u cells → AreApart policy_key policy_of cells
 policies_apart u cells are i j lt = differ_by policy_key _ _ (λ p q here there same.
-    let eq = one_place u cells i j (Policy p) (Policy q) are (policy_there _ p here) (policy_there _ q there) (sym same) in absurd (omega (arith, lt, eq)))
+    let eq = one_place u cells i j (Policy p) (Policy q) are (policy_there _ p here) (policy_there _ q there)
+    (sym same) in absurd (omega (arith, lt, eq)))
 
 -- what holds of all principals of the rows holds of each in the cells
-pub each_princ : (P : Principal → Type 0) (u : Units) (cells : List Cell) (rows : RowLists) → AreCellsOf u cells → rows_of cells ≡ rows
+pub each_princ : (P : Principal → Type 0) (u : Units) (cells : List Cell) (rows : RowLists) → AreCellsOf u cells
+    → rows_of cells ≡ rows
     → All P rows.princs → (j : ℕ) (p : Principal) → cell_no j cells ≡ Some (Princ p) → P p
 each_princ P u cells rows are same all j p is =
-    let held = subst (AllByRecursion P) (ap (λ (r : RowLists). r.princs) (sym same) ∙ princs_are cells) (recursion_from_All P rows.princs all) in
+    let held = subst (AllByRecursion P) (ap (λ (r : RowLists). r.princs) (sym same) ∙ princs_are cells)
+    (recursion_from_All P rows.princs all) in
     subst (IfRow P) (ap princ_of is) (each_row P princ_key princ_of cells refl (princs_apart u cells are) held j)
 
-pub each_policy : (P : Rules → Type 0) (u : Units) (cells : List Cell) (rows : RowLists) → AreCellsOf u cells → rows_of cells ≡ rows
+pub each_policy : (P : Rules → Type 0) (u : Units) (cells : List Cell) (rows : RowLists) → AreCellsOf u cells
+    → rows_of cells ≡ rows
     → All P rows.policies → (j : ℕ) (p : Rules) → cell_no j cells ≡ Some (Policy p) → P p
 each_policy P u cells rows are same all j p is =
-    let held = subst (AllByRecursion P) (ap (λ (r : RowLists). r.policies) (sym same) ∙ policies_are cells) (recursion_from_All P rows.policies all) in
+    let held = subst (AllByRecursion P) (ap (λ (r : RowLists). r.policies) (sym same) ∙ policies_are cells)
+    (recursion_from_All P rows.policies all) in
     subst (IfRow P) (ap policy_of is) (each_row P policy_key policy_of cells refl (policies_apart u cells are) held j)
 
 -- ---- keys and kinds
@@ -142,14 +163,16 @@ old_key (Rename old p) r e = has_princ_key old r e
 old_key (PutPolicy p) r e = has_policy_key p.name r e
 old_key (DropPolicy name) r e = has_policy_key name r e
 
-has_printed : (u : Units) (cells : List Cell) (rows : RowLists) (name : List ℕ) (j : ℕ) (r : StoredRow) → AreRowCells u cells rows → IsPrinted name
+has_printed : (u : Units) (cells : List Cell) (rows : RowLists) (name : List ℕ) (j : ℕ) (r : StoredRow)
+    → AreRowCells u cells rows → IsPrinted name
     → cell_no j cells ≡ Some r → name_of r ≡ name → has_princ name (Some r) ≡ true
 has_printed u cells rows name j (Princ p) is printed here same = bytes_same p.name name same
 has_printed u cells rows name j (Policy p) is printed here same =
     let policy = each_policy IsPolicy u cells rows is.are is.rows_is is.sound.policies j p here in
     absurd (printed_is_no_policy name printed (ap is_policy_name (sym same) ∙ policy.named))
 
-has_named : (u : Units) (cells : List Cell) (rows : RowLists) (name : List ℕ) (j : ℕ) (r : StoredRow) → AreRowCells u cells rows
+has_named : (u : Units) (cells : List Cell) (rows : RowLists) (name : List ℕ) (j : ℕ) (r : StoredRow)
+    → AreRowCells u cells rows
     → is_policy_name name ≡ true → cell_no j cells ≡ Some r → name_of r ≡ name → has_policy name (Some r) ≡ true
 has_named u cells rows name j (Princ p) is named here same =
     let row = each_princ IsRow u cells rows is.are is.rows_is is.sound.princs j p here in
@@ -157,10 +180,12 @@ has_named u cells rows name j (Princ p) is named here same =
 has_named u cells rows name j (Policy p) is named here same = bytes_same p.name name same
 
 -- and one that has its key has the row
-pub key_old : (u : Units) (cells : List Cell) (rows : RowLists) (op : Op) (j : ℕ) (r : StoredRow) → AreRowCells u cells rows → IsOp (Some op)
+pub key_old : (u : Units) (cells : List Cell) (rows : RowLists) (op : Op) (j : ℕ) (r : StoredRow)
+    → AreRowCells u cells rows → IsOp (Some op)
     → cell_no j cells ≡ Some r → name_of r ≡ key_of (Some op) → has_old op (Some r) ≡ true
 unfolding key_of
-key_old u cells rows (PutPrinc p) j r is fits here same = has_printed u cells rows p.name j r is fits.fits.name here same
+key_old u cells rows (PutPrinc p) j r is fits here same =
+    has_printed u cells rows p.name j r is fits.fits.name here same
 key_old u cells rows (DropPrinc name) j r is fits here same = has_printed u cells rows name j r is fits here same
 key_old u cells rows (Rename old p) j r is fits here same = has_printed u cells rows old j r is fits.0 here same
 key_old u cells rows (PutPolicy p) j r is fits here same = has_named u cells rows p.name j r is fits.named here same

@@ -1,7 +1,9 @@
 -- Cells of which one is changed, or passed over.
-use Rattle.std.proofs.Common.{◌≡◌, ◌≢◌, ℕ, zero, suc, ◌+◌, ◌-◌, ◌<◌, ◌≤◌, ⊎_elim, Bool, true, false, not, ◌&&◌, ◌||◌, List, [], ◌∷◌, length, Option, Some, None, refl, sym, ap, subst, ◌∙◌, arith}
+use Rattle.std.proofs.Common.{◌≡◌, ◌≢◌, ℕ, zero, suc, ◌+◌, ◌-◌, ◌<◌, ◌≤◌, ⊎_elim, Bool, true, false, not, ◌&&◌}
+use Rattle.std.proofs.Common.{◌||◌, List, [], ◌∷◌, length, Option, Some, None, refl, sym, ap, subst, ◌∙◌, arith}
 use Rattle.std.specs.Prelude.{nat_eq, nat_lt}
-use Rattle.std.proofs.lemmas.Bool.{cases_eq, cases_lt, and_from, lt-ltb, eq-eqb, ne_eqb, cond-true, cond-false, false_from_ne_true, true≢false}
+use Rattle.std.proofs.lemmas.Bool.{cases_eq, cases_lt, and_from, lt-ltb, eq-eqb, ne_eqb}
+use Rattle.std.proofs.lemmas.Bool.{cond-true, cond-false, false_from_ne_true, true≢false}
 use Rattle.kdb_base.specs.Limits.{most_rows}
 use Rattle.princ_rows.specs.EntryLaws.{same_bytes, bytes_same}
 use Rattle.kdb_cells.specs.declared.units.StoredRow.{StoredRow}
@@ -16,14 +18,16 @@ use Rattle.store_files.specs.Standing.{HasCell, MayChange}
 
 -- ---- one cell is set
 
-pub set_again : (i : ℕ) (x y : Cell) (cells : List Cell) → i ≤ length cells → set_cell i x (set_cell i y cells) ≡ set_cell i x cells
+pub set_again : (i : ℕ) (x y : Cell) (cells : List Cell) → i ≤ length cells
+    → set_cell i x (set_cell i y cells) ≡ set_cell i x cells
 unfolding set_cell
 set_again zero x y [] le = refl
 set_again (suc i) x y [] le = absurd (omega (arith, le))
 set_again zero x y (c ∷ cells) le = refl
 set_again (suc i) x y (c ∷ cells) le = ap (λ (l : List Cell). c ∷ l) (set_again i x y cells (omega (arith, le)))
 
-pub set_same : (i : ℕ) (x : Cell) (cells : List Cell) → i < length cells → cell_no i cells ≡ x → set_cell i x cells ≡ cells
+pub set_same : (i : ℕ) (x : Cell) (cells : List Cell) → i < length cells → cell_no i cells ≡ x
+    → set_cell i x cells ≡ cells
 unfolding set_cell cell_no
 set_same i x [] lt is = absurd (omega (arith, lt))
 set_same zero x (c ∷ cells) lt is = ap (λ (d : Cell). d ∷ cells) (sym is)
@@ -35,10 +39,12 @@ or_none : (a b : Bool) → a ≡ false → b ≡ false → a || b ≡ false
 or_none true b x y = x
 or_none false b x y = y
 
-pub no_clashes : (c : Cell) (cells : List Cell) → ((j : ℕ) → clash c (cell_no j cells) ≡ false) → clashes c cells ≡ false
+pub no_clashes : (c : Cell) (cells : List Cell) → ((j : ℕ) → clash c (cell_no j cells) ≡ false)
+    → clashes c cells ≡ false
 unfolding clashes cell_no
 no_clashes c [] apart = refl
-no_clashes c (d ∷ cells) apart = or_none (clash c d) (clashes c cells) (apart 0) (no_clashes c cells (λ j. apart (suc j)))
+no_clashes c (d ∷ cells) apart =
+    or_none (clash c d) (clashes c cells) (apart 0) (no_clashes c cells (λ j. apart (suc j)))
 
 turned : (a b : List ℕ) (x : Bool) → x ≡ false → (a ≡ b → x ≡ true) → b ≢ a
 turned a b x no_ yes_ e = true≢false (sym (yes_ (sym e)) ∙ no_)
@@ -47,10 +53,12 @@ pub clash_turned : (c d : Cell) → clash c d ≡ false → clash d c ≡ false
 clash_turned None None apart = refl
 clash_turned None (Some s) apart = refl
 clash_turned (Some r) None apart = refl
-clash_turned (Some (Princ p)) (Some (Princ q)) apart = false_from_ne_true _ (λ same. turned p.name q.name _ apart (bytes_same p.name q.name) (same_bytes q.name p.name same))
+clash_turned (Some (Princ p)) (Some (Princ q)) apart = false_from_ne_true _
+    (λ same. turned p.name q.name _ apart (bytes_same p.name q.name) (same_bytes q.name p.name same))
 clash_turned (Some (Princ p)) (Some (Policy q)) apart = refl
 clash_turned (Some (Policy p)) (Some (Princ q)) apart = refl
-clash_turned (Some (Policy p)) (Some (Policy q)) apart = false_from_ne_true _ (λ same. turned p.name q.name _ apart (bytes_same p.name q.name) (same_bytes q.name p.name same))
+clash_turned (Some (Policy p)) (Some (Policy q)) apart = false_from_ne_true _
+    (λ same. turned p.name q.name _ apart (bytes_same p.name q.name) (same_bytes q.name p.name same))
 
 -- no other cell has the key of this one
 abbrev pub IsApart : ℕ → Cell → List Cell → Type 0
@@ -63,11 +71,13 @@ free_apart (Some r) = refl
 -- ---- a row is placed where its unit is free
 
 pub placed_row : (i : ℕ) (c : Cell) (cells : List Cell) → i ≤ length cells → IsApart i c cells
-    → taken cells + taken_by c ≤ most_rows + taken_by (cell_no i cells) → is_placed (Some i) c (set_cell i None cells) ≡ true
+    → taken cells + taken_by c ≤ most_rows + taken_by (cell_no i cells)
+    → is_placed (Some i) c (set_cell i None cells) ≡ true
 placed_row i None cells within apart few = refl
 placed_row i (Some r) cells within apart few =
     let others : (j : ℕ) → clash (Some r) (cell_no j (set_cell i None cells)) ≡ false = λ j. ⊎_elim
-    (λ same. ap (λ (k : ℕ). clash (Some r) (cell_no k (set_cell i None cells))) same ∙ ap (clash (Some r)) (set_here i None cells within))
+    (λ same. ap (λ (k : ℕ). clash (Some r) (cell_no k (set_cell i None cells))) same
+    ∙ ap (clash (Some r)) (set_here i None cells within))
     (λ other. ap (clash (Some r)) (set_other i j None cells within other) ∙ apart j other)
     (cases_eq j i) in
     and_from (not (clashes (Some r) (set_cell i None cells))) (nat_lt (taken (set_cell i None cells)) most_rows)
@@ -98,9 +108,11 @@ done_placed (Some i) c cells has once few =
     (cases_lt j i) in
     placed_row i c cells (omega (arith, lt)) apart (omega (arith, few, ap taken_by has.1))
 
-pub done_again : (unit : Option ℕ) (c : Cell) (cells : List Cell) → HasCell unit c cells → with_unit unit c (with_unit unit None cells) ≡ cells
+pub done_again : (unit : Option ℕ) (c : Cell) (cells : List Cell) → HasCell unit c cells
+    → with_unit unit c (with_unit unit None cells) ≡ cells
 done_again None c cells has = refl
-done_again (Some i) c cells has = let lt = has.0 in set_again i c None cells (omega (arith, lt)) ∙ set_same i c cells has.0 has.1
+done_again (Some i) c cells has = let lt =
+    has.0 in set_again i c None cells (omega (arith, lt)) ∙ set_same i c cells has.0 has.1
 
 pub unit_holds : (format : ℕ) (unit : Option ℕ) (c : Cell) (cells : List Cell) → MayChange format unit c cells
     → HasCell unit c (with_unit unit c cells)

@@ -1,5 +1,6 @@
 -- What the files of a disk stand for.
-use Rattle.std.specs.Prelude.{ℕ, ◌*◌, ◌-◌, Bool, true, false, ◌&&◌, not, nat_eq, nat_lt, if◌then◌else◌, List, length, map, slice_index_or, Option, Some, None, Result, Ok, Err}
+use Rattle.std.specs.Prelude.{ℕ, ◌*◌, ◌-◌, Bool, true, false, ◌&&◌, not, nat_eq, nat_lt, if◌then◌else◌}
+use Rattle.std.specs.Prelude.{List, length, map, slice_index_or, Option, Some, None, Result, Ok, Err}
 use Rattle.kdb_base.specs.Limits.{most_rows}
 use Rattle.kdb_base.specs.declared.moments.Point.{Point}
 use Rattle.kdb_base.specs.declared.outcomes.Refusal.{Refusal}
@@ -51,8 +52,8 @@ with_unit (Some i) c cells = set_cell i c cells
 abbrev pub redone : Logged → List Cell → List Cell
 redone l cells = with_unit (unit_changed l) (left_by l.entry.op) cells
 
--- What an entry leaves may stand in its unit, beside the cells of the other units: a row has a unit, its key is that of no
--- other row, and there are not too many.
+-- What an entry leaves may stand in its unit, beside the cells of the other units: a row has a unit, its key is that of
+-- no other row, and there are not too many.
 abbrev pub is_placed : Option ℕ → Cell → List Cell → Bool
 is_placed unit None cells = true
 is_placed None (Some r) cells = false
@@ -76,7 +77,12 @@ abbrev pub found_done : Choice → List Logged → Option (List ℕ) → Logged 
 found_done choice held stash last (Err place) = Err (Damaged choice.image place)
 found_done choice held stash last (Ok sheet) =
     if is_placed (unit_changed last) (left_by last.entry.op) sheet.cells
-    then Ok (record { control = choice; held = held; sheet = record { realm = sheet.realm; cells = redone last sheet.cells }; stash = stash })
+    then Ok (record {
+      control = choice;
+      held = held;
+      sheet = record { realm = sheet.realm; cells = redone last sheet.cells };
+      stash = stash;
+    })
     else Err (Damaged choice.log (last_place choice last))
 
 -- The last entry is done again in its unit, which lies in the file or is the next one. The unit may have any bytes.
@@ -87,17 +93,19 @@ found_last choice held stash last file =
 
 abbrev pub found_log : Choice → Files → Result (List Logged) ℕ → Result Found Refusal
 found_log choice files (Err place) = Err (Damaged choice.log place)
-found_log choice files (Ok held) = found_last choice held (stash_in choice files) (last_of choice.base held) (files choice.image)
+found_log choice files (Ok held) =
+    found_last choice held (stash_in choice files) (last_of choice.base held) (files choice.image)
 
 abbrev pub found_by : Force → Files → Result Found Refusal
 found_by Nothing files = Err NotADatabase
 found_by (Broken place) files = Err (Damaged 0 place)
-found_by (Is choice) files = found_log choice files (log_in choice.format choice.base choice.size choice.block (files choice.log))
+found_by (Is choice) files =
+    found_log choice files (log_in choice.format choice.base choice.size choice.block (files choice.log))
 
--- The newer open control slot names the files and their format. The log's open slots hold entries that run on to the last,
--- and the last so many are held. The rows are those of the units, with the last entry done again in its unit. What breaks
--- its grammar is damaged at its place: the control file first, then the log, the number of the last entry's unit, the
--- cells, and the last entry against them. A stash is any bytes, and never damaged.
+-- The newer open control slot names the files and their format. The log's open slots hold entries that run on to the
+-- last, and the last so many are held. The rows are those of the units, with the last entry done again in its unit.
+-- What breaks its grammar is damaged at its place: the control file first, then the log, the number of the last entry's
+-- unit, the cells, and the last entry against them. A stash is any bytes, and never damaged.
 unfoldable pub found_in : Files → Result Found Refusal
 found_in files = found_by (in_force (files 0)) files
 

@@ -14,8 +14,8 @@ use Rattle.kdb_places.specs.Places.{Place}
 use Rattle.store_files.specs.Found.{Found}
 use Rattle.store_files.specs.Standing.{Holds}
 
--- The choice of files in force, the log, the file of cells, the rows in the order of their keys, the realm, the stash, and
--- whether a change failed by the disk.
+-- The choice of files in force, the log, the file of cells, the rows in the order of their keys, the realm, the stash,
+-- and whether a change failed by the disk.
 pub record Kept : Type 0 where
   pub control : Choice
   pub log : Journal

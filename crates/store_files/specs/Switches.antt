@@ -70,7 +70,8 @@ stash_choice stash c = record {
 }
 
 abbrev pub after_stash : ℕ → List ℕ → Found → Found
-after_stash stash bytes o = record { control = stash_choice stash o.control; held = o.held; sheet = o.sheet; stash = Some bytes }
+after_stash stash bytes o =
+    record { control = stash_choice stash o.control; held = o.held; sheet = o.sheet; stash = Some bytes }
 
 -- the first choice of a database that is made
 abbrev pub first_choice : ℕ → ℕ → Point → ℕ → ℕ → Choice
@@ -86,4 +87,5 @@ first_choice format stash base size block = record {
 }
 
 abbrev pub first_found : Choice → Sheet → Option (List ℕ) → Found
-first_found choice sheet stash = record { control = choice; held = marker_of choice.base ∷ []; sheet = sheet; stash = stash }
+first_found choice sheet stash =
+    record { control = choice; held = marker_of choice.base ∷ []; sheet = sheet; stash = stash }

@@ -1,5 +1,6 @@
 -- What the ranges of a choice of files say.
-use Rattle.std.proofs.Common.{◌≡◌, ◌≢◌, ℕ, Bool, ◌≤◌, ◌<◌, ◌⊎◌, inl, inr, ⊎_elim, true, false, ◌||◌, ◌&&◌, sym, ◌∙◌, ap, arith, refl}
+use Rattle.std.proofs.Common.{◌≡◌, ◌≢◌, ℕ, Bool, ◌≤◌, ◌<◌, ◌⊎◌, inl, inr, ⊎_elim}
+use Rattle.std.proofs.Common.{true, false, ◌||◌, ◌&&◌, sym, ◌∙◌, ap, arith, refl}
 use Rattle.std.specs.Prelude.{nat_eq}
 use Rattle.std.proofs.lemmas.Bool.{and_parts, cases_eq, ne_eqb, false≢true, ltb-true}
 use Rattle.kdb_base.specs.declared.moments.Point.{Point}
@@ -27,7 +28,8 @@ record AreInRange (image log stash size : ℕ) : Type 0 where
   stash_is : (stash ≡ 0) ⊎ ((stash ≡ 5) ⊎ (stash ≡ 6))
   some : 1 < size
 
-ranged : (format turn image log stash size block : ℕ) → (is_format format && in_ranges turn image log stash size block) ≡ true
+ranged : (format turn image log stash size block : ℕ)
+    → (is_format format && in_ranges turn image log stash size block) ≡ true
     → AreInRange image log stash size
 unfolding in_ranges
 ranged format turn image log stash size block all =
@@ -43,11 +45,13 @@ ranged format turn image log stash size block all =
       some = ltb-true _ _ (and_parts _ _ p2.1).0;
     }
 
-pub image_high : (format turn image log stash size block : ℕ) → (is_format format && in_ranges turn image log stash size block) ≡ true → image ≤ 2
+pub image_high : (format turn image log stash size block : ℕ)
+    → (is_format format && in_ranges turn image log stash size block) ≡ true → image ≤ 2
 image_high format turn image log stash size block all =
     ⊎_elim (λ e. omega (arith, e)) (λ e. omega (arith, e)) (ranged format turn image log stash size block all).image_is
 
-pub stash_high : (format turn image log stash size block : ℕ) → (is_format format && in_ranges turn image log stash size block) ≡ true → stash ≤ 6
+pub stash_high : (format turn image log stash size block : ℕ)
+    → (is_format format && in_ranges turn image log stash size block) ≡ true → stash ≤ 6
 stash_high format turn image log stash size block all =
     ⊎_elim (λ e. omega (arith, e)) (⊎_elim (λ e. omega (arith, e)) (λ e. omega (arith, e)))
     (ranged format turn image log stash size block all).stash_is
@@ -62,8 +66,18 @@ stash_low : {stash : ℕ} → stash ≢ 0 → (stash ≡ 0) ⊎ ((stash ≡ 5) �
 stash_low some either = ⊎_elim (λ e. absurd (some e)) (⊎_elim (λ e. omega (arith, e)) (λ e. omega (arith, e))) either
 
 -- the files of a choice are apart
-pub has_files : (format turn image log stash size block : ℕ) (base : Point) → (is_format format && in_ranges turn image log stash size block) ≡ true
-    → HasFiles (record { format = format; turn = turn; image = image; log = log; stash = stash; size = size; block = block; base = base })
+pub has_files : (format turn image log stash size block : ℕ) (base : Point)
+    → (is_format format && in_ranges turn image log stash size block) ≡ true
+    → HasFiles (record {
+      format = format;
+      turn = turn;
+      image = image;
+      log = log;
+      stash = stash;
+      size = size;
+      block = block;
+      base = base;
+    })
 has_files format turn image log stash size block base all =
     let is = ranged format turn image log stash size block all in
     let i = image_low is.image_is in
@@ -72,6 +86,9 @@ has_files format turn image log stash size block base all =
       image = λ e. absurd (omega (arith, e, i.0));
       log = λ e. absurd (omega (arith, e, l.0));
       apart = λ e. absurd (omega (arith, e, i.1, l.0));
-      stash = λ some. let s = stash_low some is.stash_is in (λ e. absurd (omega (arith, e, s, l.1)), λ e. absurd (omega (arith, e, s, i.1)));
+      stash = λ some. let s = stash_low some is.stash_is in (
+        λ e. absurd (omega (arith, e, s, l.1)),
+        λ e. absurd (omega (arith, e, s, i.1)),
+      );
       size = omega (arith, is.some);
     }

@@ -22,7 +22,8 @@ use Rattle.store_files.specs.Found.{Found, unit_changed, left_by, is_placed, red
 use Rattle.store_files.specs.Found.{last_place, stash_in, found_done, found_last, found_log, found_by, found_in}
 
 -- nothing is in force
-pub nothing_found : (files : Files) (stop : ControlStop) → stop ≡ stops.NotADatabase → Answers (Err stop) (in_force (files 0))
+pub nothing_found : (files : Files) (stop : ControlStop) → stop ≡ stops.NotADatabase
+    → Answers (Err stop) (in_force (files 0))
     → found_in files ≡ Err NotADatabase
 unfolding found_in
 nothing_found files stop is answers = ap (λ (f : Force). found_by f files) (subst
@@ -38,13 +39,16 @@ broken_found files stop file place is answers =
 
 module _ (files : Files) (choice : Choice) (force : in_force (files 0) ≡ Is choice) where
   -- the log is damaged
-  pub log_damaged : (place : ℕ) → log_in choice.format choice.base choice.size choice.block (files choice.log) ≡ Err place
+  pub log_damaged : (place : ℕ)
+      → log_in choice.format choice.base choice.size choice.block (files choice.log) ≡ Err place
       → found_in files ≡ Err (Damaged choice.log place)
   unfolding found_in
   log_damaged place is = ap (λ (f : Force). found_by f files) force ∙ ap (found_log choice files) is
 
-  module _ (held : List Logged) (log : log_in choice.format choice.base choice.size choice.block (files choice.log) ≡ Ok held) where
-    read_on : found_in files ≡ found_last choice held (stash_in choice files) (last_of choice.base held) (files choice.image)
+  module _ (held : List Logged)
+      (log : log_in choice.format choice.base choice.size choice.block (files choice.log) ≡ Ok held) where
+    read_on : found_in files
+        ≡ found_last choice held (stash_in choice files) (last_of choice.base held) (files choice.image)
     unfolding found_in
     read_on = ap (λ (f : Force). found_by f files) force ∙ ap (found_log choice files) log
 
@@ -55,31 +59,40 @@ module _ (files : Files) (choice : Choice) (force : in_force (files 0) ≡ Is ch
     far_found far =
         let last = last_of choice.base held in
         let damaged : Result Found Refusal = Err (Damaged choice.log (last_place choice last)) in
-        read_on ∙ cond-true (nat_lt (count_of choice.format (files choice.image)) last.cell) damaged (found_done choice held
-        (stash_in choice files) last (sheet_in choice.format (skipping choice.format (unit_changed last) (files choice.image))))
+        read_on
+        ∙ cond-true (nat_lt (count_of choice.format (files choice.image)) last.cell) damaged (found_done choice held
+        (stash_in choice files) last
+        (sheet_in choice.format (skipping choice.format (unit_changed last) (files choice.image))))
         (lt-ltb _ _ far)
 
     module _ (within : (last_of choice.base held).cell ≤ count_of choice.format (files choice.image)) where
-      cells_on : found_in files ≡ found_done choice held (stash_in choice files) (last_of choice.base held) (sheet_in choice.format
+      cells_on : found_in files
+          ≡ found_done choice held (stash_in choice files) (last_of choice.base held) (sheet_in choice.format
           (skipping choice.format (unit_changed (last_of choice.base held)) (files choice.image)))
       unfolding found_last
       cells_on =
           let last = last_of choice.base held in
           let damaged : Result Found Refusal = Err (Damaged choice.log (last_place choice last)) in
-          read_on ∙ cond-false (nat_lt (count_of choice.format (files choice.image)) last.cell) damaged (found_done choice held
-          (stash_in choice files) last (sheet_in choice.format (skipping choice.format (unit_changed last) (files choice.image))))
+          read_on
+          ∙ cond-false (nat_lt (count_of choice.format (files choice.image)) last.cell) damaged (found_done choice held
+          (stash_in choice files) last
+          (sheet_in choice.format (skipping choice.format (unit_changed last) (files choice.image))))
           (le-ltb _ _ within)
 
       -- the file of cells is damaged
       pub cells_damaged : (place : ℕ)
-          → sheet_in choice.format (skipping choice.format (unit_changed (last_of choice.base held)) (files choice.image)) ≡ Err place
+          → sheet_in choice.format
+          (skipping choice.format (unit_changed (last_of choice.base held)) (files choice.image)) ≡ Err place
           → found_in files ≡ Err (Damaged choice.image place)
-      cells_damaged place is = cells_on ∙ ap (found_done choice held (stash_in choice files) (last_of choice.base held)) is
+      cells_damaged place is =
+          cells_on ∙ ap (found_done choice held (stash_in choice files) (last_of choice.base held)) is
 
       -- what the last entry leaves may not stand in its unit
       pub unplaced_found : (sheet : Sheet)
-          → sheet_in choice.format (skipping choice.format (unit_changed (last_of choice.base held)) (files choice.image)) ≡ Ok sheet
-          → is_placed (unit_changed (last_of choice.base held)) (left_by (last_of choice.base held).entry.op) sheet.cells ≡ false
+          → sheet_in choice.format
+          (skipping choice.format (unit_changed (last_of choice.base held)) (files choice.image)) ≡ Ok sheet
+          → is_placed (unit_changed (last_of choice.base held))
+          (left_by (last_of choice.base held).entry.op) sheet.cells ≡ false
           → found_in files ≡ Err (Damaged choice.log (last_place choice (last_of choice.base held)))
       unplaced_found sheet is none =
           let last = last_of choice.base held in

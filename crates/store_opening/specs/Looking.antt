@@ -65,7 +65,8 @@ pub record IsHeadOf (choice : Choice) (log : Journal) (files : Files) : Type 0 w
 
 -- ---- the cells
 
--- These cells are those that were read, with the last entry's unit passed over, and what the entry leaves may stand in it.
+-- These cells are those that were read, with the last entry's unit passed over, and what the entry leaves may stand in
+-- it.
 pub record IsFitting (choice : Choice) (last : Logged) (s : Scanned) (cells : List Cell) : Type 0 where
   pub file_is : s.cells.file ≡ choice.image
   pub format_is : s.cells.format ≡ choice.format
@@ -105,8 +106,8 @@ pub record IsLeft (format cell : ℕ) (left : Cell) (w : UnitWrite) : Type 0 whe
 abbrev pub last_again : Again → Logged
 last_again a = last_read a.parts.control a.parts.log
 
--- The index leads to these cells, of which the last entry's unit is free, and the rows are those that there are once the
--- entry is done again.
+-- The index leads to these cells, of which the last entry's unit is free, and the rows are those that there are once
+-- the entry is done again.
 pub record IsAgain (a : Again) (cells : List Cell) : Type 0 where
   pub chosen : HasChosen (kept_of a.parts)
   pub files : HasFiles a.parts.control
@@ -121,7 +122,8 @@ pub record IsAgain (a : Again) (cells : List Cell) : Type 0 where
 -- the files hold these cells, with the last entry's unit passed over
 abbrev pub IsLooked : Again → List Cell → Files → Type 0
 IsLooked a cells files =
-    IsLookedAt a.parts.control a.parts.log.held (last_again a) (record { realm = a.parts.realm; cells = cells }) a.parts.stash files
+    IsLookedAt a.parts.control a.parts.log.held (last_again a)
+    (record { realm = a.parts.realm; cells = cells }) a.parts.stash files
 
 -- What was read of the files, and what is to be written.
 pub record AreLooked (told : Type 0) (a : Again) (files : Files) : Type 0 where

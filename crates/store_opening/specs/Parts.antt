@@ -13,10 +13,20 @@ use Rattle.store_opening.specs.Made.{Making, made_choice}
 
 -- what is kept of them
 abbrev pub kept_of : Parts → Kept
-kept_of p = record { control = p.control; log = p.log; cells = p.cells; rows = p.rows; realm = p.realm; stash = p.stash; broken = false }
+kept_of p = record {
+  control = p.control;
+  log = p.log;
+  cells = p.cells;
+  rows = p.rows;
+  realm = p.realm;
+  stash = p.stash;
+  broken = false;
+}
 
--- What is to be written is a file of these rows, the first of the files of cells, and a log that begins at this point, the first of the logs.
-pub record IsToBeMade (m : Making) (control : Choice) (image : NewCells) (log : Journal) (stash : Option (List ℕ)) : Type 0 where
+-- What is to be written is a file of these rows, the first of the files of cells, and a log that begins at this point,
+-- the first of the logs.
+pub record IsToBeMade (m : Making) (control : Choice) (image : NewCells) (log : Journal)
+    (stash : Option (List ℕ)) : Type 0 where
   pub chosen : control ≡ made_choice m
   pub file : image.cells.file ≡ 1
   pub format_is : image.cells.format ≡ m.format
@@ -27,7 +37,15 @@ pub record IsToBeMade (m : Making) (control : Choice) (image : NewCells) (log : 
 
 -- What is kept of a database that was made so.
 abbrev pub kept_made : Making → CellFile → Kept
-kept_made m cells = record { control = made_choice m; log = begun 3 m.base m.size m.block; cells = cells; rows = m.rows; realm = m.realm; stash = m.stash; broken = false }
+kept_made m cells = record {
+  control = made_choice m;
+  log = begun 3 m.base m.size m.block;
+  cells = cells;
+  rows = m.rows;
+  realm = m.realm;
+  stash = m.stash;
+  broken = false;
+}
 
 -- The plan is to make a database of these rows, and to keep them.
 pub record IsPlan (m : Making) (plan : Plan) : Type 0 where

@@ -38,7 +38,8 @@ pub record IsHeld (unit : Option ℕ) (key : List ℕ) (u : Units) (n : ℕ) : T
   pub few : n < most_rows
 
 -- What the files hold, with the unit of the last entry passed over, in which what the entry leaves may stand.
-pub record IsLookedAt (choice : Choice) (held : List Logged) (last : Logged) (sheet : Sheet) (stash : Option (List ℕ)) (files : Files) : Type 0 where
+pub record IsLookedAt (choice : Choice) (held : List Logged) (last : Logged) (sheet : Sheet) (stash : Option (List ℕ))
+    (files : Files) : Type 0 where
   pub force : in_force (files 0) ≡ Is choice
   pub log : log_in choice.format choice.base choice.size choice.block (files choice.log) ≡ Ok held
   pub last_is : last_of choice.base held ≡ last
@@ -49,15 +50,23 @@ pub record IsLookedAt (choice : Choice) (held : List Logged) (last : Logged) (sh
 
 -- what is found of them: the entry is done again
 abbrev pub found_again : Choice → List Logged → Logged → Sheet → Option (List ℕ) → Found
-found_again choice held last sheet stash = record { control = choice; held = held; sheet = record { realm = sheet.realm; cells = redone last sheet.cells }; stash = stash }
+found_again choice held last sheet stash = record {
+  control = choice;
+  held = held;
+  sheet = record { realm = sheet.realm; cells = redone last sheet.cells };
+  stash = stash;
+}
 
 -- ---- the rows with what the last entry leaves
 
 -- A row may join these: it has a spelling, its key is that of none of its kind, and there are not too many.
 abbrev pub MayJoin : Cell → List Principal → List Rules → Type 0
 MayJoin None princs policies = Unit {0}
-MayJoin (Some (Princ p)) princs policies = IsRow p × AllByRecursion (λ k. bytes_eq p.name k ≡ false) (princ_keys princs) × (length princs + length policies < most_rows)
-MayJoin (Some (Policy p)) princs policies = IsPolicy p × AllByRecursion (λ k. bytes_eq p.name k ≡ false) (policy_keys policies) × (length princs + length policies < most_rows)
+MayJoin (Some (Princ p)) princs policies = IsRow p × AllByRecursion (λ k. bytes_eq p.name k ≡ false) (princ_keys princs)
+    × (length princs + length policies < most_rows)
+MayJoin (Some (Policy p)) princs policies =
+    IsPolicy p × AllByRecursion (λ k. bytes_eq p.name k ≡ false) (policy_keys policies)
+    × (length princs + length policies < most_rows)
 
 -- The unit is free, or is to be. Where there is no unit, nothing is left.
 abbrev pub MayHold : Option ℕ → Cell → List Cell → Type 0

@@ -1,5 +1,6 @@
 //! A database made anew.
-ghost use Rattle.std.specs.Prelude.{◌≡◌, ◌≢◌, ◌≤◌, ◌&&◌, ◌||◌, true, nat_le, nat_eq, ℕ, Err, IfOk, IfErr, OnOk, option_map};
+ghost use Rattle.std.specs.Prelude.{◌≡◌, ◌≢◌, ◌≤◌, ◌&&◌, ◌||◌, true, nat_le};
+ghost use Rattle.std.specs.Prelude.{nat_eq, ℕ, Err, IfOk, IfErr, OnOk, option_map};
 ghost use Rattle.std.specs.List.{All};
 ghost use Rattle.kdb_base.specs.declared.outcomes.Halt.TheVariants.{MemoryOut as IsMemoryOut, DiskFault as IsDiskFault};
 ghost use Rattle.kdb_base.specs.declared.outcomes.Refusal.{Refusal as Refuses};
@@ -59,7 +60,16 @@ fn first_control(format: u16, base: &Point, size: u32, block: u32, stash: Option
     requires format { is_format format ≡ true }
     requires size { nat_le 2 size && nat_le size 10000 ≡ true }
     requires block { nat_le 2048 block && nat_le block 16384 ≡ true }
-    ensures value { result ≡ record { format = format; turn = 0; image = 1; log = 3; stash = first_stash (option_map (λ s. s.now) stash.entry); size = size; block = block; base = base.now } }
+    ensures value { result ≡ record {
+      format = format;
+      turn = 0;
+      image = 1;
+      log = 3;
+      stash = first_stash (option_map (λ s. s.now) stash.entry);
+      size = size;
+      block = block;
+      base = base.now;
+    } }
 {
     Control {
         format,
@@ -106,7 +116,15 @@ fn plan_files(
     requires size { nat_le 2 size && nat_le size 10000 ≡ true }
     requires block { nat_le 2048 block && nat_le block 16384 ≡ true }
     requires rows { All (IsRowOf format) rows.princs }
-    ensures { IfOk result (λ plan. IsPlan (record { format = format; realm = realm.now; rows = rows; base = base; size = size; block = block; stash = option_map (λ s. s.now) stash.entry }) plan) }
+    ensures { IfOk result (λ plan. IsPlan (record {
+      format = format;
+      realm = realm.now;
+      rows = rows;
+      base = base;
+      size = size;
+      block = block;
+      stash = option_map (λ s. s.now) stash.entry;
+    }) plan) }
 {
     holds_rows(&rows);
     let control = first_control(format, &base, size, block, stash);
@@ -135,13 +153,19 @@ fn make_settled<D: Disk>(
     requires made { (m : Making) × IsToBeMade m control.now image.old log.now (option_map (λ s. s.now) stash) }
     requires settled { D.tells → IsSettled (D.view disk.old) }
     ensures answer { D.tells → AnswersMade result (in_force ((D.view disk.old).seen 0)) }
-    ensures holds { D.tells → (m : Making) → IsToBeMade m control.now image.old log.now (option_map (λ s. s.now) stash.entry) → OnOk result (Holds (made_found m) (D.view disk.new)) }
-    ensures moments { D.tells → (m : Making) → IsToBeMade m control.now image.old log.now (option_map (λ s. s.now) stash.entry) → LeavesOnly (D.view disk.old) (D.view disk.new) (Creates (D.view disk.old) (place_of (made_found m))) }
+    ensures holds { D.tells
+        → (m : Making) → IsToBeMade m control.now image.old log.now (option_map (λ s. s.now) stash.entry)
+        → OnOk result (Holds (made_found m) (D.view disk.new)) }
+    ensures moments { D.tells → (m : Making)
+        → IsToBeMade m control.now image.old log.now (option_map (λ s. s.now) stash.entry)
+        → LeavesOnly (D.view disk.old) (D.view disk.new) (Creates (D.view disk.old) (place_of (made_found m))) }
     ensures image { D.tells → OnOk result (HasFile 1 image.old.content (D.view disk.new)) }
     ensures log { D.tells → OnOk result (HasLog log.now (D.view disk.new)) }
     ensures durable { D.tells → OnOk result (IsDurable 3 (D.view disk.new)) }
-    ensures refused { D.tells → (refusal : Refuses) → result ≡ Err (Refused refusal) → Keeps (D.view disk.old) (D.view disk.new) }
-    ensures there { D.tells → in_force ((D.view disk.old).seen 0) ≢ Nothing → Keeps (D.view disk.old) (D.view disk.new) }
+    ensures refused { D.tells → (refusal : Refuses) → result ≡ Err (Refused refusal)
+        → Keeps (D.view disk.old) (D.view disk.new) }
+    ensures there { D.tells → in_force ((D.view disk.old).seen 0) ≢ Nothing
+        → Keeps (D.view disk.old) (D.view disk.new) }
     ensures memory { result ≡ Err (Halts IsMemoryOut) → ⊥ }
     ensures stays { image.new ≡ image.old }
     ensures call { IsCall D.Disk disk.old disk.new (result ≡ Err (Halts IsDiskFault)) }
@@ -166,13 +190,19 @@ fn make_files<D: Disk>(
 ) -> Result<(), Stop>
     requires made { (m : Making) × IsToBeMade m control.now image.old log.now (option_map (λ s. s.now) stash) }
     ensures answer { D.tells → AnswersMade result (in_force ((D.view disk.old).seen 0)) }
-    ensures holds { D.tells → (m : Making) → IsToBeMade m control.now image.old log.now (option_map (λ s. s.now) stash.entry) → OnOk result (Holds (made_found m) (D.view disk.new)) }
-    ensures moments { D.tells → (m : Making) → IsToBeMade m control.now image.old log.now (option_map (λ s. s.now) stash.entry) → LeavesOnly (D.view disk.old) (D.view disk.new) (Creates (D.view disk.old) (place_of (made_found m))) }
+    ensures holds { D.tells
+        → (m : Making) → IsToBeMade m control.now image.old log.now (option_map (λ s. s.now) stash.entry)
+        → OnOk result (Holds (made_found m) (D.view disk.new)) }
+    ensures moments { D.tells → (m : Making)
+        → IsToBeMade m control.now image.old log.now (option_map (λ s. s.now) stash.entry)
+        → LeavesOnly (D.view disk.old) (D.view disk.new) (Creates (D.view disk.old) (place_of (made_found m))) }
     ensures image { D.tells → OnOk result (HasFile 1 image.old.content (D.view disk.new)) }
     ensures log { D.tells → OnOk result (HasLog log.now (D.view disk.new)) }
     ensures durable { D.tells → OnOk result (IsDurable 3 (D.view disk.new)) }
-    ensures refused { D.tells → (refusal : Refuses) → result ≡ Err (Refused refusal) → Keeps (D.view disk.old) (D.view disk.new) }
-    ensures there { D.tells → in_force ((D.view disk.old).seen 0) ≢ Nothing → Keeps (D.view disk.old) (D.view disk.new) }
+    ensures refused { D.tells → (refusal : Refuses) → result ≡ Err (Refused refusal)
+        → Keeps (D.view disk.old) (D.view disk.new) }
+    ensures there { D.tells → in_force ((D.view disk.old).seen 0) ≢ Nothing
+        → Keeps (D.view disk.old) (D.view disk.new) }
     ensures memory { result ≡ Err (Halts IsMemoryOut) → ⊥ }
     ensures stays { image.new ≡ image.old }
     ensures call { IsCall D.Disk disk.old disk.new (result ≡ Err (Halts IsDiskFault)) }
@@ -188,11 +218,15 @@ fn make_plan<D: Disk>(disk: &mut D, plan: Plan, stash: Option<&[u8]>) -> Result<
     requires plan { (m : Making) × (IsPlan m plan × (m.stash ≡ option_map (λ s. s.now) stash)) }
     ensures answer { D.tells → AnswersMade result (in_force ((D.view disk.old).seen 0)) }
     ensures kept { (m : Making) → IsPlan m plan → IfOk result (λ p. kept_of p ≡ kept_made m plan.image.cells) }
-    ensures on { D.tells → (m : Making) → IsPlan m plan → m.stash ≡ option_map (λ s. s.now) stash.entry → OnOk result (IsOnDisk (kept_made m plan.image.cells) (D.view disk.new)) }
+    ensures on { D.tells → (m : Making) → IsPlan m plan → m.stash ≡ option_map (λ s. s.now) stash.entry
+        → OnOk result (IsOnDisk (kept_made m plan.image.cells) (D.view disk.new)) }
     ensures written { D.tells → OnOk result (HasFile 1 plan.image.content (D.view disk.new)) }
-    ensures moments { D.tells → (m : Making) → IsPlan m plan → m.stash ≡ option_map (λ s. s.now) stash.entry → LeavesOnly (D.view disk.old) (D.view disk.new) (Creates (D.view disk.old) (place_of (made_found m))) }
-    ensures refused { D.tells → (refusal : Refuses) → result ≡ Err (Refused refusal) → Keeps (D.view disk.old) (D.view disk.new) }
-    ensures there { D.tells → in_force ((D.view disk.old).seen 0) ≢ Nothing → Keeps (D.view disk.old) (D.view disk.new) }
+    ensures moments { D.tells → (m : Making) → IsPlan m plan → m.stash ≡ option_map (λ s. s.now) stash.entry
+        → LeavesOnly (D.view disk.old) (D.view disk.new) (Creates (D.view disk.old) (place_of (made_found m))) }
+    ensures refused { D.tells → (refusal : Refuses) → result ≡ Err (Refused refusal)
+        → Keeps (D.view disk.old) (D.view disk.new) }
+    ensures there { D.tells → in_force ((D.view disk.old).seen 0) ≢ Nothing
+        → Keeps (D.view disk.old) (D.view disk.new) }
     ensures memory { result ≡ Err (Halts IsMemoryOut) → ⊥ }
     ensures call { IsCall D.Disk disk.old disk.new (result ≡ Err (Halts IsDiskFault)) }
 {
@@ -235,16 +269,21 @@ pub fn create_parts<D: Disk>(
     // in format 1 rows are shorter, and have no string attributes
     requires rows { All (IsRowOf format) rows.princs }
     ensures answer { D.tells → AnswersMade result (in_force ((D.view disk.old).seen 0)) }
-    ensures place { IfOk result (λ p. place_kept (kept_of p) ≡ created realm.now rows base size block (option_map (λ s. s.now) stash.entry) format) }
+    ensures place { IfOk result (λ p.
+        place_kept (kept_of p) ≡ created realm.now rows base size block (option_map (λ s. s.now) stash.entry) format) }
     // The files are the first of each kind, and so is the turn of the slot.
-    ensures control { IfOk result (λ p. p.control ≡ first_choice format (first_stash (option_map (λ s. s.now) stash.entry)) base size block) }
+    ensures control { IfOk result
+        (λ p. p.control ≡ first_choice format (first_stash (option_map (λ s. s.now) stash.entry)) base size block) }
     ensures kept { IfOk result (λ p. IsKept (kept_of p)) }
     ensures on { D.tells → IfOk result (λ p. IsOnDisk (kept_of p) (D.view disk.new)) }
     // The rows stand one behind the other from the first unit on, in their order, whatever a crash leaves.
     ensures written { D.tells → OnOk result (HasFile 1 (file_text format realm.now base rows) (D.view disk.new)) }
-    ensures moments { D.tells → LeavesOnly (D.view disk.old) (D.view disk.new) (Creates (D.view disk.old) (created realm.now rows base size block (option_map (λ s. s.now) stash.entry) format)) }
-    ensures refused { D.tells → (refusal : Refuses) → result ≡ Err (Refused refusal) → Keeps (D.view disk.old) (D.view disk.new) }
-    ensures there { D.tells → in_force ((D.view disk.old).seen 0) ≢ Nothing → Keeps (D.view disk.old) (D.view disk.new) }
+    ensures moments { D.tells → LeavesOnly (D.view disk.old) (D.view disk.new) (Creates (D.view disk.old)
+        (created realm.now rows base size block (option_map (λ s. s.now) stash.entry) format)) }
+    ensures refused { D.tells → (refusal : Refuses) → result ≡ Err (Refused refusal)
+        → Keeps (D.view disk.old) (D.view disk.new) }
+    ensures there { D.tells → in_force ((D.view disk.old).seen 0) ≢ Nothing
+        → Keeps (D.view disk.old) (D.view disk.new) }
     ensures memory { result ≡ Err (Halts IsMemoryOut) → disk.new ≡ disk.old }
     ensures call { IsCall D.Disk disk.old disk.new (result ≡ Err (Halts IsDiskFault)) }
 {

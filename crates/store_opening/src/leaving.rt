@@ -24,7 +24,8 @@ use std::alloc::Global;
 fn princ_write(alloc: Global, cell: u32, princ: &Princ) -> Result<UnitWrite, MemoryOut>
     requires row { IsRow princ.now }
     requires some { 1 ≤ cell }
-    ensures { (format : ℕ) → IsRowOf format princ.now → IfOk result (λ w. IsLeft format cell (Some (stored.Princ princ.now)) w) }
+    ensures { (format : ℕ) → IsRowOf format princ.now
+        → IfOk result (λ w. IsLeft format cell (Some (stored.Princ princ.now)) w) }
 {
     let row = encode(alloc, princ)?;
     let key = Blob::from_bytes(alloc, princ.name.as_slice())?;
@@ -47,7 +48,8 @@ fn policy_write(alloc: Global, cell: u32, policy: &Policy) -> Result<UnitWrite, 
 fn op_write(alloc: Global, cell: u32, op: &Op) -> Result<UnitWrite, MemoryOut>
     requires op { IsOp (Some op.now) }
     requires some { 1 ≤ cell }
-    ensures { (format : ℕ) → IsCell format (cell_after op.now) → IfOk result (λ w. IsLeft format cell (cell_after op.now) w) }
+    ensures { (format : ℕ) → IsCell format (cell_after op.now)
+        → IfOk result (λ w. IsLeft format cell (cell_after op.now) w) }
 {
     match op {
         Op::PutPrinc(princ) => princ_write(alloc, cell, princ),
@@ -62,7 +64,8 @@ fn op_write(alloc: Global, cell: u32, op: &Op) -> Result<UnitWrite, MemoryOut>
 pub(crate) fn left_write(alloc: Global, entry: &Entry, cell: u32) -> Result<UnitWrite, MemoryOut>
     requires op { IsOp entry.now.op }
     requires none { cell ≡ 0 → left_by entry.now.op ≡ None }
-    ensures { (format : ℕ) → IsCell format (left_by entry.now.op) → IfOk result (λ w. IsLeft format cell (left_by entry.now.op) w) }
+    ensures { (format : ℕ) → IsCell format (left_by entry.now.op)
+        → IfOk result (λ w. IsLeft format cell (left_by entry.now.op) w) }
 {
     if cell == 0 {
         return Ok(UnitWrite::Nothing);

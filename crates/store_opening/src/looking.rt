@@ -15,8 +15,10 @@ ghost use Rattle.update_log.specs.Slots.{slot_of};
 ghost use Rattle.kdb_cells.specs.Cells.{Cell};
 ghost use Rattle.kdb_cells.specs.CellFiles.{units};
 ghost use Rattle.kdb_cells.specs.Scanning.{IsDamage};
-ghost use Rattle.store_files.specs.Found.{unit_numbered as unit_of_number, unit_changed, left_by, is_placed as is_placed_in, last_place, found_in};
-ghost use Rattle.store_opening.specs.Looking.{last_read, IsHeaded, IsHeadOf, IsFitting, AreCells, AreFitting, sheet_read, IsAgain, IsLooked, AreLooked, StopsOpening};
+ghost use Rattle.store_files.specs.Found.{unit_numbered as unit_of_number, unit_changed, left_by};
+ghost use Rattle.store_files.specs.Found.{is_placed as is_placed_in, last_place, found_in};
+ghost use Rattle.store_opening.specs.Looking.{last_read, IsHeaded, IsHeadOf, IsFitting, AreCells, AreFitting};
+ghost use Rattle.store_opening.specs.Looking.{sheet_read, IsAgain, IsLooked, AreLooked, StopsOpening};
 ghost use Rattle.store_opening.specs.Redoing.{AreUnits, IsLookedAt};
 
 use crate::leaving::left_write;
@@ -117,7 +119,8 @@ fn last_slot(control: &Control, log: &Log) -> u32
 #[tactic(auto, unfolding(kdb_control::specs::Choice::in_ranges))]
 fn last_damaged(control: &Control, log: &Log) -> Stop
     requires { IsHeaded control.now log.now }
-    ensures value { result ≡ Refused (IsDamagedAt control.now.log (last_place control.now (last_read control.now log.now))) }
+    ensures value { result
+        ≡ Refused (IsDamagedAt control.now.log (last_place control.now (last_read control.now log.now))) }
     ensures damage { IsDamage result }
 {
     Stop::Refused(Refusal::Damaged {
@@ -137,8 +140,10 @@ fn scan_cells<D: Disk>(
     requires headed { IsHeaded control.now log.now }
     ensures file { IfOk result (λ s. s.cells.file ≡ control.now.image) }
     ensures format { IfOk result (λ s. s.cells.format ≡ control.now.format) }
-    ensures cells { IfOk result (λ s. AreCells D.tells control.now (last_read control.now log.now) s (D.view disk.old).seen) }
-    ensures refused { D.tells → IsHeadOf control.now log.now (D.view disk.old).seen → (r : Refuses) → result ≡ Err (Refused r) → found_in (D.view disk.old).seen ≡ Err r }
+    ensures cells { IfOk result
+        (λ s. AreCells D.tells control.now (last_read control.now log.now) s (D.view disk.old).seen) }
+    ensures refused { D.tells → IsHeadOf control.now log.now (D.view disk.old).seen → (r : Refuses)
+        → result ≡ Err (Refused r) → found_in (D.view disk.old).seen ≡ Err r }
     ensures damage { IfErr result IsDamage }
     ensures keeps { D.tells → Keeps (D.view disk.old) (D.view disk.new) }
     ensures call { IsCall D.Disk disk.old disk.new (result ≡ Err (Halts IsDiskFault)) }
@@ -171,8 +176,11 @@ fn is_given(cells: &Cells, unit: Option<u32>) -> bool
 fn is_fitting(control: &Control, log: &Log, cells: &Cells) -> bool
     requires headed { IsHeaded control.now log.now }
     ensures given { result ≡ true → (units cells.now).placed ≡ unit_changed (last_read control.now log.now) }
-    ensures placed { (all : List Cell) → AreUnits control.now.format cells.now all → result ≡ true → is_placed_in (unit_changed (last_read control.now log.now)) (left_by (last_read control.now log.now).entry.op) all ≡ true }
-    ensures unplaced { (all : List Cell) → AreUnits control.now.format cells.now all → (units cells.now).placed ≡ unit_changed (last_read control.now log.now) → result ≡ false → is_placed_in (unit_changed (last_read control.now log.now)) (left_by (last_read control.now log.now).entry.op) all ≡ false }
+    ensures placed { (all : List Cell) → AreUnits control.now.format cells.now all → result ≡ true → is_placed_in
+        (unit_changed (last_read control.now log.now)) (left_by (last_read control.now log.now).entry.op) all ≡ true }
+    ensures unplaced { (all : List Cell) → AreUnits control.now.format cells.now all
+        → (units cells.now).placed ≡ unit_changed (last_read control.now log.now) → result ≡ false → is_placed_in
+        (unit_changed (last_read control.now log.now)) (left_by (last_read control.now log.now).entry.op) all ≡ false }
 {
     let unit = last_unit(control, log);
     if !is_given(cells, unit) {
@@ -189,8 +197,10 @@ fn read_cells<D: Disk>(
     log: &Log,
 ) -> Result<Scanned, Stop>
     requires headed { IsHeaded control.now log.now }
-    ensures cells { IfOk result (λ s. AreFitting D.tells control.now (last_read control.now log.now) s (D.view disk.old).seen) }
-    ensures refused { D.tells → IsHeadOf control.now log.now (D.view disk.old).seen → (r : Refuses) → result ≡ Err (Refused r) → found_in (D.view disk.old).seen ≡ Err r }
+    ensures cells { IfOk result
+        (λ s. AreFitting D.tells control.now (last_read control.now log.now) s (D.view disk.old).seen) }
+    ensures refused { D.tells → IsHeadOf control.now log.now (D.view disk.old).seen → (r : Refuses)
+        → result ≡ Err (Refused r) → found_in (D.view disk.old).seen ≡ Err r }
     ensures damage { IfErr result IsDamage }
     ensures keeps { D.tells → Keeps (D.view disk.old) (D.view disk.new) }
     ensures call { IsCall D.Disk disk.old disk.new (result ≡ Err (Halts IsDiskFault)) }
@@ -215,8 +225,11 @@ fn plan_again(
 ) -> Result<Again, MemoryOut>
     requires headed { IsHeaded control log }
     requires fitting { (cells : List Cell) × IsFitting control (last_read control log) scanned cells }
-    ensures again { (cells : List Cell) → IsFitting control (last_read control log) scanned cells → IfOk result (λ a. IsAgain a cells) }
-    ensures looked { (cells : List Cell) (files : Files) → IsLookedAt control log.held (last_read control log) (sheet_read scanned cells) stash files → IfOk result (λ a. IsLooked a cells files) }
+    ensures again { (cells : List Cell) → IsFitting control (last_read control log) scanned cells
+        → IfOk result (λ a. IsAgain a cells) }
+    ensures looked { (cells : List Cell) (files : Files)
+        → IsLookedAt control log.held (last_read control log) (sheet_read scanned cells) stash files
+        → IfOk result (λ a. IsLooked a cells files) }
     ensures log { IfOk result (λ a. a.parts.log ≡ log) }
 {
     let Scanned {

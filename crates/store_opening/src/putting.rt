@@ -24,7 +24,8 @@ pub(crate) const FIRST_STASH: u8 = 5;
 fn write_stash<D: Disk>(disk: &mut D, stash: Option<&[u8]>) -> Result<(), DiskFailed>
     requires { D.tells → HasInForce Nothing (D.view disk.old) }
     ensures quiet { D.tells → IsQuiet (D.view disk.old) (D.view disk.new) }
-    ensures stash { D.tells → (choice : Choice) → choice.stash ≡ first_stash (option_map (λ s. s.now) stash.entry) → OnOk result (HasStash choice (option_map (λ s. s.now) stash.entry) (D.view disk.new)) }
+    ensures stash { D.tells → (choice : Choice) → choice.stash ≡ first_stash (option_map (λ s. s.now) stash.entry)
+        → OnOk result (HasStash choice (option_map (λ s. s.now) stash.entry) (D.view disk.new)) }
     ensures call { IsCall D.Disk disk.old disk.new (IsErr result) }
 {
     match stash {
@@ -45,8 +46,12 @@ pub(crate) fn put_first<D: Disk>(
 ) -> Result<(), DiskFailed>
     requires made { (m : Making) × IsToBeMade m control.now image.old log.now (option_map (λ s. s.now) stash) }
     requires nothing { D.tells → HasInForce Nothing (D.view disk.old) }
-    ensures moments { D.tells → (m : Making) → IsToBeMade m control.now image.old log.now (option_map (λ s. s.now) stash.entry) → LeavesOnly (D.view disk.old) (D.view disk.new) (FindsMade (made_found m)) }
-    ensures holds { D.tells → (m : Making) → IsToBeMade m control.now image.old log.now (option_map (λ s. s.now) stash.entry) → OnOk result (Holds (made_found m) (D.view disk.new)) }
+    ensures moments { D.tells → (m : Making)
+        → IsToBeMade m control.now image.old log.now (option_map (λ s. s.now) stash.entry)
+        → LeavesOnly (D.view disk.old) (D.view disk.new) (FindsMade (made_found m)) }
+    ensures holds { D.tells
+        → (m : Making) → IsToBeMade m control.now image.old log.now (option_map (λ s. s.now) stash.entry)
+        → OnOk result (Holds (made_found m) (D.view disk.new)) }
     ensures image { D.tells → OnOk result (HasFile 1 image.old.content (D.view disk.new)) }
     ensures log { D.tells → OnOk result (HasLog log.now (D.view disk.new)) }
     ensures durable { D.tells → OnOk result (IsDurable 3 (D.view disk.new)) }

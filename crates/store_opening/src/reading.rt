@@ -128,7 +128,8 @@ pub(crate) fn may_have_unit<D: Disk>(
     control: &Control,
     cell: u32,
 ) -> Result<bool, DiskFailed>
-    ensures value { D.tells → IfOk result (λ within. within ≡ nat_le cell (count_of control.now.format ((D.view disk.old).seen control.now.image))) }
+    ensures value { D.tells → IfOk result
+        (λ within. within ≡ nat_le cell (count_of control.now.format ((D.view disk.old).seen control.now.image))) }
     ensures keeps { D.tells → Keeps (D.view disk.old) (D.view disk.new) }
     ensures call { IsCall D.Disk disk.old disk.new (IsErr result) }
 {

@@ -48,7 +48,8 @@ fn recover_settled<D: Disk>(alloc: Global, disk: &mut D) -> Result<Parts, Stop>
     ensures kept { IfOk result (λ p. IsKept (kept_of p)) }
     ensures on { D.tells → IfOk result (λ p. IsOnDisk (kept_of p) (D.view disk.new)) }
     ensures moments { D.tells → LeavesOnly (D.view disk.old) (D.view disk.new) (IsLike (D.view disk.old)) }
-    ensures refused_keeps { D.tells → (r : Refuses) → result ≡ Err (Refused r) → Keeps (D.view disk.old) (D.view disk.new) }
+    ensures refused_keeps { D.tells → (r : Refuses) → result ≡ Err (Refused r)
+        → Keeps (D.view disk.old) (D.view disk.new) }
     ensures memory_keeps { D.tells → result ≡ Err (Halts IsMemoryOut) → Keeps (D.view disk.old) (D.view disk.new) }
     ensures refused_settled { D.tells → (r : Refuses) → result ≡ Err (Refused r) → IsSettled (D.view disk.new) }
     ensures call { IsCall D.Disk disk.old disk.new (result ≡ Err (Halts IsDiskFault)) }
@@ -77,7 +78,8 @@ pub fn recover_parts<D: Disk>(alloc: Global, disk: &mut D) -> Result<Parts, Stop
     ensures kept { IfOk result (λ p. IsKept (kept_of p)) }
     ensures on { D.tells → IfOk result (λ p. IsOnDisk (kept_of p) (D.view disk.new)) }
     ensures moments { D.tells → LeavesOnly (D.view disk.old) (D.view disk.new) (IsLike (D.view disk.old)) }
-    ensures refused_keeps { D.tells → (r : Refuses) → result ≡ Err (Refused r) → Keeps (D.view disk.old) (D.view disk.new) }
+    ensures refused_keeps { D.tells → (r : Refuses) → result ≡ Err (Refused r)
+        → Keeps (D.view disk.old) (D.view disk.new) }
     ensures memory_keeps { D.tells → result ≡ Err (Halts IsMemoryOut) → Keeps (D.view disk.old) (D.view disk.new) }
     ensures refused_settled { D.tells → (r : Refuses) → result ≡ Err (Refused r) → IsSettled (D.view disk.new) }
     ensures call { IsCall D.Disk disk.old disk.new (result ≡ Err (Halts IsDiskFault)) }

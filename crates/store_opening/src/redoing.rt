@@ -30,7 +30,8 @@ fn has_place(cells: &Cells, unit: Option<u32>, key: &[u8]) -> bool
 
 // Whether what the change leaves may stand in its unit.
 fn may_stand(cells: &Cells, unit: Option<u32>, op: &Op) -> bool
-    ensures { (format : ℕ) (all : List Cell) → AreUnits format cells.now all → IsCell format (cell_after op.now) → result ≡ is_placed_in unit (cell_after op.now) all }
+    ensures { (format : ℕ) (all : List Cell) → AreUnits format cells.now all → IsCell format (cell_after op.now)
+        → result ≡ is_placed_in unit (cell_after op.now) all }
 {
     match op {
         Op::PutPrinc(princ) => has_place(cells, unit, princ.name.as_slice()),
@@ -44,7 +45,8 @@ fn may_stand(cells: &Cells, unit: Option<u32>, op: &Op) -> bool
 /// Whether what the last entry leaves may stand in its unit, beside the cells of the other units: a row
 /// has a unit, its key is that of no other row, and there are not too many.
 pub fn is_placed(cells: &Cells, unit: Option<u32>, op: &Option<Op>) -> bool
-    ensures { (format : ℕ) (all : List Cell) → AreUnits format cells.now all → IsCell format (left_by op.now) → result ≡ is_placed_in unit (left_by op.now) all }
+    ensures { (format : ℕ) (all : List Cell) → AreUnits format cells.now all → IsCell format (left_by op.now)
+        → result ≡ is_placed_in unit (left_by op.now) all }
 {
     match op {
         Some(op) => may_stand(cells, unit, op),
@@ -117,7 +119,9 @@ pub fn rows_after(
 ) -> Result<Rows, MemoryOut>
     requires apart { AreApart princs.items policies.items }
     requires joins { MayJoin (left_by op.now) princs.items policies.items }
-    ensures { (unit : Option ℕ) (all : List Cell) → MayHold unit (left_by op.now) all → princs.items ≡ princs_of all → policies.items ≡ policies_of all → IfOk result (λ rows. rows ≡ rows_of (with_unit unit (left_by op.now) all)) }
+    ensures { (unit : Option ℕ) (all : List Cell)
+        → MayHold unit (left_by op.now) all → princs.items ≡ princs_of all → policies.items ≡ policies_of all
+        → IfOk result (λ rows. rows ≡ rows_of (with_unit unit (left_by op.now) all)) }
 {
     let mut princs = princs;
     let mut policies = policies;

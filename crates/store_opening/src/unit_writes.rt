@@ -9,7 +9,8 @@ ghost use Rattle.kdb_cells.specs.CellFiles.{units, count};
 ghost use Rattle.kdb_cells.specs.FileCells.{AreCellsOf, IsFileOf};
 ghost use Rattle.kdb_cells.specs.Sheets.{Sheet, taken};
 ghost use Rattle.store_files.specs.Found.{unit_numbered, with_unit};
-ghost use Rattle.store_opening.specs.Writes.{number_of, WritesIn, IsGivenTo, MayWrite, IsWritten, HoldsCells, changed_sheet};
+ghost use Rattle.store_opening.specs.Writes.{number_of, WritesIn, IsGivenTo, MayWrite};
+ghost use Rattle.store_opening.specs.Writes.{IsWritten, HoldsCells, changed_sheet};
 
 use kdb_base::Blob;
 use kdb_cells::Cells;
@@ -50,14 +51,23 @@ pub fn write_unit<D: Disk>(
     requires writes { (c : Cell) × WritesIn cells.old.format write c }
     requires given { IsGivenTo write cells.old }
     requires may { MayWrite write cells.old }
-    requires within { D.tells → number_of write * unit_size cells.old.format ≤ length ((D.view disk.old).seen cells.old.file) }
-    ensures crash { D.tells → LeavesTorn cells.old.file (number_of write * unit_size cells.old.format) (unit_size cells.old.format) (D.view disk.old) (D.view disk.new) }
-    ensures written { D.tells → number_of write ≢ 0 → OnOk result (IsWritten cells.old.file (number_of write * unit_size cells.old.format) (D.view disk.old) (D.view disk.new)) }
-    ensures stands { D.tells → (c : Cell) → WritesIn cells.old.format write c → number_of write ≢ 0 → OnOk result (Stands cells.old.file (number_of write * unit_size cells.old.format) (unit_text cells.old.format c) (D.view disk.old) (D.view disk.new)) }
+    requires within { D.tells
+        → number_of write * unit_size cells.old.format ≤ length ((D.view disk.old).seen cells.old.file) }
+    ensures crash { D.tells → LeavesTorn cells.old.file (number_of write * unit_size cells.old.format)
+        (unit_size cells.old.format) (D.view disk.old) (D.view disk.new) }
+    ensures written { D.tells → number_of write ≢ 0 → OnOk result
+        (IsWritten cells.old.file (number_of write * unit_size cells.old.format) (D.view disk.old) (D.view disk.new)) }
+    ensures stands { D.tells → (c : Cell) → WritesIn cells.old.format write c
+        → number_of write ≢ 0 → OnOk result (Stands cells.old.file (number_of write * unit_size cells.old.format)
+        (unit_text cells.old.format c) (D.view disk.old) (D.view disk.new)) }
     ensures nothing { number_of write ≡ 0 → disk.new ≡ disk.old }
-    ensures file { D.tells → (c : Cell) (sheet : Sheet) → WritesIn cells.old.format write c → IsFileOf cells.old sheet ((D.view disk.old).seen cells.old.file) → OnOk result (IsFileOf cells.new (changed_sheet (number_of write) c sheet) ((D.view disk.new).seen cells.old.file)) }
+    ensures file { D.tells → (c : Cell) (sheet : Sheet) → WritesIn cells.old.format write c
+        → IsFileOf cells.old sheet ((D.view disk.old).seen cells.old.file) → OnOk result
+        (IsFileOf cells.new (changed_sheet (number_of write) c sheet) ((D.view disk.new).seen cells.old.file)) }
     // The index leads to the cell that was written, whatever the disk tells.
-    ensures leads { (c : Cell) (held : List Cell) → WritesIn cells.old.format write c → HoldsCells cells.old held → number_of write ≤ length held → OnOk result (HoldsCells cells.new (with_unit (unit_numbered (number_of write)) c held)) }
+    ensures leads { (c : Cell) (held : List Cell)
+        → WritesIn cells.old.format write c → HoldsCells cells.old held → number_of write ≤ length held
+        → OnOk result (HoldsCells cells.new (with_unit (unit_numbered (number_of write)) c held)) }
     ensures err { OnErr result (cells.new ≡ cells.old) }
     ensures number { cells.new.file ≡ cells.old.file }
     ensures same_format { cells.new.format ≡ cells.old.format }

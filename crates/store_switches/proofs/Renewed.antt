@@ -25,12 +25,14 @@ use Rattle.store_files.proofs.Committing.{log_reads}
 use Rattle.store_files.proofs.Placed.{place_is}
 use Rattle.store_switches.specs.Switched.{IsUnder}
 use Rattle.store_switches.specs.Renewed.{renewed_choice, after_renewal, place_renewed, renewed, IsRenewal, HasRows}
-use Rattle.store_switches.proofs.Switched.{Switches, other_file, spare_run, spare_placed, placed_run, holds_next, force_kept, log_after, durable_after, turned, stash_spare as spare_at}
+use Rattle.store_switches.proofs.Switched.{Switches, other_file, spare_run, spare_placed, placed_run, holds_next}
+use Rattle.store_switches.proofs.Switched.{force_kept, log_after, durable_after, turned, stash_spare as spare_at}
 
 -- ---- what would stand
 
 renewed_would : (o : Found) (c : Files) (image log : ℕ) (base : Point) (size block : ℕ) (sheet : Sheet) → Would o c
-    → HoldsIn base size block (marker_of base ∷ []) (c log) → sheet_in 2 (c image) ≡ Ok sheet → Would (after_renewal image log base size block sheet o) c
+    → HoldsIn base size block (marker_of base ∷ []) (c log) → sheet_in 2 (c image) ≡ Ok sheet
+    → Would (after_renewal image log base size block sheet o) c
 unfolding stash_in
 renewed_would o c image log base size block sheet would holds read = record {
   log = log_reads 2 base size block (marker_of base ∷ []) (c log) refl holds;
@@ -40,20 +42,25 @@ renewed_would o c image log base size block sheet would holds read = record {
 
 -- ---- the run, where the choices are those of what is kept
 
-run_in : {old new : View} {a b : ℕ} → a ≡ b → LeavesOnly old new (IsAfter (Differs a) old) → LeavesOnly old new (IsAfter (Differs b) old)
+run_in : {old new : View} {a b : ℕ} → a ≡ b → LeavesOnly old new (IsAfter (Differs a) old)
+    → LeavesOnly old new (IsAfter (Differs b) old)
 run_in {old} {new} is run = subst (λ (f : ℕ). LeavesOnly old new (IsAfter (Differs f) old)) is run
 
 -- all stands while the spare file of cells is written
-stands_still : {old mid : View} (k : Kept) (on : IsOnDisk k old) (image : ℕ) → IsSpareFor k.control image → LeavesOnly old mid (IsAfter (Differs image) old)
+stands_still : {old mid : View} (k : Kept) (on : IsOnDisk k old) (image : ℕ) → IsSpareFor k.control image
+    → LeavesOnly old mid (IsAfter (Differs image) old)
     → (c : Files) → mid.images c → StandsOnDisk (found_with k on.cells) c
-stands_still k on image spare run c now = at_end (spare_run (found_with k on.cells) image spare on.stands.each run) c now
+stands_still k on image spare run c now =
+    at_end (spare_run (found_with k on.cells) image spare on.stands.each run) c now
 
-renewal_switches : {old mid late new : View} (k : Kept) (on : IsOnDisk k old) (image log : ℕ) (base : Point) (size block : ℕ) (sheet : Sheet)
+renewal_switches : {old mid late new : View} (k : Kept) (on : IsOnDisk k old) (image log : ℕ) (base : Point)
+    (size block : ℕ) (sheet : Sheet)
     → IsSpareFor k.control image → IsSpareFor k.control log → log ≢ image → 0 < size
     → LeavesOnly old mid (IsAfter (Differs image) old) → ((c : Files) → mid.images c → sheet_in 2 (c image) ≡ Ok sheet)
     → LeavesOnly mid late (IsAfter (Differs log) mid) → HasLog (begun log base size block) late
     → LeavesOnly late new (LeavesEither (Is k.control) (Is (renewed_choice image log base size block k.control)) late)
-    → Switches (found_with k on.cells) (after_renewal image log base size block sheet (found_with k on.cells)) log mid late new
+    → Switches (found_with k on.cells) (after_renewal image log base size block sheet (found_with k on.cells))
+    log mid late new
 renewal_switches k on image log base size block sheet spare spare_log apart some run reads more has switch = record {
   done = on.stands.done;
   next_done = refl;
@@ -69,24 +76,30 @@ renewal_switches k on image log base size block sheet spare spare_log apart some
   stands = stands_still k on image spare run;
   would = λ c now would.
       let from = at_end more c now in
-      renewed_would (found_with k on.cells) c image log base size block sheet would (has.each c now) (ap (sheet_in 2) (other_file (turned apart) from) ∙ reads from.before from.was);
+      renewed_would (found_with k on.cells) c image log base size block sheet would (has.each c now)
+      (ap (sheet_in 2) (other_file (turned apart) from) ∙ reads from.before from.was);
   run = more;
   switch = switch;
 }
 
-on_renewed : {old mid late new : View} (k : Kept) (on : IsOnDisk k old) (log : ℕ) (base : Point) (size block : ℕ) (realm : List ℕ) (rows : RowLists) (image : NewCells)
+on_renewed : {old mid late new : View} (k : Kept) (on : IsOnDisk k old) (log : ℕ) (base : Point) (size block : ℕ)
+    (realm : List ℕ) (rows : RowLists) (image : NewCells)
     → HasRows realm rows image
-    → Switches (found_with k on.cells) (after_renewal image.cells.file log base size block (sheet_for realm rows) (found_with k on.cells)) log mid late new
-    → mid.seen image.cells.file ≡ image.content → HasLog (begun log base size block) late → IsDurable log late → ReadsOthers log mid late
+    → Switches (found_with k on.cells)
+    (after_renewal image.cells.file log base size block (sheet_for realm rows) (found_with k on.cells)) log mid late new
+    → mid.seen image.cells.file ≡ image.content → HasLog (begun log base size block) late → IsDurable log late
+    → ReadsOthers log mid late
     → IsInForce (Is (renewed_choice image.cells.file log base size block k.control)) late new
-    → IsOnDisk (renewed (renewed_choice image.cells.file log base size block k.control) (begun log base size block) image.cells realm rows k) new
+    → IsOnDisk (renewed (renewed_choice image.cells.file log base size block k.control)
+    (begun log base size block) image.cells realm rows k) new
 on_renewed k on log base size block realm rows image rows_in is content has durable others set =
     let file = image.cells.file in
     let files = is.next_files in
     record {
       cells = (sheet_for realm rows).cells;
       rows = rows_kept realm rows rows_in.sound;
-      file = subst (IsFileOf image.cells (sheet_for realm rows)) (sym (set.others file files.image ∙ others file (turned files.apart) ∙ content)) rows_in.cells;
+      file = subst (IsFileOf image.cells (sheet_for realm rows))
+          (sym (set.others file files.image ∙ others file (turned files.apart) ∙ content)) rows_in.cells;
       stands = holds_next is set;
       log = log_after (begun log base size block) files.log is.switch has;
       durable = durable_after log files.log is.switch set durable;
@@ -112,65 +125,90 @@ pub record IsRenewed (now next : Choice) (image : NewCells) (log : Journal) (old
 log_file : {now next : Choice} {image : NewCells} {log : Journal} → IsToRenew now next image log → log.file ≡ next.log
 log_file to = ap (λ (j : Journal). j.file) to.log_is
 
-image_spare : {now next : Choice} {image : NewCells} {log : Journal} {old : View} (k : Kept) → IsUnder now k old → IsToRenew now next image log → IsSpareFor k.control image.cells.file
+image_spare : {now next : Choice} {image : NewCells} {log : Journal} {old : View} (k : Kept) → IsUnder now k old
+    → IsToRenew now next image log → IsSpareFor k.control image.cells.file
 image_spare {next = next} {image = image} k under to =
     subst (λ (f : ℕ). IsSpareFor k.control f) (sym to.file_is) (spare_at next.image k under to.renewal.image)
 
-choice_at : {now next : Choice} {image : NewCells} {log : Journal} {old : View} (k : Kept) → IsUnder now k old → IsToRenew now next image log
+choice_at : {now next : Choice} {image : NewCells} {log : Journal} {old : View} (k : Kept) → IsUnder now k old
+    → IsToRenew now next image log
     → next ≡ renewed_choice image.cells.file next.log next.base next.size next.block k.control
 choice_at {next = next} {image = image} k under to =
     to.renewal.next_is
     ∙ ap (λ (c : Choice). renewed_choice next.image next.log next.base next.size next.block c) (sym under.control_is)
     ∙ ap (λ (f : ℕ). renewed_choice f next.log next.base next.size next.block k.control) (sym to.file_is)
 
-pub image_begins : {now next : Choice} {image : NewCells} {log : Journal} {old mid : View} (k : Kept) (realm : List ℕ) (rows : RowLists) → IsUnder now k old
+pub image_begins : {now next : Choice} {image : NewCells} {log : Journal} {old mid : View} (k : Kept) (realm : List ℕ)
+    (rows : RowLists) → IsUnder now k old
     → IsToRenew now next image log → LeavesOnly old mid (IsAfter (Differs image.cells.file) old)
-    → LeavesOnly old mid (LeavesPart (place_kept k) (place_renewed next.base next.size next.block realm rows (place_kept k) ∷ []))
+    → LeavesOnly old mid
+    (LeavesPart (place_kept k) (place_renewed next.base next.size next.block realm rows (place_kept k) ∷ []))
 image_begins {next = next} {image = image} k realm rows under to run =
-    spare_placed (place_renewed next.base next.size next.block realm rows (place_kept k)) (found_with k under.on.cells) image.cells.file under.on.stands.done (image_spare k under to) under.on.stands.each
+    spare_placed (place_renewed next.base next.size next.block realm rows (place_kept k))
+    (found_with k under.on.cells) image.cells.file under.on.stands.done (image_spare k under to) under.on.stands.each
     (place_is k under.on.cells under.on.rows) run
 
-pub log_begins : {now next : Choice} {image : NewCells} {log : Journal} {old mid late : View} (k : Kept) (realm : List ℕ) (rows : RowLists) → IsUnder now k old
-    → IsToRenew now next image log → LeavesOnly old mid (IsAfter (Differs image.cells.file) old) → LeavesOnly mid late (IsAfter (Differs log.file) mid)
-    → LeavesOnly old late (LeavesPart (place_kept k) (place_renewed next.base next.size next.block realm rows (place_kept k) ∷ []))
+pub log_begins : {now next : Choice} {image : NewCells} {log : Journal} {old mid late : View} (k : Kept)
+    (realm : List ℕ) (rows : RowLists) → IsUnder now k old
+    → IsToRenew now next image log → LeavesOnly old mid (IsAfter (Differs image.cells.file) old)
+    → LeavesOnly mid late (IsAfter (Differs log.file) mid)
+    → LeavesOnly old late
+    (LeavesPart (place_kept k) (place_renewed next.base next.size next.block realm rows (place_kept k) ∷ []))
 log_begins {next = next} {image = image} k realm rows under to run more =
     let after = place_renewed next.base next.size next.block realm rows (place_kept k) in
     let stands = stands_still k under.on image.cells.file (image_spare k under to) run in
     then_on (image_begins k realm rows under to run)
-    (spare_placed after (found_with k under.on.cells) next.log under.on.stands.done (spare_at next.log k under to.renewal.log) stands (place_is k under.on.cells under.on.rows) (run_in (log_file to) more))
+    (spare_placed after (found_with k under.on.cells) next.log under.on.stands.done
+    (spare_at next.log k under to.renewal.log) stands (place_is k under.on.cells under.on.rows)
+    (run_in (log_file to) more))
     (λ c part. part)
 
-pub renewal_force : {now next : Choice} {image : NewCells} {log : Journal} {old mid late : View} → IsToRenew now next image log → HasInForce (Is now) old
-    → LeavesOnly old mid (IsAfter (Differs image.cells.file) old) → LeavesOnly mid late (IsAfter (Differs log.file) mid) → HasInForce (Is now) late
+pub renewal_force : {now next : Choice} {image : NewCells} {log : Journal} {old mid late : View}
+    → IsToRenew now next image log → HasInForce (Is now) old
+    → LeavesOnly old mid (IsAfter (Differs image.cells.file) old) → LeavesOnly mid late (IsAfter (Differs log.file) mid)
+    → HasInForce (Is now) late
 renewal_force {now} {next} to has run more =
-    force_kept now next.log to.renewal.log.control (force_kept now next.image to.renewal.image.control has (run_in to.file_is run)) (run_in (log_file to) more)
+    force_kept now next.log to.renewal.log.control
+    (force_kept now next.image to.renewal.image.control has (run_in to.file_is run)) (run_in (log_file to) more)
 
-run_switches : {now next : Choice} {image : NewCells} {log : Journal} {old mid late new : View} (k : Kept) (realm : List ℕ) (rows : RowLists) (under : IsUnder now k old)
+run_switches : {now next : Choice} {image : NewCells} {log : Journal} {old mid late new : View} (k : Kept)
+    (realm : List ℕ) (rows : RowLists) (under : IsUnder now k old)
     → HasRows realm rows image → IsRenewed now next image log old mid late new
-    → Switches (found_with k under.on.cells) (after_renewal image.cells.file next.log next.base next.size next.block (sheet_for realm rows) (found_with k under.on.cells)) next.log mid late new
+    → Switches (found_with k under.on.cells) (after_renewal image.cells.file next.log next.base next.size next.block
+    (sheet_for realm rows) (found_with k under.on.cells)) next.log mid late new
 run_switches {now} {next} {image} {log} {old} {mid} {late} {new} k realm rows under rows_in is =
     let to = is.to in
-    let by_now : LeavesOnly late new (LeavesEither (Is k.control) (Is next) late) = subst (λ (c : Choice). LeavesOnly late new (LeavesEither (Is c) (Is next) late)) (sym under.control_is) is.switch in
-    renewal_switches k under.on image.cells.file next.log next.base next.size next.block (sheet_for realm rows) (image_spare k under to) (spare_at next.log k under to.renewal.log)
+    let by_now : LeavesOnly late new (LeavesEither (Is k.control) (Is next) late) =
+    subst (λ (c : Choice). LeavesOnly late new (LeavesEither (Is c) (Is next) late)) (sym under.control_is) is.switch in
+    renewal_switches k under.on image.cells.file next.log next.base next.size next.block (sheet_for realm rows)
+    (image_spare k under to) (spare_at next.log k under to.renewal.log)
     (λ e. to.renewal.apart (e ∙ to.file_is)) to.renewal.some is.image_run
-    (λ c now. ap (sheet_in 2) (is.written.durable c now) ∙ ap (λ (f : ℕ). sheet_in f image.content) (sym rows_in.format_is) ∙ rows_in.cells.read)
+    (λ c now. ap (sheet_in 2) (is.written.durable c now)
+    ∙ ap (λ (f : ℕ). sheet_in f image.content) (sym rows_in.format_is) ∙ rows_in.cells.read)
     (run_in (log_file to) is.log_run) (subst (λ (j : Journal). HasLog j late) to.log_is is.has)
-    (subst (λ (c : Choice). LeavesOnly late new (LeavesEither (Is k.control) (Is c) late)) (choice_at k under to) by_now)
+    (subst (λ (c : Choice). LeavesOnly late new (LeavesEither (Is k.control) (Is c) late))
+    (choice_at k under to) by_now)
 
-pub renewal_leaves : {now next : Choice} {image : NewCells} {log : Journal} {old mid late new : View} (k : Kept) (realm : List ℕ) (rows : RowLists) → IsUnder now k old
+pub renewal_leaves : {now next : Choice} {image : NewCells} {log : Journal} {old mid late new : View} (k : Kept)
+    (realm : List ℕ) (rows : RowLists) → IsUnder now k old
     → HasRows realm rows image → IsRenewed now next image log old mid late new
-    → LeavesOnly old new (LeavesPart (place_kept k) (place_renewed next.base next.size next.block realm rows (place_kept k) ∷ []))
+    → LeavesOnly old new
+    (LeavesPart (place_kept k) (place_renewed next.base next.size next.block realm rows (place_kept k) ∷ []))
 renewal_leaves {next = next} k realm rows under rows_in is =
     let place = place_renewed next.base next.size next.block realm in
     then_on (image_begins k realm rows under is.to is.image_run)
-    (placed_run (run_switches k realm rows under rows_in is) (place_is k under.on.cells under.on.rows) (ap (λ (r : RowLists). place r (place_kept k)) (rows_kept realm rows rows_in.sound)))
+    (placed_run (run_switches k realm rows under rows_in is) (place_is k under.on.cells under.on.rows)
+    (ap (λ (r : RowLists). place r (place_kept k)) (rows_kept realm rows rows_in.sound)))
     (λ c part. part)
 
 content_read : {file : ℕ} {content : List ℕ} {old mid : View} → Replaced file content old mid → mid.seen file ≡ content
-content_read {file} {content} {old} written = ap (λ (files : Files). files file) written.seen ∙ with_file-same file content old.seen
+content_read {file} {content} {old} written =
+    ap (λ (files : Files). files file) written.seen ∙ with_file-same file content old.seen
 
-pub renewal_on : {now next : Choice} {image : NewCells} {log : Journal} {old mid late new : View} (k : Kept) (realm : List ℕ) (rows : RowLists) → IsUnder now k old
-    → HasRows realm rows image → IsRenewed now next image log old mid late new → IsDurable log.file late → ReadsOthers log.file mid late → IsInForce (Is next) late new
+pub renewal_on : {now next : Choice} {image : NewCells} {log : Journal} {old mid late new : View} (k : Kept)
+    (realm : List ℕ) (rows : RowLists) → IsUnder now k old
+    → HasRows realm rows image → IsRenewed now next image log old mid late new → IsDurable log.file late
+    → ReadsOthers log.file mid late → IsInForce (Is next) late new
     → IsOnDisk (renewed next log image.cells realm rows k) new
 renewal_on {now} {next} {image} {log} {old} {mid} {late} {new} k realm rows under rows_in is durable others set =
     let to = is.to in
@@ -178,7 +216,8 @@ renewal_on {now} {next} {image} {log} {old} {mid} {late} {new} k realm rows unde
     let next_is = choice_at k under to in
     let choice = renewed_choice image.cells.file next.log next.base next.size next.block k.control in
     let made : IsOnDisk (renewed choice (begun next.log next.base next.size next.block) image.cells realm rows k) new =
-    on_renewed k under.on next.log next.base next.size next.block realm rows image rows_in (run_switches k realm rows under rows_in is) (content_read is.written)
+    on_renewed k under.on next.log next.base next.size next.block realm rows image rows_in
+    (run_switches k realm rows under rows_in is) (content_read is.written)
     (subst (λ (j : Journal). HasLog j late) to.log_is is.has)
     (subst (λ (f : ℕ). IsDurable f late) file durable)
     (subst (λ (f : ℕ). ReadsOthers f mid late) file others)
@@ -187,8 +226,10 @@ renewal_on {now} {next} {image} {log} {old} {mid} {late} {new} k realm rows unde
     (subst (λ (j : Journal). IsOnDisk (renewed choice j image.cells realm rows k) new) (sym to.log_is) made)
 
 -- the file of cells then reads as it was written
-pub image_stays : {now next : Choice} {image : NewCells} {log : Journal} {old mid late new : View} → IsToRenew now next image log
-    → Replaced image.cells.file image.content old mid → ReadsOthers log.file mid late → IsInForce (Is next) late new → new.seen next.image ≡ image.content
+pub image_stays : {now next : Choice} {image : NewCells} {log : Journal} {old mid late new : View}
+    → IsToRenew now next image log
+    → Replaced image.cells.file image.content old mid → ReadsOthers log.file mid late → IsInForce (Is next) late new
+    → new.seen next.image ≡ image.content
 image_stays {next = next} {image = image} {log = log} {mid = mid} {late = late} to written others set =
     set.others next.image to.renewal.image.control
     ∙ subst (λ (f : ℕ). ReadsOthers f mid late) (log_file to) others next.image (turned to.renewal.apart)

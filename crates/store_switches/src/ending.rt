@@ -56,8 +56,10 @@ fn end_synced<D: Disk>(disk: &mut D) -> Result<(), Stop>
     ensures none { D.tells → OnOk result (RecoversToNone (D.view disk.new)) }
     ensures empty { D.tells → OnOk result ((g : ℕ) → 1 ≤ g → g ≤ 6 → (D.view disk.new).seen g ≡ []) }
     ensures crash { IsCrashSafe D.Disk disk.old disk.new (Destroys (D.view disk.old)) }
-    ensures refused { D.tells → (refusal : Refuses) → result ≡ Err (Refused refusal) → Keeps (D.view disk.old) (D.view disk.new) }
-    ensures unchosen { D.tells → (IsChosen (in_force ((D.view disk.old).seen 0)) → ⊥) → Keeps (D.view disk.old) (D.view disk.new) }
+    ensures refused { D.tells → (refusal : Refuses) → result ≡ Err (Refused refusal)
+        → Keeps (D.view disk.old) (D.view disk.new) }
+    ensures unchosen { D.tells → (IsChosen (in_force ((D.view disk.old).seen 0)) → ⊥)
+        → Keeps (D.view disk.old) (D.view disk.new) }
     ensures memory { result ≡ Err (Halts MemoryOut) → ⊥ }
     ensures call { IsCall D.Disk disk.old disk.new (result ≡ Err (Halts DiskFault)) }
 {
@@ -81,8 +83,10 @@ pub fn destroy_files<D: Disk>(disk: &mut D) -> Result<(), Stop>
     ensures none { D.tells → OnOk result (RecoversToNone (D.view disk.new)) }
     ensures empty { D.tells → OnOk result ((g : ℕ) → 1 ≤ g → g ≤ 6 → (D.view disk.new).seen g ≡ []) }
     ensures crash { IsCrashSafe D.Disk disk.old disk.new (Destroys (D.view disk.old)) }
-    ensures refused { D.tells → (refusal : Refuses) → result ≡ Err (Refused refusal) → Keeps (D.view disk.old) (D.view disk.new) }
-    ensures unchosen { D.tells → (IsChosen (in_force ((D.view disk.old).seen 0)) → ⊥) → Keeps (D.view disk.old) (D.view disk.new) }
+    ensures refused { D.tells → (refusal : Refuses) → result ≡ Err (Refused refusal)
+        → Keeps (D.view disk.old) (D.view disk.new) }
+    ensures unchosen { D.tells → (IsChosen (in_force ((D.view disk.old).seen 0)) → ⊥)
+        → Keeps (D.view disk.old) (D.view disk.new) }
     ensures memory { result ≡ Err (Halts MemoryOut) → ⊥ }
     ensures call { IsCall D.Disk disk.old disk.new (result ≡ Err (Halts DiskFault)) }
 {

@@ -69,9 +69,12 @@ pub fn renew_files<D: Disk>(
     requires next { IsRenewal now.now next.now }
     requires image { image.old.cells.file ≡ next.now.image }
     requires log { log.now ≡ begun next.now.log next.now.base next.now.size next.now.block }
-    ensures crash { D.tells → (k : Kept) → (realm : List ℕ) → (rows : RowLists) → IsUnder now.now k (D.view disk.old) → HasRows realm rows image.old
-        → LeavesOnly (D.view disk.old) (D.view disk.new) (LeavesPart (place_kept k) (place_renewed next.now.base next.now.size next.now.block realm rows (place_kept k) ∷ [])) }
-    ensures on { D.tells → (k : Kept) → (realm : List ℕ) → (rows : RowLists) → IsUnder now.now k (D.view disk.old) → HasRows realm rows image.old
+    ensures crash { D.tells → (k : Kept) → (realm : List ℕ) → (rows : RowLists) → IsUnder now.now k (D.view disk.old)
+        → HasRows realm rows image.old
+        → LeavesOnly (D.view disk.old) (D.view disk.new) (LeavesPart (place_kept k)
+        (place_renewed next.now.base next.now.size next.now.block realm rows (place_kept k) ∷ [])) }
+    ensures on { D.tells → (k : Kept) → (realm : List ℕ) → (rows : RowLists) → IsUnder now.now k (D.view disk.old)
+        → HasRows realm rows image.old
         → OnOk result (IsOnDisk (renewed next.now log.now image.old.cells realm rows k) (D.view disk.new)) }
     ensures written { D.tells → OnOk result ((D.view disk.new).seen next.now.image ≡ image.old.content) }
     ensures stays { image.new ≡ image.old }

@@ -33,9 +33,13 @@ pub fn reset_files<D: Disk>(
     requires spare { IsSpareFor now.now next.now.log }
     requires size { 0 < next.now.size }
     requires log { log.now ≡ begun next.now.log next.now.base next.now.size next.now.block }
-    ensures crash { D.tells → (k : Kept) → IsUnder now.now k (D.view disk.old) → LeavesOnly (D.view disk.old) (D.view disk.new) (LeavesPart (place_kept k) (log_anew next.now.base next.now.size next.now.block (place_kept k) ∷ [])) }
-    ensures on { D.tells → (k : Kept) → IsUnder now.now k (D.view disk.old) → OnOk result (IsOnDisk (with_log next.now log.now k) (D.view disk.new)) }
-    ensures others { D.tells → OnOk result ((g : ℕ) → g ≢ 0 → g ≢ next.now.log → (D.view disk.new).seen g ≡ (D.view disk.old).seen g) }
+    ensures crash { D.tells → (k : Kept)
+        → IsUnder now.now k (D.view disk.old) → LeavesOnly (D.view disk.old) (D.view disk.new)
+        (LeavesPart (place_kept k) (log_anew next.now.base next.now.size next.now.block (place_kept k) ∷ [])) }
+    ensures on { D.tells → (k : Kept) → IsUnder now.now k (D.view disk.old)
+        → OnOk result (IsOnDisk (with_log next.now log.now k) (D.view disk.new)) }
+    ensures others { D.tells
+        → OnOk result ((g : ℕ) → g ≢ 0 → g ≢ next.now.log → (D.view disk.new).seen g ≡ (D.view disk.old).seen g) }
     ensures call { IsCall D.Disk disk.old disk.new (IsErr result) }
 {
     log.write(disk)?;
@@ -56,8 +60,10 @@ pub fn restash_files<D: Disk>(
     requires next { next.now ≡ stash_choice next.now.stash now.now }
     requires spare { IsSpareFor now.now next.now.stash }
     requires file { next.now.stash < 7 }
-    ensures crash { D.tells → (k : Kept) → IsUnder now.now k (D.view disk.old) → LeavesOnly (D.view disk.old) (D.view disk.new) (LeavesPart (place_kept k) (restashed bytes.now (place_kept k) ∷ [])) }
-    ensures on { D.tells → (k : Kept) → IsUnder now.now k (D.view disk.old) → OnOk result (IsOnDisk (with_stash next.now bytes.now k) (D.view disk.new)) }
+    ensures crash { D.tells → (k : Kept) → IsUnder now.now k (D.view disk.old) → LeavesOnly (D.view disk.old)
+        (D.view disk.new) (LeavesPart (place_kept k) (restashed bytes.now (place_kept k) ∷ [])) }
+    ensures on { D.tells → (k : Kept) → IsUnder now.now k (D.view disk.old)
+        → OnOk result (IsOnDisk (with_stash next.now bytes.now k) (D.view disk.new)) }
     ensures call { IsCall D.Disk disk.old disk.new (IsErr result) }
 {
     replace_file(disk, stash_file(next), bytes)?;

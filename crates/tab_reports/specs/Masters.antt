@@ -1,5 +1,6 @@
 -- The report of master keys: the versions of K/M's record.
-use Rattle.std.specs.Prelude.{ℕ, Bool, nat_eq, nat_lt, List, [], ◌++◌, codes, reverse, Option, Some, None, if◌then◌else◌}
+use Rattle.std.specs.Prelude.{ℕ, Bool, nat_eq, nat_lt, List, [], ◌++◌, codes}
+use Rattle.std.specs.Prelude.{reverse, Option, Some, None, if◌then◌else◌}
 use Rattle.std.specs.Fmt.{decimal}
 use Rattle.std.specs.List.{find, flat_map}
 use Rattle.kadm_replies.specs.Texts.{etype_text}
@@ -22,7 +23,8 @@ moment_text (Some secs) = decimal secs
 abbrev pub yes_no : Bool → List ℕ
 yes_no active = if active then codes "yes" else codes "no"
 
--- why a version that protects so many principals serves at these seconds, where this is the newest one: the first cause that holds
+-- why a version that protects so many principals serves at these seconds, where this is the newest one: the first cause
+-- that holds
 unfoldable pub cause_word : ℕ → ℕ → List Activation → ℕ → ℕ → List ℕ
 cause_word count newest activations secs version =
     if nat_lt 0 count then codes "protects"
@@ -64,7 +66,8 @@ versions_text g keys = flat_map (master_line g) (reverse keys)
 -- K/M names the newest version
 abbrev pub chain_text : List Princ → ℕ → Princ → Option ChainPart → List ℕ
 chain_text princs secs p None = []
-chain_text princs secs p (Some chain) = versions_text (record { princs = princs; activations = chain.activations; newest = p.mkvno; secs = secs }) p.keys
+chain_text princs secs p (Some chain) =
+    versions_text (record { princs = princs; activations = chain.activations; newest = p.mkvno; secs = secs }) p.keys
 
 abbrev pub record_text : List Princ → ℕ → Option Princ → List ℕ
 record_text princs secs None = []

@@ -12,7 +12,8 @@ pub record AreCounted (users : List ℕ) (policies : List Rules) (princs : List 
 -- one more beside the policy that the principal names
 pub record IsNoted (p : Princ) (policies : List Rules) (old new : List ℕ) : Type 0 where
   pub long : length new ≡ length old
-  pub each : (j : ℕ) (d : Rules) → j < length policies → get_or new j 0 ≡ get_or old j 0 + (if names_policy (get_or policies j d).name p then 1 else 0)
+  pub each : (j : ℕ) (d : Rules) → j < length policies
+      → get_or new j 0 ≡ get_or old j 0 + (if names_policy (get_or policies j d).name p then 1 else 0)
 
 -- the policy that the principal names, and the only one
 pub record IsNamed (p : Princ) (policies : List Rules) (at : ℕ) : Type 0 where

@@ -14,7 +14,8 @@ rules_front q = q.name ++ (tab ++ (decimal q.max_life ++ (tab ++ (decimal q.min_
 -- what it asks of passwords, and how many principals name it
 unfoldable pub rules_rest : ℕ → Rules → List ℕ
 rules_rest users q =
-    decimal q.min_length ++ (tab ++ (decimal q.min_classes ++ (tab ++ (decimal q.history ++ (tab ++ (decimal users ++ line_feed))))))
+    decimal q.min_length
+    ++ (tab ++ (decimal q.min_classes ++ (tab ++ (decimal q.history ++ (tab ++ (decimal users ++ line_feed))))))
 
 abbrev pub rules_line : ℕ → Rules → List ℕ
 rules_line users q = rules_front q ++ rules_rest users q

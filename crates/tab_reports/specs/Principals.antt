@@ -27,7 +27,8 @@ princ_front p =
     p.name ++ (tab ++ (attributes_text p.attributes ++ (tab ++ (decimal p.max_life ++ (tab ++ (decimal p.max_renew
     ++ (tab ++ (decimal p.expire ++ (tab ++ (decimal p.pw_expire ++ tab))))))))))
 
--- the policy, when and by whom it was changed last, the version of the master key, and how many string attributes it has
+-- the policy, when and by whom it was changed last, the version of the master key, and how many string attributes it
+-- has
 unfoldable pub princ_rest : Princ → List ℕ
 princ_rest p =
     policy_text p.policy ++ (tab ++ (decimal p.modified ++ (tab ++ (p.modifier ++ (tab ++ (decimal p.mkvno
@@ -37,7 +38,8 @@ abbrev pub princ_line : Princ → List ℕ
 princ_line p = princ_front p ++ princ_rest p
 
 unfoldable pub princs_header : List ℕ
-princs_header = codes "name\tattributes\tmaxlife\tmaxrenewlife\texpire\tpwexpire\tpolicy\tmodified\tmodifier\tmkvno\tstrings\n"
+princs_header =
+    codes "name\tattributes\tmaxlife\tmaxrenewlife\texpire\tpwexpire\tpolicy\tmodified\tmodifier\tmkvno\tstrings\n"
 
 unfoldable pub princs_text : List Princ → List ℕ
 princs_text princs = princs_header ++ flat_map princ_line princs

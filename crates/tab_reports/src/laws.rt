@@ -10,5 +10,6 @@ ghost use Rattle.tab_reports.specs.Masters.{cause_word};
 
 /// The cause that a report tells is that by which a purge keeps the version.
 pub fn causes_are_those_of_a_purge()
-    ensures { (count : ℕ) (masters : List Master) (activations : List Activation) (secs version : ℕ) → cause_word count (last_version masters) activations secs version ≡ word_of (cause_from count masters activations secs version) }
+    ensures { (count : ℕ) (masters : List Master) (activations : List Activation) (secs version : ℕ) → cause_word count
+        (last_version masters) activations secs version ≡ word_of (cause_from count masters activations secs version) }
 {}

@@ -4,7 +4,9 @@ ghost use Rattle.std.specs.Prelude.{◌≡◌, ◌++◌, IfOk, OnOk, find, nat_e
 ghost use Rattle.key_activation.specs.Activations.{activation_of};
 ghost use Rattle.serving_versions.specs.Versions.{is_active_at, is_pending};
 ghost use Rattle.tab_reports.specs.Counts.{is_under, protected_by};
-ghost use Rattle.tab_reports.specs.Masters.{cause_word, chain_text, ground_of, is_master_record, master_front, master_line, master_rest, masters_header, masters_text, moment_text, record_text, versions_text, yes_no};
+ghost use Rattle.tab_reports.specs.Masters.{cause_word, chain_text, ground_of, is_master_record};
+ghost use Rattle.tab_reports.specs.Masters.{master_front, master_line, master_rest, masters_header};
+ghost use Rattle.tab_reports.specs.Masters.{masters_text, moment_text, record_text, versions_text, yes_no};
 
 use kadm_replies::texts::{etype_text, push};
 use kdb_base::{Activation, Activations, Blob, MemoryOut};
@@ -228,7 +230,8 @@ fn push_record(
     princs: &[Boxed<Princ>],
     secs: u32,
 ) -> Result<(), MemoryOut>
-    ensures { OnOk result (out.new.items ≡ out.old.items ++ record_text princs.now secs (find is_master_record princs.now)) }
+    ensures { OnOk result
+        (out.new.items ≡ out.old.items ++ record_text princs.now secs (find is_master_record princs.now)) }
 {
     match master_record(princs) {
         Some(princ) => push_chain(alloc, out, princs, secs, princ),

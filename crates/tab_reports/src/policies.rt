@@ -3,7 +3,8 @@
 ghost use Rattle.std.specs.Prelude.{◌≡◌, ◌++◌, OnOk};
 ghost use Rattle.std.specs.List.{flat_map};
 ghost use Rattle.tab_reports.specs.Noting.{AreCounted};
-ghost use Rattle.tab_reports.specs.Policies.{policies_header, policies_text, policy_line, rules_front, rules_line, rules_rest};
+ghost use Rattle.tab_reports.specs.Policies.{policies_header, policies_text, policy_line};
+ghost use Rattle.tab_reports.specs.Policies.{rules_front, rules_line, rules_rest};
 
 use crate::counting::users_of_each;
 use kadm_replies::texts::push;

@@ -2,7 +2,8 @@
 
 ghost use Rattle.std.specs.Prelude.{◌≡◌, ◌++◌, IfOk, OnOk, map, string_bytes};
 ghost use Rattle.std.specs.List.{flat_map};
-ghost use Rattle.tab_reports.specs.Principals.{attributes_text, policy_text, princ_front, princ_line, princ_rest, princs_header, princs_text};
+ghost use Rattle.tab_reports.specs.Principals.{attributes_text, policy_text, princ_front};
+ghost use Rattle.tab_reports.specs.Principals.{princ_line, princ_rest, princs_header, princs_text};
 
 use kadm_replies::texts::push;
 use kdb_base::{Blob, MemoryOut};

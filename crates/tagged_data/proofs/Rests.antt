@@ -1,5 +1,6 @@
 -- Reading items to the end of the bytes, as a loop does.
-use Rattle.std.proofs.Common.{◌≡◌, ℕ, zero, suc, ◌+◌, ◌-◌, ◌<◌, ◌≤◌, List, [], ◌∷◌, ◌++◌, length, Option, Some, None, refl, sym, ap, ◌∙◌, append_assoc, arith}
+use Rattle.std.proofs.Common.{◌≡◌, ℕ, zero, suc, ◌+◌, ◌-◌, ◌<◌, ◌≤◌, List, [], ◌∷◌, ◌++◌, length}
+use Rattle.std.proofs.Common.{Option, Some, None, refl, sym, ap, ◌∙◌, append_assoc, arith}
 use Rattle.std.specs.Prelude.{option_map}
 use Rattle.std.proofs.lemmas.List.{append-nil}
 use Rattle.kdb_format.specs.Answers.{Refuses}
@@ -17,13 +18,16 @@ pub some_left : (bytes : List ℕ) → (bytes ≡ [] → ⊥) → 0 < length byt
 some_left [] h = absurd (h refl)
 some_left (b ∷ bytes) h = omega arith
 
-regroup : {A : Type 0} (front : List A) (x : A) (read : Option (List A)) → behind front (option_map (λ xs. x ∷ xs) read) ≡ behind (front ++ x ∷ []) read
+regroup : {A : Type 0} (front : List A) (x : A) (read : Option (List A))
+    → behind front (option_map (λ xs. x ∷ xs) read) ≡ behind (front ++ x ∷ []) read
 regroup {A = A} front x (Some xs) = ap (λ (ys : List A). Some ys) (simp append_assoc)
 regroup front x None = refl
 
 -- one more item
-pub more : {A : Type 0} (item : Reading A) (front : List A) (most i : ℕ) (bytes : List ℕ) (x : A) (after : List ℕ) (total : Option (List A)) → i < most → 0 < length bytes → item bytes ≡ Some (x, after)
-    → behind front (items_within item (most - i) bytes) ≡ total → behind (front ++ x ∷ []) (items_within item (most - (i + 1)) after) ≡ total
+pub more : {A : Type 0} (item : Reading A) (front : List A) (most i : ℕ) (bytes : List ℕ) (x : A) (after : List ℕ)
+    (total : Option (List A)) → i < most → 0 < length bytes → item bytes ≡ Some (x, after)
+    → behind front (items_within item (most - i) bytes) ≡ total
+    → behind (front ++ x ∷ []) (items_within item (most - (i + 1)) after) ≡ total
 more item front most i bytes x after total lt left h so_far =
     let k : most - i ≡ suc (most - (i + 1)) = omega arith in
     sym (regroup front x (items_within item (most - (i + 1)) after))
@@ -31,15 +35,18 @@ more item front most i bytes x after total lt left h so_far =
     ∙ ap (λ (n : ℕ). behind front (items_within item n bytes)) (sym k) ∙ so_far
 
 -- no item where one should stand
-pub refused : {A : Type 0} (e : FormatFault) (item : Reading A) (front : List A) (most i : ℕ) (bytes : List ℕ) (total : Option (List A)) → i < most → 0 < length bytes → Refuses e (item bytes)
+pub refused : {A : Type 0} (e : FormatFault) (item : Reading A) (front : List A) (most i : ℕ) (bytes : List ℕ)
+    (total : Option (List A)) → i < most → 0 < length bytes → Refuses e (item bytes)
     → behind front (items_within item (most - i) bytes) ≡ total → Refuses e total
 refused faults.MemoryOut item front most i bytes total lt left h so_far = tt
 refused faults.Malformed item front most i bytes total lt left h so_far =
     let k : most - i ≡ suc (most - (i + 1)) = omega arith in
-    sym so_far ∙ ap (λ (n : ℕ). behind front (items_within item n bytes)) k ∙ ap (behind front) (no_front_step item (most - (i + 1)) bytes left h)
+    sym so_far ∙ ap (λ (n : ℕ). behind front (items_within item n bytes)) k
+    ∙ ap (behind front) (no_front_step item (most - (i + 1)) bytes left h)
 
 -- the end
-pub done : {A : Type 0} (item : Reading A) (front : List A) (n : ℕ) (bytes : List ℕ) (total : Option (List A)) → bytes ≡ []
+pub done : {A : Type 0} (item : Reading A) (front : List A) (n : ℕ) (bytes : List ℕ) (total : Option (List A))
+    → bytes ≡ []
     → behind front (items_within item n bytes) ≡ total → total ≡ Some front
 unfolding items_within
 done {A = A} item front n bytes total e so_far =
@@ -50,7 +57,8 @@ done {A = A} item front n bytes total e so_far =
     none_left (suc n) = ap (λ (ys : List A). Some ys) (append-nil front)
 
 -- more bytes than items
-pub over : {A : Type 0} (item : Reading A) (front : List A) (most i : ℕ) (bytes : List ℕ) (total : Option (List A)) → most ≤ i → 0 < length bytes
+pub over : {A : Type 0} (item : Reading A) (front : List A) (most i : ℕ) (bytes : List ℕ) (total : Option (List A))
+    → most ≤ i → 0 < length bytes
     → behind front (items_within item (most - i) bytes) ≡ total → total ≡ None
 unfolding items_within
 over item front most i [] total le left so_far = absurd (omega arith)

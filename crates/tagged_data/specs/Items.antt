@@ -29,10 +29,12 @@ pub item_field : IsField item_at item IsItem
 unfolding item_at item
 item_field = same_field
     (first_field (checked_field is_kind (big_field 2)) (λ (i : TagItem). i.kind) (λ kind _.
-    last_field counted_field (λ (i : TagItem). i.bytes) (λ bytes. record { kind = kind; bytes = bytes }) (λ _ _. (refl, refl)) (λ i k. ap (λ (n : ℕ). record { kind = n; bytes = i.bytes }) (sym k))))
+    last_field counted_field (λ (i : TagItem). i.bytes) (λ bytes. record { kind = kind; bytes = bytes })
+    (λ _ _. (refl, refl)) (λ i k. ap (λ (n : ℕ). record { kind = n; bytes = i.bytes }) (sym k))))
     (λ i f. (refl, record { known = f.0.1; short = f.1 }))
     (λ i f. let small = kind_small i.kind f.known in ((omega arith, f.known), f.short))
 
 pub length-item : (i : TagItem) → length (item i) ≡ 4 + length i.bytes
 unfolding item
-length-item i = omega (arith, length-append (big 2 i.kind) (counted i.bytes), length-big 2 i.kind, length-counted i.bytes)
+length-item i =
+    omega (arith, length-append (big 2 i.kind) (counted i.bytes), length-big 2 i.kind, length-counted i.bytes)

@@ -14,11 +14,13 @@ is_less Less e = refl
 is_less Equal e = absurd cc
 is_less Greater e = absurd cc
 
-all_behind : (a b : List ℕ) (keys : List (List ℕ)) → key_cmp a b ≡ Less → AllByRecursion (λ k. key_cmp b k ≡ Less) keys → AllByRecursion (λ k. key_cmp a k ≡ Less) keys
+all_behind : (a b : List ℕ) (keys : List (List ℕ)) → key_cmp a b ≡ Less → AllByRecursion (λ k. key_cmp b k ≡ Less) keys
+    → AllByRecursion (λ k. key_cmp a k ≡ Less) keys
 all_behind a b [] lt h = tt
 all_behind a b (k ∷ keys) lt h = (nat_list_cmp_total.trans a b k lt h.0, all_behind a b keys lt h.1)
 
-in_order_behind : (last : List ℕ) (keys : List (List ℕ)) → rises_from (Some last) keys ≡ true → AllByRecursion (λ k. key_cmp last k ≡ Less) keys × AreInOrder keys
+in_order_behind : (last : List ℕ) (keys : List (List ℕ)) → rises_from (Some last) keys ≡ true
+    → AllByRecursion (λ k. key_cmp last k ≡ Less) keys × AreInOrder keys
 unfolding rises_from IsStrictlySortedBy
 in_order_behind last [] e = (tt, tt)
 in_order_behind last (k ∷ keys) e =
@@ -32,10 +34,12 @@ unfolding rises_from IsStrictlySortedBy
 in_order [] e = tt
 in_order (k ∷ keys) e = in_order_behind k keys e
 
-rises_behind : (last : List ℕ) (keys : List (List ℕ)) → AllByRecursion (λ k. key_cmp last k ≡ Less) keys → AreInOrder keys → rises_from (Some last) keys ≡ true
+rises_behind : (last : List ℕ) (keys : List (List ℕ)) → AllByRecursion (λ k. key_cmp last k ≡ Less) keys
+    → AreInOrder keys → rises_from (Some last) keys ≡ true
 unfolding rises_from IsStrictlySortedBy
 rises_behind last [] all h = refl
-rises_behind last (k ∷ keys) all h = and_from (is_lt (key_cmp last k)) (rises_from (Some k) keys) (ap is_lt all.0) (rises_behind k keys h.0 h.1)
+rises_behind last (k ∷ keys) all h =
+    and_from (is_lt (key_cmp last k)) (rises_from (Some k) keys) (ap is_lt all.0) (rises_behind k keys h.0 h.1)
 
 pub rises : (keys : List (List ℕ)) → AreInOrder keys → rises_from None keys ≡ true
 unfolding rises_from IsStrictlySortedBy

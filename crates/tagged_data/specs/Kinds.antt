@@ -4,8 +4,8 @@ use Rattle.std.specs.Prelude.{nat_eq}
 use Rattle.std.specs.List.{list_any, list_all}
 use Rattle.std.proofs.lemmas.Bool.{or_cases, and_parts, eqb-true, ltb-true}
 
--- every type: the last password change, the modifier, the master key's version, the activations, the auxiliary keys and the
--- string attributes
+-- every type: the last password change, the modifier, the master key's version, the activations, the auxiliary keys and
+-- the string attributes
 abbrev pub kinds : List ℕ
 kinds = 1 ∷ 2 ∷ 8 ∷ 9 ∷ 10 ∷ 11 ∷ []
 

@@ -40,7 +40,8 @@ small_kinds (i ∷ items) f = (kind_small i.kind f.0.known, small_kinds items f.
 
 pub few : (items : List TagItem) → IsTagged items → length items ≤ 100
 few items f =
-    let small = All-from_recursion (λ n. n < 100) (kinds_of items) (small_kinds items (recursion_from_All IsItem items f.items)) in
+    let small =
+    All-from_recursion (λ n. n < 100) (kinds_of items) (small_kinds items (recursion_from_All IsItem items f.items)) in
     omega (arith, length-le_from_below 100 (kinds_of items) f.rising small, length-map items (λ (i : TagItem). i.kind))
 
 pub tagged_field : IsField tagged_at tagged IsTagged

@@ -1,5 +1,6 @@
 -- Rising numbers, as a test.
-use Rattle.std.proofs.Common.{◌≡◌, ℕ, zero, suc, ◌+◌, ◌<◌, ◌≤◌, Bool, true, ◌&&◌, leb, List, [], ◌∷◌, length, refl, ap, arith}
+use Rattle.std.proofs.Common.{◌≡◌, ℕ, zero, suc, ◌+◌, ◌<◌, ◌≤◌, Bool, true, ◌&&◌}
+use Rattle.std.proofs.Common.{leb, List, [], ◌∷◌, length, refl, ap, arith}
 use Rattle.std.specs.Prelude.{nat_le, slice_index}
 use Rattle.std.specs.List.Sorted.{IsStrictlyIncreasing}
 use Rattle.std.proofs.lemmas.Bool.{and_parts, and_from, leb-true, le-leb}
@@ -26,10 +27,12 @@ increasing least (n ∷ m ∷ ns) e zero lt =
     omega arith
 increasing least (n ∷ m ∷ ns) e (suc k) lt =
     let p = and_parts (leb least n) (rising_from (n + 1) (m ∷ ns)) e in
-    let others : slice_index (m ∷ ns) k < slice_index (m ∷ ns) (k + 1) = increasing (n + 1) (m ∷ ns) p.1 k (omega arith) in
+    let others : slice_index (m ∷ ns) k < slice_index (m ∷ ns) (k + 1) =
+    increasing (n + 1) (m ∷ ns) p.1 k (omega arith) in
     omega (arith, behind n (m ∷ ns) k)
 
-rising : (least : ℕ) (ns : List ℕ) → IsStrictlyIncreasing ns → (0 < length ns → least ≤ slice_index ns 0) → rising_from least ns ≡ true
+rising : (least : ℕ) (ns : List ℕ) → IsStrictlyIncreasing ns → (0 < length ns → least ≤ slice_index ns 0)
+    → rising_from least ns ≡ true
 unfolding rising_from
 rising least [] h first = refl
 rising least (n ∷ []) h first = and_from (leb least n) true (le-leb _ _ (first (omega arith))) refl
@@ -37,7 +40,8 @@ rising least (n ∷ m ∷ ns) h first =
     let here : n < m = h 0 (omega arith) in
     and_from (leb least n) (rising_from (n + 1) (m ∷ ns)) (le-leb _ _ (first (omega arith)))
     (rising (n + 1) (m ∷ ns)
-    (λ k lt. let later : slice_index (m ∷ ns) k < slice_index (n ∷ m ∷ ns) (suc k + 1) = h (suc k) (omega arith) in omega (arith, behind n (m ∷ ns) k))
+    (λ k lt. let later : slice_index (m ∷ ns) k < slice_index (n ∷ m ∷ ns) (suc k + 1) =
+    h (suc k) (omega arith) in omega (arith, behind n (m ∷ ns) k))
     (λ _. omega arith))
 
 pub rising_is : (ns : List ℕ) → rising_from 0 ns ≡ true → AreRising ns

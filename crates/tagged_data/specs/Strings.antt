@@ -1,5 +1,6 @@
 -- String attributes: for each its key, a zero byte, its value and a zero byte, by rising keys.
-use Rattle.std.specs.Prelude.{ℕ, ◌≤◌, Bool, ◌&&◌, ◌||◌, not, nat_eq, nat_le, nat_lt, List, ◌++◌, length, map, Option, Some, None, option_and_then, IsTrue, if◌then◌else◌}
+use Rattle.std.specs.Prelude.{ℕ, ◌≤◌, Bool, ◌&&◌, ◌||◌, not, nat_eq, nat_le, nat_lt, List, ◌++◌}
+use Rattle.std.specs.Prelude.{length, map, Option, Some, None, option_and_then, IsTrue, if◌then◌else◌}
 use Rattle.std.specs.Char.{is_ascii_alphanumeric}
 use Rattle.std.specs.List.{All, list_all, flat_map}
 use Rattle.kdb_base.specs.Limits.{most_strings}

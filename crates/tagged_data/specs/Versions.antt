@@ -1,5 +1,6 @@
 -- Activations and auxiliary keys, by rising versions of the master key.
-use Rattle.std.proofs.Common.{◌≡◌, ℕ, ◌+◌, ◌*◌, ◌^◌, ◌<◌, List, [], ◌∷◌, ◌++◌, length, map, Option, refl, sym, ap, ◌∙◌, arith}
+use Rattle.std.proofs.Common.{◌≡◌, ℕ, ◌+◌, ◌*◌, ◌^◌, ◌<◌, List, [], ◌∷◌, ◌++◌}
+use Rattle.std.proofs.Common.{length, map, Option, refl, sym, ap, ◌∙◌, arith}
 use Rattle.std.specs.List.{All, flat_map, sum_by}
 use Rattle.std.proofs.lemmas.List.{length-append}
 use Rattle.std.proofs.lemmas.List.Sums.{sum_by-cons}
@@ -38,7 +39,8 @@ pub activation_field : IsField activation_at activation IsActivation
 unfolding activation_at activation
 activation_field = same_field
     (first_field version_field (λ (a : Activation). a.version) (λ version _.
-    last_field (little_field 4) (λ (a : Activation). a.secs) (λ secs. record { version = version; secs = secs }) (λ _ _. (refl, refl)) (λ a k. ap (λ (n : ℕ). record { version = n; secs = a.secs }) (sym k))))
+    last_field (little_field 4) (λ (a : Activation). a.secs) (λ secs. record { version = version; secs = secs })
+    (λ _ _. (refl, refl)) (λ a k. ap (λ (n : ℕ). record { version = n; secs = a.secs }) (sym k))))
     (λ a f. (refl, record { version = f.0; secs = f.1 }))
     (λ a f. (f.version, f.secs))
 
@@ -54,16 +56,19 @@ pub record AreActivations (list : List Activation) : Type 0 where
 
 length-activation : (a : Activation) → length (activation a) ≡ 6
 unfolding activation
-length-activation a = omega (arith, length-append (little 2 a.version) (little 4 a.secs), length-little 2 a.version, length-little 4 a.secs)
+length-activation a = omega
+    (arith, length-append (little 2 a.version) (little 4 a.secs), length-little 2 a.version, length-little 4 a.secs)
 
 pub length-activations_text : (list : List Activation) → length (activations_text list) ≡ 6 * length list
 unfolding activations_text
 length-activations_text [] = refl
-length-activations_text (a ∷ list) = omega (arith, length-append (activation a) (flat_map activation list), length-activation a, length-activations_text list)
+length-activations_text (a ∷ list) = omega
+    (arith, length-append (activation a) (flat_map activation list), length-activation a, length-activations_text list)
 
 pub activations_content : IsContent activations_at activations_text AreActivations
 unfolding activations_at activations_text
-activations_content = same_content (in_order_content (λ (a : Activation). a.version) (items_content activation_field (λ a _. omega (arith, length-activation a))))
+activations_content = same_content (in_order_content (λ (a : Activation). a.version)
+    (items_content activation_field (λ a _. omega (arith, length-activation a))))
     (λ list f. record { each = f.0; rising = f.1 })
     (λ list f. (f.each, f.rising))
 
@@ -81,7 +86,8 @@ wrapped_text bytes = little 2 (length bytes) ++ bytes
 pub wrapped_field : IsField wrapped_at wrapped_text (λ bytes. length bytes < 2 ^ 16)
 unfolding wrapped_at wrapped_text
 wrapped_field =
-    let text : (n : ℕ) → n < 2 ^ 16 → IsField (bytes_at n) (λ xs. xs) (λ xs. (length xs ≡ n) × Unit {0}) = λ n lt. same_field (bytes_field n) (λ xs e. (refl, (e, tt))) (λ xs f. f.0) in
+    let text : (n : ℕ) → n < 2 ^ 16 → IsField (bytes_at n) (λ xs. xs) (λ xs. (length xs ≡ n) × Unit {0}) =
+    λ n lt. same_field (bytes_field n) (λ xs e. (refl, (e, tt))) (λ xs f. f.0) in
     same_field (first_field (little_field 2) (length {A = ℕ}) text) (λ xs f. (refl, f.0)) (λ xs lt. (lt, tt))
 
 -- a version, the newest key's type, and the newest key wrapped under that version's
@@ -99,7 +105,8 @@ pub record IsAuxKey (k : AuxKey) : Type 0 where
   pub version : IsVersion k.version
   pub wrapped : length k.wrapped < 2 ^ 16
 
-same_key : (k : AuxKey) (version : ℕ) (etype : Etype) → k.version ≡ version → k.etype ≡ etype → ◌≡◌ {A = AuxKey} (record { version = version; etype = etype; wrapped = k.wrapped }) k
+same_key : (k : AuxKey) (version : ℕ) (etype : Etype) → k.version ≡ version → k.etype ≡ etype
+    → ◌≡◌ {A = AuxKey} (record { version = version; etype = etype; wrapped = k.wrapped }) k
 same_key k version etype v e =
     let made : ℕ → Etype → AuxKey = λ (n : ℕ) (t : Etype). record { version = n; etype = t; wrapped = k.wrapped } in
     ap (λ (n : ℕ). made n etype) (sym v) ∙ ap (λ (t : Etype). made k.version t) (sym e)
@@ -109,7 +116,8 @@ unfolding aux_key_at aux_key
 aux_key_field = same_field
     (first_field version_field (λ (k : AuxKey). k.version) (λ version _.
     then_field {K = λ (k : AuxKey). k.version ≡ version} etype_le_field (λ (k : AuxKey). k.etype) (λ etype _.
-    last_field {K = λ (k : AuxKey). (k.etype ≡ etype) × (k.version ≡ version)} wrapped_field (λ (k : AuxKey). k.wrapped) (λ wrapped. record { version = version; etype = etype; wrapped = wrapped })
+    last_field {K = λ (k : AuxKey). (k.etype ≡ etype) × (k.version ≡ version)} wrapped_field (λ (k : AuxKey). k.wrapped)
+    (λ wrapped. record { version = version; etype = etype; wrapped = wrapped })
     (λ _ _. (refl, (refl, refl)))
     (λ k e. same_key k version etype e.1 e.0))))
     (λ k f. (refl, record { version = f.0; wrapped = f.1.1 }))
@@ -148,6 +156,7 @@ length-aux_keys_text (k ∷ list) =
 
 pub aux_keys_content : IsContent aux_keys_at aux_keys_text AreAuxKeys
 unfolding aux_keys_at aux_keys_text
-aux_keys_content = same_content (in_order_content (λ (k : AuxKey). k.version) (items_content aux_key_field (λ k _. omega (arith, length-aux_key k))))
+aux_keys_content = same_content (in_order_content (λ (k : AuxKey). k.version)
+    (items_content aux_key_field (λ k _. omega (arith, length-aux_key k))))
     (λ list f. record { each = f.0; rising = f.1 })
     (λ list f. (f.each, f.rising))

@@ -114,7 +114,8 @@ pub fn read_tagged(alloc: Global, bytes: &[u8]) -> Result<(TagList, usize), TagF
     ensures found { IfOk result (λ x. (bytes.now ≡ tagged x.0 ++ drop x.1 bytes.now) × IsTagged x.0) }
     ensures used { IfOk result (λ x. x.1 ≡ length (tagged x.0)) }
     // What is spelled so is read, whatever follows, unless memory runs out.
-    ensures only { (list : List TagItem) (rest : List ℕ) → IsTagged list → bytes.now ≡ tagged list ++ rest → Finds result (Some (list, length (tagged list))) }
+    ensures only { (list : List TagItem) (rest : List ℕ) → IsTagged list → bytes.now ≡ tagged list ++ rest
+        → Finds result (Some (list, length (tagged list))) }
 {
     let mut reader = Reader::new(bytes);
     match read_next::<Tagged>(alloc, &mut reader) {

@@ -1,4 +1,5 @@
-ghost use Rattle.std.specs.Prelude.{◌≡◌, ◌++◌, ◌<◌, ℕ, List, Some, IfSome, OnOk, length, nat_eq, option_map, option_and_then, position};
+ghost use Rattle.std.specs.Prelude.{◌≡◌, ◌++◌, ◌<◌, ℕ, List, Some, IfSome, OnOk, length};
+ghost use Rattle.std.specs.Prelude.{nat_eq, option_map, option_and_then, position};
 ghost use Rattle.kdb_format.specs.Answers.{ReadsAs};
 ghost use Rattle.kdb_format.specs.Readings.{whole};
 ghost use Rattle.tagged_data.specs.Lists.{content};
@@ -51,9 +52,12 @@ fn read_modifier(bytes: &[u8]) -> Option<(u32, &[u8])>
 /// zeros. Whether they are a printed name is for the reader of the record to judge.
 /// None where there is no such item, or its content is not of this form.
 pub fn modifier(list: &TagList) -> Option<(u32, &[u8])>
-    ensures found { IfSome result (λ x. content MODIFIER list.now ≡ Some (modifier_text (x.0, x.1.now)) × IsModifier (x.0, x.1.now)) }
-    ensures only { (m : ℕ × List ℕ) → IsModifier m → content MODIFIER list.now ≡ Some (modifier_text m) → option_map (λ x. (x.0, x.1.now)) result ≡ Some m }
-    ensures exact { option_map (λ x. (x.0, x.1.now)) result ≡ option_and_then (whole modifier_at) (content MODIFIER list.now) }
+    ensures found { IfSome result
+        (λ x. content MODIFIER list.now ≡ Some (modifier_text (x.0, x.1.now)) × IsModifier (x.0, x.1.now)) }
+    ensures only { (m : ℕ × List ℕ) → IsModifier m → content MODIFIER list.now ≡ Some (modifier_text m)
+        → option_map (λ x. (x.0, x.1.now)) result ≡ Some m }
+    ensures exact { option_map (λ x. (x.0, x.1.now)) result
+        ≡ option_and_then (whole modifier_at) (content MODIFIER list.now) }
 {
     match content(list, MODIFIER) {
         Some(bytes) => read_modifier(bytes),

@@ -62,7 +62,8 @@ fn read_version(bytes: &[u8]) -> Option<u16>
 /// such item, or its content is no such number of two bytes.
 pub fn mkvno(list: &TagList) -> Option<u16>
     ensures found { IfSome result (λ version. content MKVNO list.now ≡ Some (little 2 version) × IsVersion version) }
-    ensures only { (version : ℕ) → IsVersion version → content MKVNO list.now ≡ Some (little 2 version) → result ≡ Some version }
+    ensures only { (version : ℕ) → IsVersion version → content MKVNO list.now ≡ Some (little 2 version)
+        → result ≡ Some version }
     ensures exact { result ≡ option_and_then (whole version_at) (content MKVNO list.now) }
 {
     match content(list, MKVNO) {

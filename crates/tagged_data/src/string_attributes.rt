@@ -1,6 +1,7 @@
 //! String attributes: keys with their values, by rising keys.
 
-ghost use Rattle.std.specs.Prelude.{◌≡◌, ◌++◌, ◌<◌, ◌≤◌, [], List, None, Some, IfOk, OnOk, length, option_and_then, option_map};
+ghost use Rattle.std.specs.Prelude.{◌≡◌, ◌++◌, ◌<◌, ◌≤◌, [], List, None, Some, IfOk};
+ghost use Rattle.std.specs.Prelude.{OnOk, length, option_and_then, option_map};
 ghost use Rattle.std.specs.List.{list_all, sum_by};
 ghost use Rattle.std.proofs.Common.{rules};
 ghost use Rattle.std.specs.Cmp.Rules.{comparing};
@@ -9,7 +10,8 @@ ghost use Rattle.tagged_data.specs.Answers.{Finds};
 ghost use Rattle.tagged_data.specs.KeyOrder.{AreInOrder, is_behind, rises_from};
 ghost use Rattle.tagged_data.specs.Lists.{content};
 ghost use Rattle.tagged_data.specs.Strings.{is_key_byte, is_string_key, is_value_byte, is_string_value};
-ghost use Rattle.tagged_data.specs.Strings.{string_at, string, IsString, keys_of, are_strings, strings_at, strings_text, AreStrings};
+ghost use Rattle.tagged_data.specs.Strings.{string_at, string, IsString, keys_of, are_strings};
+ghost use Rattle.tagged_data.specs.Strings.{strings_at, strings_text, AreStrings};
 ghost use Rattle.tagged_data.specs.StringLaws.{string_field};
 
 use crate::faults::TagFault;
@@ -263,9 +265,11 @@ fn read_strings(alloc: Global, bytes: &[u8]) -> Result<StringAttributes, TagFaul
 /// The string attributes. BadTagged where there is no such item, or its content is not of this form.
 pub fn strings(alloc: Global, list: &TagList) -> Result<StringAttributes, TagFault>
     // What is read is spelled so.
-    ensures found { IfOk result (λ xs. content STRINGS list.now ≡ Some (strings_text xs) × (AreStrings xs × (0 < length xs))) }
+    ensures found { IfOk result
+        (λ xs. content STRINGS list.now ≡ Some (strings_text xs) × (AreStrings xs × (0 < length xs))) }
     // What is spelled so is read, unless memory runs out.
-    ensures only { (xs : List StringAttribute) → AreStrings xs → 0 < length xs → content STRINGS list.now ≡ Some (strings_text xs) → Finds result (Some xs) }
+    ensures only { (xs : List StringAttribute) → AreStrings xs → 0 < length xs
+        → content STRINGS list.now ≡ Some (strings_text xs) → Finds result (Some xs) }
     ensures exact { Finds result (option_and_then strings_at (content STRINGS list.now)) }
 {
     match content(list, STRINGS) {

@@ -7,8 +7,10 @@ ghost use Rattle.kdb_base.specs.declared.versions.AuxKey.{AuxKey};
 ghost use Rattle.kdb_format.specs.Answers.{ReadsAs};
 ghost use Rattle.tagged_data.specs.Answers.{Finds};
 ghost use Rattle.tagged_data.specs.Lists.{content};
-ghost use Rattle.tagged_data.specs.Versions.{activation, activation_at, activation_field, activations_at, activations_text, AreActivations, IsActivation};
-ghost use Rattle.tagged_data.specs.Versions.{aux_key, aux_key_at, aux_key_field, aux_keys_at, aux_keys_text, AreAuxKeys, IsAuxKey};
+ghost use Rattle.tagged_data.specs.Versions.{activation, activation_at, activation_field, activations_at};
+ghost use Rattle.tagged_data.specs.Versions.{activations_text, AreActivations, IsActivation};
+ghost use Rattle.tagged_data.specs.Versions.{aux_key, aux_key_at, aux_key_field, aux_keys_at};
+ghost use Rattle.tagged_data.specs.Versions.{aux_keys_text, AreAuxKeys, IsAuxKey};
 ghost use Rattle.tagged_data.specs.Versions.{wrapped_at, wrapped_text};
 
 use crate::faults::TagFault;
@@ -90,7 +92,8 @@ pub fn activations(alloc: Global, list: &TagList) -> Result<Activations, TagFaul
     // What is read is spelled so.
     ensures found { IfOk result (λ xs. content ACTIVATIONS list.now ≡ Some (activations_text xs) × AreActivations xs) }
     // What is spelled so is read, unless memory runs out.
-    ensures only { (xs : List Activation) → AreActivations xs → content ACTIVATIONS list.now ≡ Some (activations_text xs) → Finds result (Some xs) }
+    ensures only { (xs : List Activation) → AreActivations xs
+        → content ACTIVATIONS list.now ≡ Some (activations_text xs) → Finds result (Some xs) }
     ensures exact { Finds result (option_and_then activations_at (content ACTIVATIONS list.now)) }
 {
     match content(list, ACTIVATIONS) {
@@ -192,7 +195,8 @@ pub fn aux_keys(alloc: Global, list: &TagList) -> Result<AuxList, TagFault>
     // What is read is spelled so.
     ensures found { IfOk result (λ xs. content AUX_KEYS list.now ≡ Some (aux_keys_text xs) × AreAuxKeys xs) }
     // What is spelled so is read, unless memory runs out.
-    ensures only { (xs : List AuxKey) → AreAuxKeys xs → content AUX_KEYS list.now ≡ Some (aux_keys_text xs) → Finds result (Some xs) }
+    ensures only { (xs : List AuxKey) → AreAuxKeys xs → content AUX_KEYS list.now ≡ Some (aux_keys_text xs)
+        → Finds result (Some xs) }
     ensures exact { Finds result (option_and_then aux_keys_at (content AUX_KEYS list.now)) }
 {
     match content(list, AUX_KEYS) {

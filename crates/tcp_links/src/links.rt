@@ -70,8 +70,12 @@ impl<R: Net> TcpLink<R> {
     /// Writes all of the bytes on the newest connection.
     fn put(&mut self, bytes: &[u8]) -> Result<(), LinkFailed>
         ensures open { OnOk result (IsSome self.old.stream) }
-        ensures got { OnOk result (OnStream (λ s t. Appends (R.Stream.Write.contents s) (R.Stream.Write.contents t) bytes.now) self.old.stream self.new.stream) }
-        ensures part { OnErr result (OnStream (λ s t. AppendsFront (R.Stream.Write.contents s) (R.Stream.Write.contents t) bytes.now) self.old.stream self.new.stream) }
+        ensures got { OnOk result
+            (OnStream (λ s t. Appends (R.Stream.Write.contents s) (R.Stream.Write.contents t) bytes.now) self.old.stream
+            self.new.stream) }
+        ensures part { OnErr result
+            (OnStream (λ s t. AppendsFront (R.Stream.Write.contents s) (R.Stream.Write.contents t) bytes.now)
+            self.old.stream self.new.stream) }
         ensures others { self.new ≡ record self.old { stream = self.new.stream } }
     {
         match &mut self.stream {
@@ -84,7 +88,8 @@ impl<R: Net> TcpLink<R> {
     fn take(&mut self, into: &mut [u8]) -> Result<usize, LinkFailed>
         ensures open { OnOk result (IsSome self.old.stream) }
         ensures bound { IfOk result (λ n. n ≤ length into.new) }
-        ensures gave { OnStream (λ s t. ReadConsumes (R.Stream.Read.remaining s) (R.Stream.Read.remaining t) result into.new) self.old.stream self.new.stream }
+        ensures gave { OnStream (λ s t. ReadConsumes (R.Stream.Read.remaining s)
+            (R.Stream.Read.remaining t) result into.new) self.old.stream self.new.stream }
         ensures others { self.new ≡ record self.old { stream = self.new.stream } }
     {
         match &mut self.stream {
@@ -130,8 +135,12 @@ impl<R: Net> Link for TcpLink<R> {
         ensures cause { HasCause self.old.faults self.new.faults result }
 
         ensures open { OnOk result (IsSome self.old.stream) }
-        ensures got { OnOk result (OnStream (λ s t. Appends (R.Stream.Write.contents s) (R.Stream.Write.contents t) bytes.now) self.old.stream self.new.stream) }
-        ensures part { OnErr result (OnStream (λ s t. AppendsFront (R.Stream.Write.contents s) (R.Stream.Write.contents t) bytes.now) self.old.stream self.new.stream) }
+        ensures got { OnOk result
+            (OnStream (λ s t. Appends (R.Stream.Write.contents s) (R.Stream.Write.contents t) bytes.now) self.old.stream
+            self.new.stream) }
+        ensures part { OnErr result
+            (OnStream (λ s t. AppendsFront (R.Stream.Write.contents s) (R.Stream.Write.contents t) bytes.now)
+            self.old.stream self.new.stream) }
         ensures peer { self.new.peer ≡ self.old.peer }
         ensures failed { OnErr result (self.new.faults ≡ counted_up self.old.faults) }
         ensures whole { OnOk result (self.new.faults ≡ self.old.faults) }
@@ -152,7 +161,8 @@ impl<R: Net> Link for TcpLink<R> {
         ensures cause { HasCause self.old.faults self.new.faults result }
 
         ensures open { OnOk result (IsSome self.old.stream) }
-        ensures gave { OnStream (λ s t. ReadConsumes (R.Stream.Read.remaining s) (R.Stream.Read.remaining t) result into.new) self.old.stream self.new.stream }
+        ensures gave { OnStream (λ s t. ReadConsumes (R.Stream.Read.remaining s)
+            (R.Stream.Read.remaining t) result into.new) self.old.stream self.new.stream }
         ensures peer { self.new.peer ≡ self.old.peer }
         ensures failed { OnErr result (self.new.faults ≡ counted_up self.old.faults) }
         ensures whole { OnOk result (self.new.faults ≡ self.old.faults) }

@@ -34,4 +34,5 @@ size_text size block = data_line (named (codes "size") (named (decimal size) (na
 -- the first and the last point, the log's measures, and the entries
 unfoldable pub ulog_text : Point → Point → ℕ → ℕ → List Entry → List ℕ
 ulog_text first last size block held =
-    field_line (codes "first") (point_text first) ++ (field_line (codes "last") (point_text last) ++ (size_text size block ++ (entries_text held ++ codes "ok\n")))
+    field_line (codes "first") (point_text first)
+    ++ (field_line (codes "last") (point_text last) ++ (size_text size block ++ (entries_text held ++ codes "ok\n")))

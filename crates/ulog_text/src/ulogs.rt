@@ -25,7 +25,8 @@ fn push_behind(
     first: u32,
     last: u32,
 ) -> Result<(), MemoryOut>
-    ensures { (begin end : At) → AreHeld begin end (map entry_of log.now.held) → begin.sno ≡ first → end.sno ≡ last → OnOk result (out.new.items ≡ out.old.items ++ entries_text (drop 1 (map entry_of log.now.held))) }
+    ensures { (begin end : At) → AreHeld begin end (map entry_of log.now.held) → begin.sno ≡ first → end.sno ≡ last
+        → OnOk result (out.new.items ≡ out.old.items ++ entries_text (drop 1 (map entry_of log.now.held))) }
 {
     for behind in first..last {
         match log.entry(behind + 1) {
@@ -82,7 +83,9 @@ fn push_size(alloc: Global, out: &mut Vec<u8>, size: u32, block: u32) -> Result<
 ///
 /// `MemoryOut` where memory is wanted and not given.
 pub fn print_ulog(alloc: Global, log: &Log, size: u32, block: u32) -> Result<Blob, MemoryOut>
-    ensures { (d : Held) → IfOk result (λ text. text ≡ ulog_text (slice_index_or (map entry_of log.now.held) 0 d).point (slice_index_or (map entry_of log.now.held) (length log.now.held - 1) d).point size block (map entry_of log.now.held)) }
+    ensures { (d : Held) → IfOk result (λ text. text ≡ ulog_text (slice_index_or (map entry_of log.now.held) 0 d).point
+        (slice_index_or (map entry_of log.now.held) (length log.now.held - 1) d).point size block
+        (map entry_of log.now.held)) }
 {
     log.holds_journal();
     let held = log.held();

@@ -1,5 +1,6 @@
 -- The first number that passes a test, and the entry of the greatest serial.
-use Rattle.std.proofs.Common.{◌≡◌, ℕ, zero, suc, ◌+◌, ◌<◌, ◌≤◌, ◌⊎◌, inl, inr, ⊎_elim, Bool, true, false, cond, ltb, Option, Some, None, refl, sym, ◌∙◌, ap, subst, arith}
+use Rattle.std.proofs.Common.{◌≡◌, ℕ, zero, suc, ◌+◌, ◌<◌, ◌≤◌, ◌⊎◌, inl, inr, ⊎_elim, Bool, true}
+use Rattle.std.proofs.Common.{false, cond, ltb, Option, Some, None, refl, sym, ◌∙◌, ap, subst, arith}
 use Rattle.std.proofs.lemmas.Bool.{cases_eq, cases_lt, cond-true, cond-false, lt-ltb, le-ltb}
 use Rattle.std.proofs.lemmas.Option.{same_Some}
 use Rattle.princ_rows.specs.declared.entries.Logged.{Logged}
@@ -29,15 +30,18 @@ none_first test k (suc n) none i ge lt =
     (cases_eq i k)
 
 -- the first that passes, where those before it do not
-pub first_found : (test : ℕ → Bool) (k n i : ℕ) → k ≤ i → i < k + n → test i ≡ true → ((j : ℕ) → k ≤ j → j < i → test j ≡ false) → first_of test k n ≡ Some i
+pub first_found : (test : ℕ → Bool) (k n i : ℕ) → k ≤ i → i < k + n → test i ≡ true
+    → ((j : ℕ) → k ≤ j → j < i → test j ≡ false) → first_of test k n ≡ Some i
 unfolding first_of
 first_found test k zero i ge lt here before = absurd (omega (arith, ge, lt))
 first_found test k (suc n) i ge lt here before = ⊎_elim
     (λ same.
-    cond-true (test k) (Some k) (first_of test (k + 1) n) (subst (λ (j : ℕ). test j ≡ true) same here) ∙ ap Some (sym same))
+    cond-true (test k) (Some k) (first_of test (k + 1) n) (subst (λ (j : ℕ). test j ≡ true) same here)
+    ∙ ap Some (sym same))
     (λ other.
     cond-false (test k) (Some k) (first_of test (k + 1) n) (before k (omega arith) (omega (arith, ge, other)))
-    ∙ first_found test (k + 1) n i (omega (arith, ge, other)) (omega (arith, lt)) here (λ j ge' lt'. before j (omega (arith, ge')) lt'))
+    ∙ first_found test (k + 1) n i (omega (arith, ge, other)) (omega (arith, lt)) here
+    (λ j ge' lt'. before j (omega (arith, ge')) lt'))
     (cases_eq i k)
 
 -- ---- the entry of the greatest serial
@@ -56,7 +60,8 @@ later_below l None b x y = y
 later_below l (Some a) None x y = x
 later_below l (Some a) (Some b) x y = pick_below l (ltb a.entry.point.sno b.entry.point.sno) (Some b) (Some a) y x
 
-pick_same : (l a : Logged) (test : Bool) → a ≡ l → (cond test (Some l) (Some a) ≡ Some l) × (cond test (Some a) (Some l) ≡ Some l)
+pick_same : (l a : Logged) (test : Bool) → a ≡ l
+    → (cond test (Some l) (Some a) ≡ Some l) × (cond test (Some a) (Some l) ≡ Some l)
 pick_same l a true same = (refl, ap Some same)
 pick_same l a false same = (ap Some same, refl)
 
@@ -67,22 +72,28 @@ later_here l (Some a) (inr same) = (pick_same l a (ltb a.entry.point.sno l.entry
 
 later_stays : (l : Logged) (b : Option Logged) → Below l b → later (Some l) b ≡ Some l
 later_stays l None below = refl
-later_stays l (Some b) (inl lt) = cond-false (ltb l.entry.point.sno b.entry.point.sno) (Some b) (Some l) (le-ltb _ _ (omega (arith, lt)))
+later_stays l (Some b) (inl lt) =
+    cond-false (ltb l.entry.point.sno b.entry.point.sno) (Some b) (Some l) (le-ltb _ _ (omega (arith, lt)))
 later_stays l (Some b) (inr same) = (pick_same l b (ltb l.entry.point.sno b.entry.point.sno) same).1
 
-pub last_below : (at : ℕ → Option Logged) (l : Logged) (n : ℕ) → ((k : ℕ) → k < n → Below l (at k)) → Below l (last_upto at n)
+pub last_below : (at : ℕ → Option Logged) (l : Logged) (n : ℕ) → ((k : ℕ) → k < n → Below l (at k))
+    → Below l (last_upto at n)
 unfolding last_upto
 last_below at l zero all = tt
-last_below at l (suc n) all = later_below l (last_upto at n) (at n) (last_below at l n (λ k lt. all k (omega (arith, lt)))) (all n (omega arith))
+last_below at l (suc n) all =
+    later_below l (last_upto at n) (at n) (last_below at l n (λ k lt. all k (omega (arith, lt)))) (all n (omega arith))
 
-pub last_found : (at : ℕ → Option Logged) (l : Logged) (n k : ℕ) → k < n → at k ≡ Some l → ((i : ℕ) → i < n → Below l (at i)) → last_upto at n ≡ Some l
+pub last_found : (at : ℕ → Option Logged) (l : Logged) (n k : ℕ) → k < n → at k ≡ Some l
+    → ((i : ℕ) → i < n → Below l (at i)) → last_upto at n ≡ Some l
 unfolding last_upto
 last_found at l zero k lt here all = absurd (omega (arith, lt))
 last_found at l (suc n) k lt here all = ⊎_elim
     (λ same.
-    ap (later (last_upto at n)) (ap at (sym same) ∙ here) ∙ later_here l (last_upto at n) (last_below at l n (λ i under. all i (omega (arith, under)))))
+    ap (later (last_upto at n)) (ap at (sym same) ∙ here)
+    ∙ later_here l (last_upto at n) (last_below at l n (λ i under. all i (omega (arith, under)))))
     (λ other.
-    ap (λ (o : Option Logged). later o (at n)) (last_found at l n k (omega (arith, lt, other)) here (λ i under. all i (omega (arith, under)))) ∙ later_stays l (at n) (all n (omega arith)))
+    ap (λ (o : Option Logged). later o (at n)) (last_found at l n k (omega (arith, lt, other)) here
+    (λ i under. all i (omega (arith, under)))) ∙ later_stays l (at n) (all n (omega arith)))
     (cases_eq k n)
 
 -- ---- what is known of it
@@ -104,7 +115,9 @@ LastIs at n (Some l) = IsLast at n l
 
 -- with one slot more, in which none stands
 more_none : (at : ℕ → Option Logged) (n : ℕ) (o : Option Logged) → LastIs at n o → at n ≡ None → LastIs at (suc n) o
-more_none at n None empty none = record { none = λ k lt. ⊎_elim (λ same. ap at same ∙ none) (λ other. empty.none k (omega (arith, lt, other))) (cases_eq k n) }
+more_none at n None empty none = record {
+  none = λ k lt. ⊎_elim (λ same. ap at same ∙ none) (λ other. empty.none k (omega (arith, lt, other))) (cases_eq k n);
+}
 more_none at n (Some l) last none = record {
   slot = last.slot;
   within = let lt = last.within in omega (arith, lt);
@@ -116,39 +129,47 @@ more_none at n (Some l) last none = record {
 }
 
 -- with one slot more, whose entry is the greatest
-more_here : (at : ℕ → Option Logged) (n : ℕ) (b : Logged) → at n ≡ Some b → ((k : ℕ) (a : Logged) → k < n → at k ≡ Some a → a.entry.point.sno ≤ b.entry.point.sno) → IsLast at (suc n) b
+more_here : (at : ℕ → Option Logged) (n : ℕ) (b : Logged) → at n ≡ Some b
+    → ((k : ℕ) (a : Logged) → k < n → at k ≡ Some a → a.entry.point.sno ≤ b.entry.point.sno) → IsLast at (suc n) b
 more_here at n b here below = record {
   slot = n;
   within = omega arith;
   here = here;
   greatest = λ k a lt is. ⊎_elim
-      (λ same. let e : a ≡ b = same_Some a b (sym is ∙ ap at same ∙ here) in omega (arith, ap (λ (x : Logged). x.entry.point.sno) e))
+      (λ same. let e : a ≡ b =
+      same_Some a b (sym is ∙ ap at same ∙ here) in omega (arith, ap (λ (x : Logged). x.entry.point.sno) e))
       (λ other. below k a (omega (arith, lt, other)) is)
       (cases_eq k n);
 }
 
 -- or is not
-more_stays : (at : ℕ → Option Logged) (n : ℕ) (l b : Logged) → IsLast at n l → at n ≡ Some b → b.entry.point.sno ≤ l.entry.point.sno → IsLast at (suc n) l
+more_stays : (at : ℕ → Option Logged) (n : ℕ) (l b : Logged) → IsLast at n l → at n ≡ Some b
+    → b.entry.point.sno ≤ l.entry.point.sno → IsLast at (suc n) l
 more_stays at n l b last here le = record {
   slot = last.slot;
   within = let lt = last.within in omega (arith, lt);
   here = last.here;
   greatest = λ k a lt is. ⊎_elim
-      (λ same. let e : a ≡ b = same_Some a b (sym is ∙ ap at same ∙ here) in omega (arith, ap (λ (x : Logged). x.entry.point.sno) e, le))
+      (λ same. let e : a ≡ b =
+      same_Some a b (sym is ∙ ap at same ∙ here) in omega (arith, ap (λ (x : Logged). x.entry.point.sno) e, le))
       (λ other. last.greatest k a (omega (arith, lt, other)) is)
       (cases_eq k n);
 }
 
-last_step : (at : ℕ → Option Logged) (n : ℕ) (o here : Option Logged) → at n ≡ here → LastIs at n o → LastIs at (suc n) (later o here)
+last_step : (at : ℕ → Option Logged) (n : ℕ) (o here : Option Logged) → at n ≡ here → LastIs at n o
+    → LastIs at (suc n) (later o here)
 last_step at n None None is empty = more_none at n None empty is
-last_step at n None (Some b) is empty = more_here at n b is (λ k a lt there. let no_entry : Some a ≡ None = sym there ∙ empty.none k lt in absurd cc)
+last_step at n None (Some b) is empty =
+    more_here at n b is (λ k a lt there. let no_entry : Some a ≡ None = sym there ∙ empty.none k lt in absurd cc)
 last_step at n (Some l) None is last = more_none at n (Some l) last is
 last_step at n (Some l) (Some b) is last = ⊎_elim
     (λ lt.
-    subst (LastIs at (suc n)) (sym (cond-true (ltb l.entry.point.sno b.entry.point.sno) (Some b) (Some l) (lt-ltb _ _ lt)))
+    subst (LastIs at (suc n))
+    (sym (cond-true (ltb l.entry.point.sno b.entry.point.sno) (Some b) (Some l) (lt-ltb _ _ lt)))
     (more_here at n b is (λ k a under there. let le = last.greatest k a under there in omega (arith, le, lt))))
     (λ ge.
-    subst (LastIs at (suc n)) (sym (cond-false (ltb l.entry.point.sno b.entry.point.sno) (Some b) (Some l) (le-ltb _ _ ge)))
+    subst (LastIs at (suc n))
+    (sym (cond-false (ltb l.entry.point.sno b.entry.point.sno) (Some b) (Some l) (le-ltb _ _ ge)))
     (more_stays at n l b last is ge))
     (cases_lt l.entry.point.sno b.entry.point.sno)
 

@@ -1,5 +1,6 @@
 -- What the bytes of a log file hold.
-use Rattle.std.specs.Prelude.{ℕ, ◌+◌, ◌-◌, ◌<◌, ◌≤◌, ◌≡◌, ◌≢◌, List, [], ◌∷◌, ◌++◌, length, drop, slice_index_or, Option, None, Some, option_to_list}
+use Rattle.std.specs.Prelude.{ℕ, ◌+◌, ◌-◌, ◌<◌, ◌≤◌, ◌≡◌, ◌≢◌, List, [], ◌∷◌, ◌++◌, length}
+use Rattle.std.specs.Prelude.{drop, slice_index_or, Option, None, Some, option_to_list}
 use Rattle.std.specs.List.{All}
 use Rattle.kdb_base.specs.declared.moments.Point.{Point}
 use Rattle.kdb_base.specs.Moments.{micros}
@@ -17,7 +18,8 @@ pub record IsMarked (base : Point) (l : Logged) : Type 0 where
 -- The serials run on one by one from the first, and the times do not fall.
 pub record IsRun (entries : List Logged) (first : ℕ) : Type 0 where
   pub serials : (i : ℕ) (d : Logged) → i < length entries → (slice_index_or entries i d).entry.point.sno ≡ first + i
-  pub times : (i : ℕ) (d : Logged) → i + 1 < length entries → micros (slice_index_or entries i d).entry.point.time ≤ micros (slice_index_or entries (i + 1) d).entry.point.time
+  pub times : (i : ℕ) (d : Logged) → i + 1 < length entries → micros (slice_index_or entries i d).entry.point.time
+      ≤ micros (slice_index_or entries (i + 1) d).entry.point.time
 
 -- The open slots of the file are those of these entries.
 pub record IsLog (base : Point) (size block : ℕ) (entries : List Logged) (file : List ℕ) : Type 0 where
@@ -28,7 +30,8 @@ pub record IsLog (base : Point) (size block : ℕ) (entries : List Logged) (file
   pub run : IsRun entries first
   pub marked : All (IsMarked base) entries
   pub open_slots : All (λ e. Stands block (slot_of base size e.entry.point.sno) file e) entries
-  pub others : (slot : ℕ) → slot ≤ size → All (λ e. slot_of base size e.entry.point.sno ≢ slot) entries → IsClosed block (slot_bytes block slot file)
+  pub others : (slot : ℕ) → slot ≤ size → All (λ e. slot_of base size e.entry.point.sno ≢ slot) entries
+      → IsClosed block (slot_bytes block slot file)
 
 -- The file holds these entries. One older entry may stand before them, where the log is full.
 pub record HoldsIn (base : Point) (size block : ℕ) (held : List Logged) (file : List ℕ) : Type 0 where
@@ -61,7 +64,8 @@ entry_of l = l.entry
 pub record ComesNext (held : List Logged) (next : Logged) : Type 0 where
   pub change : next.entry.op ≢ None
   pub serial : (d : Logged) → next.entry.point.sno ≡ (slice_index_or held (length held - 1) d).entry.point.sno + 1
-  pub time : (d : Logged) → micros (slice_index_or held (length held - 1) d).entry.point.time ≤ micros next.entry.point.time
+  pub time : (d : Logged)
+      → micros (slice_index_or held (length held - 1) d).entry.point.time ≤ micros next.entry.point.time
 
 -- the last entries, of which there are at most so many
 abbrev pub newest : ℕ → List Logged → List Logged
@@ -73,15 +77,24 @@ marker_of base = record { entry = record { point = base; op = None }; cell = 0 }
 
 -- with an entry prepared, or with none
 abbrev pub with_prepared : Option Logged → Journal → Journal
-with_prepared entry log = record { file = log.file; base = log.base; size = log.size; block = log.block; held = log.held; prepared = entry }
+with_prepared entry log =
+    record { file = log.file; base = log.base; size = log.size; block = log.block; held = log.held; prepared = entry }
 
 -- with what is prepared as the last entry that is held
 abbrev pub log_committed : Journal → Journal
-log_committed log = record { file = log.file; base = log.base; size = log.size; block = log.block; held = newest log.size (log.held ++ option_to_list log.prepared); prepared = None }
+log_committed log = record {
+  file = log.file;
+  base = log.base;
+  size = log.size;
+  block = log.block;
+  held = newest log.size (log.held ++ option_to_list log.prepared);
+  prepared = None;
+}
 
 -- the log of these entries, with none prepared
 abbrev pub log_of : ℕ → Point → ℕ → ℕ → List Logged → Journal
-log_of file base size block held = record { file = file; base = base; size = size; block = block; held = held; prepared = None }
+log_of file base size block held =
+    record { file = file; base = base; size = size; block = block; held = held; prepared = None }
 
 -- the log of the base marker alone
 abbrev pub begun : ℕ → Point → ℕ → ℕ → Journal

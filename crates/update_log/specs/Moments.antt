@@ -54,7 +54,8 @@ pub record IsDurable (file : ℕ) (now : View) : Type 0 where
 
 -- files of which one slot of the log is closed, or none
 abbrev pub MayShut : ℕ → ℕ → ℕ → View → Files → Type 0
-MayShut file block slot old c = Leaves file (λ bytes. (bytes ≡ old.seen file) ⊎ Shuts block slot (old.seen file) bytes) old c
+MayShut file block slot old c =
+    Leaves file (λ bytes. (bytes ≡ old.seen file) ⊎ Shuts block slot (old.seen file) bytes) old c
 
 -- The slot begins with a closed gate, on the disk, and all else is as before.
 pub record IsShut (file block slot : ℕ) (old new : View) : Type 0 where
@@ -92,8 +93,10 @@ pub record IsMarker (base : Point) (size block : ℕ) (marker : Logged) (body : 
   pub is : marker ≡ marker_of base
   pub spelled : Spells block (0 ∷ body) marker
 
--- What is kept of a log that is to be made: numbers in their ranges, the base marker alone, and the body that spells it.
-pub record IsMaking (file : ℕ) (base : Point) (size block : ℕ) (body : List ℕ) (held : List Logged) (len : ℕ) : Type 0 where
+-- What is kept of a log that is to be made: numbers in their ranges, the base marker alone, and the body that spells
+-- it.
+pub record IsMaking (file : ℕ) (base : Point) (size block : ℕ) (body : List ℕ) (held : List Logged)
+    (len : ℕ) : Type 0 where
   pub in_file : (3 ≤ file) × (file ≤ 4)
   pub some_size : (2 ≤ size) × (size ≤ 10000)
   pub some_block : (2048 ≤ block) × (block ≤ 16384)

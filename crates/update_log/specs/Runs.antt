@@ -1,5 +1,7 @@
 -- What the bytes of a log file hold, as one function of them.
-use Rattle.std.specs.Prelude.{ℕ, zero, suc, ◌+◌, ◌-◌, ◌*◌, List, [], ◌∷◌, ◌++◌, length, drop, slice_index, Bool, true, false, ◌&&◌, ◌||◌, not, nat_eq, nat_lt, nat_le, if◌then◌else◌, Option, None, Some, option_map, option_and_then, Result, Ok, Err}
+use Rattle.std.specs.Prelude.{ℕ, zero, suc, ◌+◌, ◌-◌, ◌*◌, List, [], ◌∷◌, ◌++◌, length, drop, slice_index}
+use Rattle.std.specs.Prelude.{Bool, true, false, ◌&&◌, ◌||◌, not, nat_eq, nat_lt, nat_le, if◌then◌else◌}
+use Rattle.std.specs.Prelude.{Option, None, Some, option_map, option_and_then, Result, Ok, Err}
 use Rattle.kdb_base.specs.declared.moments.Point.{Point}
 use Rattle.kdb_base.specs.Moments.{micros}
 use Rattle.kdb_format.specs.Readings.{padded}
@@ -47,7 +49,8 @@ is_marked base l = if nat_eq l.entry.point.sno base.sno then is_marker base l el
 -- the entry is of this slot
 unfoldable pub belongs : ℕ → Point → ℕ → ℕ → Logged → Bool
 belongs format base size k l =
-    nat_le base.sno l.entry.point.sno && nat_eq (slot_of base size l.entry.point.sno) k && is_marked base l && stands_in format l
+    nat_le base.sno l.entry.point.sno && nat_eq (slot_of base size l.entry.point.sno) k && is_marked base l
+    && stands_in format l
 
 -- what a slot of these bytes holds: nothing where it is closed, and else the entry that it spells. None where the slot
 -- is wrong: it is open, and spells no entry of this slot.
@@ -92,7 +95,8 @@ last_upto at (suc k) = later (last_upto at k) (at k)
 
 -- the entry comes directly before the other, and not at a later time
 abbrev pub goes_before : Logged → Logged → Bool
-goes_before l next = nat_eq (l.entry.point.sno + 1) next.entry.point.sno && nat_le (micros l.entry.point.time) (micros next.entry.point.time)
+goes_before l next = nat_eq (l.entry.point.sno + 1) next.entry.point.sno
+    && nat_le (micros l.entry.point.time) (micros next.entry.point.time)
 
 abbrev pub if_before : Logged → Option Logged → Option Logged
 if_before next None = None
@@ -100,7 +104,8 @@ if_before next (Some l) = if goes_before l next then Some l else None
 
 -- the entry directly before this one
 unfoldable pub before : Point → ℕ → (ℕ → Option Logged) → Logged → Option Logged
-before base size at next = if nat_lt base.sno next.entry.point.sno then if_before next (at (slot_of base size (next.entry.point.sno - 1))) else None
+before base size at next = if nat_lt base.sno next.entry.point.sno
+    then if_before next (at (slot_of base size (next.entry.point.sno - 1))) else None
 
 -- the entries that run on to this one, at most so many
 unfoldable pub back : Point → ℕ → (ℕ → Option Logged) → ℕ → Option Logged → List Logged
@@ -122,7 +127,8 @@ unfoldable pub run_in : Point → ℕ → ℕ → (ℕ → Option Logged) → Op
 run_in base size block at None = Err 0
 run_in base size block at (Some last) =
     if_whole size block (back base size at (size + 1) (Some last))
-    (first_of (λ k. is_left last.entry.point.sno (length (back base size at (size + 1) (Some last))) (at k)) 0 (size + 1))
+    (first_of (λ k. is_left last.entry.point.sno (length (back base size at (size + 1) (Some last))) (at k)) 0
+    (size + 1))
 
 abbrev pub if_right : ℕ → Option ℕ → Result (List Logged) ℕ → Result (List Logged) ℕ
 if_right block None found = found
@@ -134,4 +140,5 @@ if_right block (Some k) found = Err (k * block)
 unfoldable pub log_in : ℕ → Point → ℕ → ℕ → List ℕ → Result (List Logged) ℕ
 log_in format base size block file =
     if_right block (first_of (is_wrong format base size block file) 0 (size + 1))
-    (run_in base size block (entry_in format base size block file) (last_upto (entry_in format base size block file) (size + 1)))
+    (run_in base size block (entry_in format base size block file)
+    (last_upto (entry_in format base size block file) (size + 1)))

@@ -1,5 +1,6 @@
 -- What a scan of a log's file reads, and what it answers.
-use Rattle.std.specs.Prelude.{ℕ, ◌≡◌, ◌+◌, ◌*◌, ◌≤◌, true, List, length, slice_index_or, Option, Some, None, Result, Ok, Err}
+use Rattle.std.specs.Prelude.{ℕ, ◌≡◌, ◌+◌, ◌*◌, ◌≤◌, true, List, length}
+use Rattle.std.specs.Prelude.{slice_index_or, Option, Some, None, Result, Ok, Err}
 use Rattle.kdb_base.specs.declared.outcomes.Refusal.{Refusal}
 use Rattle.kdb_base.specs.declared.outcomes.Refusal.TheVariants.{Damaged}
 use Rattle.kdb_base.specs.declared.outcomes.Stop.{Stop}
@@ -44,7 +45,8 @@ AreRead choice slots = (k : ℕ) (l : Logged) → read_at slots k ≡ Some l →
 
 -- what a slot of the file holds
 abbrev pub slot_of_file : Choice → List ℕ → ℕ → Option (Option Logged)
-slot_of_file choice file k = slot_in choice.format choice.base choice.size choice.block k (slot_bytes choice.block k file)
+slot_of_file choice file k =
+    slot_in choice.format choice.base choice.size choice.block k (slot_bytes choice.block k file)
 
 -- the slots of the file hold these entries
 abbrev pub HasSlots : Choice → List ℕ → List (Option Logged) → Type 0

@@ -1,4 +1,6 @@
-ghost use Rattle.std.specs.Prelude.{◌≡◌, ◌≢◌, ◌≤◌, ◌<◌, ◌-◌, ◌+◌, ◌*◌, ◌^◌, ◌∷◌, ◌++◌, All, Contains, length, map, slice_index_or, IfSome, IfOk, OnOk, OnErr, IsErr, IsErrOf, IsTrue, option_to_list, None, Some, Err, [], ℕ, true};
+ghost use Rattle.std.specs.Prelude.{◌≡◌, ◌≢◌, ◌≤◌, ◌<◌, ◌-◌, ◌+◌, ◌*◌, ◌^◌, ◌∷◌, ◌++◌, All, Contains};
+ghost use Rattle.std.specs.Prelude.{length, map, slice_index_or, IfSome, IfOk, OnOk, OnErr, IsErr};
+ghost use Rattle.std.specs.Prelude.{IsErrOf, IsTrue, option_to_list, None, Some, Err, [], ℕ, true};
 ghost use Rattle.kdb_base.specs.declared.outcomes.Halt.TheVariants.{MemoryOut as IsMemoryOut, DiskFault as IsDiskFault};
 ghost use Rattle.kdb_disk.specs.View.{View, IsAfter};
 ghost use Rattle.kdb_base.specs.declared.outcomes.Stop.TheVariants.{Halt as Halts};
@@ -8,8 +10,10 @@ ghost use Rattle.princ_rows.specs.declared.entries.Logged.{Logged};
 ghost use Rattle.std.specs.VecDeque.{deque_len, deque_capacity};
 ghost use Rattle.princ_rows.specs.Entries.{IsOp, logged};
 ghost use Rattle.update_log.specs.Slots.{slot_of, Spells, IsSpelled};
-ghost use Rattle.update_log.specs.Logs.{IsJournal, ComesNext, entry_of, log_of, marker_of, with_prepared, log_committed, newest, begun};
-ghost use Rattle.update_log.specs.Moments.{HasLog, HasPrepared, IsBodyFor, IsDurable, LeavesLog, LeavesEither, ReadsOthers};
+ghost use Rattle.update_log.specs.Logs.{IsJournal, ComesNext, entry_of, log_of, marker_of};
+ghost use Rattle.update_log.specs.Logs.{with_prepared, log_committed, newest, begun};
+ghost use Rattle.update_log.specs.Moments.{HasLog, HasPrepared, IsBodyFor, IsDurable};
+ghost use Rattle.update_log.specs.Moments.{LeavesLog, LeavesEither, ReadsOthers};
 ghost use Rattle.update_log.specs.Runs.{stands_in};
 ghost use Rattle.update_log.specs.Scanning.{scanned, Scans};
 
@@ -46,9 +50,30 @@ impl Model for Log {
 
     ghost Value = { Journal };
 
-    ghost view = { λ l. record { file = l.file; base = l.base; size = l.size; block = l.block; held = l.held.items; prepared = l.prepared } };
+    ghost view = { λ l. record {
+      file = l.file;
+      base = l.base;
+      size = l.size;
+      block = l.block;
+      held = l.held.items;
+      prepared = l.prepared;
+    } };
 
-    ghost invariant = { λ l. IsJournal (record { file = l.file; base = l.base; size = l.size; block = l.block; held = l.held.items; prepared = l.prepared }) × HasRoom (record { file = l.file; base = l.base; size = l.size; block = l.block; held = l.held.items; prepared = l.prepared }) (deque_len l.held) (deque_capacity l.held) };
+    ghost invariant = { λ l. IsJournal (record {
+      file = l.file;
+      base = l.base;
+      size = l.size;
+      block = l.block;
+      held = l.held.items;
+      prepared = l.prepared;
+    }) × HasRoom (record {
+      file = l.file;
+      base = l.base;
+      size = l.size;
+      block = l.block;
+      held = l.held.items;
+      prepared = l.prepared;
+    }) (deque_len l.held) (deque_capacity l.held) };
 }
 
 // The base marker.
@@ -107,7 +132,8 @@ pub(crate) fn queue_of(
 #[tactic(auto, unfolding(kdb_control::specs::Choice::in_ranges))]
 fn log_under(control: &Control, held: VecDeque<Logged>) -> Log
     requires len { deque_len held ≡ length held.items }
-    requires journal { IsJournal (log_of control.now.log control.now.base control.now.size control.now.block held.items) }
+    requires journal { IsJournal
+        (log_of control.now.log control.now.base control.now.size control.now.block held.items) }
     ensures { result ≡ log_of control.now.log control.now.base control.now.size control.now.block held.items }
 {
     Log {
@@ -232,9 +258,11 @@ impl Log {
     /// The file is read once, in pieces, and its entries are kept in memory.
     pub fn scan<D: Disk>(alloc: Global, disk: &mut D, control: &Control) -> Result<Log, Stop>
         ensures answer { D.tells → Scans result (scanned control.now ((D.view disk.old).seen control.now.log)) }
-        ensures log { D.tells → IsDurable control.now.log (D.view disk.old) → IfOk result (λ log. HasLog log (D.view disk.new)) }
+        ensures log { D.tells → IsDurable control.now.log (D.view disk.old)
+            → IfOk result (λ log. HasLog log (D.view disk.new)) }
         // whatever the disk tells
-        ensures chosen { IfOk result (λ log. log ≡ log_of control.now.log control.now.base control.now.size control.now.block log.held) }
+        ensures chosen { IfOk result
+            (λ log. log ≡ log_of control.now.log control.now.base control.now.size control.now.block log.held) }
         ensures stands { IfOk result (λ log. All (λ l. stands_in control.now.format l ≡ true) log.held) }
         ensures keeps { D.tells → Keeps (D.view disk.old) (D.view disk.new) }
         ensures call { IsCall D.Disk disk.old disk.new (result ≡ Err (Halts IsDiskFault)) }
@@ -253,8 +281,10 @@ impl Log {
     /// The points of the first and of the last entry that the log holds.
     pub fn held(&self) -> (Point, Point)
         ensures first { (d : Logged) → result.0 ≡ (slice_index_or self.now.held 0 d).entry.point }
-        ensures last { (d : Logged) → result.1 ≡ (slice_index_or self.now.held (length self.now.held - 1) d).entry.point }
-        ensures serials { (i : ℕ) (d : Logged) → i < length self.now.held → (slice_index_or self.now.held i d).entry.point.sno ≡ result.0.sno + i }
+        ensures last { (d : Logged)
+            → result.1 ≡ (slice_index_or self.now.held (length self.now.held - 1) d).entry.point }
+        ensures serials { (i : ℕ) (d : Logged) → i < length self.now.held
+            → (slice_index_or self.now.held i d).entry.point.sno ≡ result.0.sno + i }
     {
         let first = self.held[0].entry.point;
         let last = self.held[self.held.len() - 1].entry.point;
@@ -354,9 +384,11 @@ impl Log {
         requires comes { ComesNext self.old.held (record { entry = entry.now; cell = cell }) }
         requires fits { IsOp entry.now.op }
         requires short { length (logged (record { entry = entry.now; cell = cell })) ≤ self.old.block - 1 }
-        ensures ok { OnOk result (self.new ≡ with_prepared (Some (record { entry = entry.now; cell = cell })) self.old) }
+        ensures ok { OnOk result
+            (self.new ≡ with_prepared (Some (record { entry = entry.now; cell = cell })) self.old) }
         ensures err { OnErr result (self.new ≡ with_prepared None self.old) }
-        ensures body { IfOk result (λ body. IsBodyFor (record { entry = entry.now; cell = cell }) self.old.block body.items) }
+        ensures body { IfOk result
+            (λ body. IsBodyFor (record { entry = entry.now; cell = cell }) self.old.block body.items) }
     {
         holds_entry(entry, cell, self.block);
         self.forget();
@@ -426,7 +458,8 @@ impl Log {
         ensures crash { IsCrashSafe D.Disk disk.old disk.new (LeavesLog self.old (D.view disk.old)) }
         ensures prepared { D.tells → OnOk result (HasPrepared self.new (D.view disk.new)) }
         ensures others { D.tells → OnOk result (ReadsOthers self.old.file (D.view disk.old) (D.view disk.new)) }
-        ensures ok { OnOk result (self.new ≡ with_prepared (Some (record { entry = entry.now; cell = cell })) self.old) }
+        ensures ok { OnOk result
+            (self.new ≡ with_prepared (Some (record { entry = entry.now; cell = cell })) self.old) }
         ensures err { OnErr result (self.new ≡ with_prepared None self.old) }
         ensures memory { result ≡ Err IsMemoryOut → disk.new ≡ disk.old }
         ensures call { IsCall D.Disk disk.old disk.new (result ≡ Err IsDiskFault) }
@@ -455,7 +488,8 @@ impl Log {
 
     // The place of the slot of the entry that is prepared.
     fn prepared_place(&self) -> u64
-        ensures value { (next : Logged) → self.now.prepared ≡ Some next → result ≡ slot_of self.now.base self.now.size next.entry.point.sno * self.now.block }
+        ensures value { (next : Logged) → self.now.prepared ≡ Some next
+            → result ≡ slot_of self.now.base self.now.size next.entry.point.sno * self.now.block }
         ensures small { result < 2 ^ 32 }
         ensures size { 0 < self.now.size }
         ensures block { 0 < self.now.block }
@@ -474,7 +508,8 @@ impl Log {
     pub fn open_prepared<D: Disk>(&self, disk: &mut D) -> Result<(), DiskFailed>
         requires ready { self.now.prepared ≢ None }
         requires log { D.tells → HasPrepared self.now (D.view disk.old) }
-        ensures crash { IsCrashSafe D.Disk disk.old disk.new (LeavesEither self.now (log_committed self.now) (D.view disk.old)) }
+        ensures crash { IsCrashSafe D.Disk disk.old disk.new
+            (LeavesEither self.now (log_committed self.now) (D.view disk.old)) }
         ensures log { D.tells → OnOk result (HasLog (log_committed self.now) (D.view disk.new)) }
         ensures durable { D.tells → OnOk result (IsDurable self.now.file (D.view disk.new)) }
         ensures others { D.tells → OnOk result (ReadsOthers self.now.file (D.view disk.old) (D.view disk.new)) }
@@ -491,7 +526,8 @@ impl Log {
     pub fn commit<D: Disk>(&mut self, disk: &mut D) -> Result<(), DiskFailed>
         requires ready { self.old.prepared ≢ None }
         requires log { D.tells → HasPrepared self.old (D.view disk.old) }
-        ensures crash { IsCrashSafe D.Disk disk.old disk.new (LeavesEither self.old (log_committed self.old) (D.view disk.old)) }
+        ensures crash { IsCrashSafe D.Disk disk.old disk.new
+            (LeavesEither self.old (log_committed self.old) (D.view disk.old)) }
         ensures log { D.tells → OnOk result (HasLog self.new (D.view disk.new)) }
         ensures durable { D.tells → OnOk result (IsDurable self.new.file (D.view disk.new)) }
         ensures others { D.tells → OnOk result (ReadsOthers self.old.file (D.view disk.old) (D.view disk.new)) }

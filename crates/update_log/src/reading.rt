@@ -4,7 +4,8 @@ ghost use Rattle.kdb_format.specs.Answers.{Finds};
 ghost use Rattle.princ_rows.specs.Entries.{IsOp};
 ghost use Rattle.princ_rows.specs.declared.entries.Logged.{Logged as LoggedEntry};
 ghost use Rattle.update_log.specs.Slots.{IsSpelled};
-ghost use Rattle.update_log.specs.Runs.{is_open, spelled_in, stands_in_1, stands_in, is_marker, is_marked, belongs, slot_in};
+ghost use Rattle.update_log.specs.Runs.{is_open, spelled_in, stands_in_1, stands_in};
+ghost use Rattle.update_log.specs.Runs.{is_marker, is_marked, belongs, slot_in};
 ghost use Rattle.update_log.specs.Scanning.{IsRead};
 
 use crate::slots::slot_of;
@@ -104,7 +105,8 @@ pub(crate) fn read_slot(
     slot: u32,
     bytes: &[u8],
 ) -> Result<Option<Logged>, FormatFault>
-    ensures found { Finds result (slot_in control.now.format control.now.base control.now.size control.now.block slot bytes.now) }
+    ensures found { Finds result
+        (slot_in control.now.format control.now.base control.now.size control.now.block slot bytes.now) }
     ensures read { (l : LoggedEntry) → IfOk result (λ o. o ≡ Some l → IsRead control.now slot l) }
 {
     if !is_open(control.block, bytes) {

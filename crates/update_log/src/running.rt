@@ -1,5 +1,6 @@
 //! The entries that run on to the last one of a log, among those that stand in its slots.
-ghost use Rattle.std.specs.Prelude.{◌≡◌, ◌≢◌, ◌≤◌, ◌+◌, ◌*◌, ℕ, true, Ok, Err, length, min, option_map, IfOk, IfErr, IfSome};
+ghost use Rattle.std.specs.Prelude.{◌≡◌, ◌≢◌, ◌≤◌, ◌+◌, ◌*◌, ℕ, true, Ok, Err};
+ghost use Rattle.std.specs.Prelude.{length, min, option_map, IfOk, IfErr, IfSome};
 ghost use Rattle.std.specs.List.{All};
 ghost use Rattle.std.specs.VecDeque.{deque_len};
 ghost use Rattle.kdb_base.specs.Moments.{micros as micros_of};
@@ -49,7 +50,8 @@ fn read_at(slots: &[Option<Logged>], slot: usize) -> Option<&Logged>
 
 // The one with the greater serial.
 fn later<'a>(last: Option<&'a Logged>, other: Option<&'a Logged>) -> Option<&'a Logged>
-    ensures { option_map (λ l. l.now) result ≡ later (option_map (λ l. l.now) last.entry) (option_map (λ l. l.now) other.entry) }
+    ensures { option_map (λ l. l.now) result
+        ≡ later (option_map (λ l. l.now) last.entry) (option_map (λ l. l.now) other.entry) }
 {
     match last {
         None => other,
@@ -143,7 +145,8 @@ fn is_left(run: &Run, logged: Option<&Logged>) -> bool
 fn first_left(control: &Control, slots: &[Option<Logged>], run: &Run) -> Option<usize>
     requires { length slots.now ≤ control.now.size + 1 }
     ensures place { IfSome result (λ slot. slot ≤ control.now.size) }
-    ensures first { result ≡ first_of (λ k. is_left run.now.last run.now.len (read_at slots.now k)) 0 (control.now.size + 1) }
+    ensures first { result
+        ≡ first_of (λ k. is_left run.now.last run.now.len (read_at slots.now k)) 0 (control.now.size + 1) }
 {
     for slot in 0..slots.len() {
         if is_left(run, read_at(slots, slot)) {
@@ -204,7 +207,8 @@ fn take_run(
     requires run { IsRunEnd control.now slots.items run.now.last run.now.len }
     ensures held { IfOk result (λ held. held_in control.now slots.items ≡ Ok held.items) }
     ensures len { IfOk result (λ held. deque_len held ≡ length held.items) }
-    ensures journal { IfOk result (λ held. IsJournal (log_of control.now.log control.now.base control.now.size control.now.block held.items)) }
+    ensures journal { IfOk result
+        (λ held. IsJournal (log_of control.now.log control.now.base control.now.size control.now.block held.items)) }
     ensures stands { IfOk result (λ held. All (λ l. stands_in control.now.format l ≡ true) held.items) }
 {
     holds_ranges(control);
@@ -243,9 +247,11 @@ pub(crate) fn hold(
     requires few { length slots.items ≤ control.now.size + 1 }
     ensures held { IfOk result (λ held. held_in control.now slots.items ≡ Ok held.items) }
     ensures len { IfOk result (λ held. deque_len held ≡ length held.items) }
-    ensures journal { IfOk result (λ held. IsJournal (log_of control.now.log control.now.base control.now.size control.now.block held.items)) }
+    ensures journal { IfOk result
+        (λ held. IsJournal (log_of control.now.log control.now.base control.now.size control.now.block held.items)) }
     ensures stands { IfOk result (λ held. All (λ l. stands_in control.now.format l ≡ true) held.items) }
-    ensures refused { (r : Refusal) → result ≡ Err (Refused r) → log_found control.now (held_in control.now slots.items) ≡ Err r }
+    ensures refused { (r : Refusal) → result ≡ Err (Refused r)
+        → log_found control.now (held_in control.now slots.items) ≡ Err r }
     ensures cause { result ≡ Err (Halts IsDiskFault) → ⊥ }
 {
     let run = match find_run(control, &slots) {

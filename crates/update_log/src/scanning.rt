@@ -1,5 +1,6 @@
 //! The slots of a log's file, read from a disk.
-ghost use Rattle.std.specs.Prelude.{◌≡◌, ◌≤◌, ◌<◌, ◌+◌, ◌/◌, ◌∷◌, ◌++◌, [], ℕ, Some, Err, length, take, drop, IfOk, OnOk};
+ghost use Rattle.std.specs.Prelude.{◌≡◌, ◌≤◌, ◌<◌, ◌+◌, ◌/◌, ◌∷◌, ◌++◌, [], ℕ};
+ghost use Rattle.std.specs.Prelude.{Some, Err, length, take, drop, IfOk, OnOk};
 ghost use Rattle.kdb_base.specs.declared.outcomes.Refusal.{Refusal};
 ghost use Rattle.kdb_base.specs.declared.outcomes.Stop.TheVariants.{Refused, Halt as Halts};
 ghost use Rattle.kdb_base.specs.declared.outcomes.Halt.TheVariants.{DiskFault as IsDiskFault};
@@ -32,9 +33,11 @@ fn next_slot<D: Disk>(
 ) -> Result<Option<Logged>, Stop>
     requires slot { slot ≤ control.now.size }
     requires over { D.tells → IsOver reader.old (D.view disk.old).seen }
-    ensures found { D.tells → SlotAnswers result control.now slot (slot_in control.now.format control.now.base control.now.size control.now.block slot (take control.now.block (left_of reader.old (D.view disk.old).seen))) }
+    ensures found { D.tells → SlotAnswers result control.now slot (slot_in control.now.format control.now.base
+        control.now.size control.now.block slot (take control.now.block (left_of reader.old (D.view disk.old).seen))) }
     ensures read { (l : LoggedEntry) → IfOk result (λ o. o ≡ Some l → IsRead control.now slot l) }
-    ensures left { D.tells → OnOk result (left_of reader.new (D.view disk.new).seen ≡ drop control.now.block (left_of reader.old (D.view disk.old).seen)) }
+    ensures left { D.tells → OnOk result (left_of reader.new (D.view disk.new).seen
+        ≡ drop control.now.block (left_of reader.old (D.view disk.old).seen)) }
     ensures over { D.tells → IsOver reader.new (D.view disk.new).seen }
     ensures keeps { D.tells → Keeps (D.view disk.old) (D.view disk.new) }
     ensures call { IsCall D.Disk disk.old disk.new (result ≡ Err (Halts IsDiskFault)) }
@@ -84,10 +87,12 @@ pub(crate) fn read_slots<D: Disk>(
     disk: &mut D,
     control: &Control,
 ) -> Result<Vec<Option<Logged>>, Stop>
-    ensures slots { D.tells → IfOk result (λ slots. HasSlots control.now ((D.view disk.old).seen control.now.log) slots.items) }
+    ensures slots { D.tells
+        → IfOk result (λ slots. HasSlots control.now ((D.view disk.old).seen control.now.log) slots.items) }
     ensures read { IfOk result (λ slots. AreRead control.now slots.items) }
     ensures few { IfOk result (λ slots. length slots.items ≤ control.now.size + 1) }
-    ensures refused { D.tells → (r : Refusal) → result ≡ Err (Refused r) → scanned control.now ((D.view disk.old).seen control.now.log) ≡ Err r }
+    ensures refused { D.tells → (r : Refusal) → result ≡ Err (Refused r)
+        → scanned control.now ((D.view disk.old).seen control.now.log) ≡ Err r }
     ensures keeps { D.tells → Keeps (D.view disk.old) (D.view disk.new) }
     ensures call { IsCall D.Disk disk.old disk.new (result ≡ Err (Halts IsDiskFault)) }
 {

@@ -5,7 +5,8 @@ ghost use Rattle.kdb_disk.specs.Moments.{LeavesOnly, Differs};
 ghost use Rattle.kdb_disk.specs.Frames.{IsCall, IsCrashSafe};
 ghost use Rattle.princ_rows.specs.declared.entries.Logged.{Logged};
 ghost use Rattle.update_log.specs.Logs.{Journal, begun};
-ghost use Rattle.update_log.specs.Moments.{IsDurable, MayShut, IsShut, IsFilled, HasLog, LeavesLog, IsNext, IsMarker, Prepares, ReadsOthers};
+ghost use Rattle.update_log.specs.Moments.{IsDurable, MayShut, IsShut, IsFilled, HasLog};
+ghost use Rattle.update_log.specs.Moments.{LeavesLog, IsNext, IsMarker, Prepares, ReadsOthers};
 
 use kdb_disk::{Disk, DiskFailed, close_gate, empty_file, fill_body, open_gate, shut_gate};
 
@@ -15,8 +16,10 @@ fn shut_slot<D: Disk>(disk: &mut D, file: u8, at: u64) -> Result<(), DiskFailed>
     requires fits { at + 1 < 2 ^ 64 }
     requires within { D.tells → at < length ((D.view disk.old).seen file) }
     requires durable { D.tells → IsDurable file (D.view disk.old) }
-    ensures moments { D.tells → (block slot : ℕ) → 2 ≤ block → at ≡ slot * block → LeavesOnly (D.view disk.old) (D.view disk.new) (MayShut file block slot (D.view disk.old)) }
-    ensures ok { D.tells → (block slot : ℕ) → 2 ≤ block → at ≡ slot * block → OnOk result (IsShut file block slot (D.view disk.old) (D.view disk.new)) }
+    ensures moments { D.tells → (block slot : ℕ) → 2 ≤ block → at ≡ slot * block
+        → LeavesOnly (D.view disk.old) (D.view disk.new) (MayShut file block slot (D.view disk.old)) }
+    ensures ok { D.tells → (block slot : ℕ) → 2 ≤ block → at ≡ slot * block
+        → OnOk result (IsShut file block slot (D.view disk.old) (D.view disk.new)) }
     ensures begun { D.tells → OnOk result (at < length ((D.view disk.new).seen file)) }
     ensures call { IsCall D.Disk disk.old disk.new (IsErr result) }
 {
@@ -29,8 +32,10 @@ fn close_slot<D: Disk>(disk: &mut D, file: u8, at: u64) -> Result<(), DiskFailed
     requires fits { at + 1 < 2 ^ 64 }
     requires end { D.tells → at ≡ length ((D.view disk.old).seen file) }
     requires durable { D.tells → IsDurable file (D.view disk.old) }
-    ensures moments { D.tells → (block slot : ℕ) → 2 ≤ block → at ≡ slot * block → LeavesOnly (D.view disk.old) (D.view disk.new) (MayShut file block slot (D.view disk.old)) }
-    ensures ok { D.tells → (block slot : ℕ) → 2 ≤ block → at ≡ slot * block → OnOk result (IsShut file block slot (D.view disk.old) (D.view disk.new)) }
+    ensures moments { D.tells → (block slot : ℕ) → 2 ≤ block → at ≡ slot * block
+        → LeavesOnly (D.view disk.old) (D.view disk.new) (MayShut file block slot (D.view disk.old)) }
+    ensures ok { D.tells → (block slot : ℕ) → 2 ≤ block → at ≡ slot * block
+        → OnOk result (IsShut file block slot (D.view disk.old) (D.view disk.new)) }
     ensures begun { D.tells → OnOk result (at < length ((D.view disk.new).seen file)) }
     ensures call { IsCall D.Disk disk.old disk.new (IsErr result) }
 {
@@ -43,8 +48,10 @@ fn begin_slot<D: Disk>(disk: &mut D, file: u8, at: u64) -> Result<(), DiskFailed
     requires fits { at + 1 < 2 ^ 64 }
     requires within { D.tells → at ≤ length ((D.view disk.old).seen file) }
     requires durable { D.tells → IsDurable file (D.view disk.old) }
-    ensures moments { D.tells → (block slot : ℕ) → 2 ≤ block → at ≡ slot * block → LeavesOnly (D.view disk.old) (D.view disk.new) (MayShut file block slot (D.view disk.old)) }
-    ensures ok { D.tells → (block slot : ℕ) → 2 ≤ block → at ≡ slot * block → OnOk result (IsShut file block slot (D.view disk.old) (D.view disk.new)) }
+    ensures moments { D.tells → (block slot : ℕ) → 2 ≤ block → at ≡ slot * block
+        → LeavesOnly (D.view disk.old) (D.view disk.new) (MayShut file block slot (D.view disk.old)) }
+    ensures ok { D.tells → (block slot : ℕ) → 2 ≤ block → at ≡ slot * block
+        → OnOk result (IsShut file block slot (D.view disk.old) (D.view disk.new)) }
     ensures begun { D.tells → OnOk result (at < length ((D.view disk.new).seen file)) }
     ensures call { IsCall D.Disk disk.old disk.new (IsErr result) }
 {
@@ -67,8 +74,10 @@ pub(crate) fn fill_slot<D: Disk>(
     requires body { (1 ≤ length body.now) × (length body.now < 2 ^ 32) }
     requires within { D.tells → at ≤ length ((D.view disk.old).seen file) }
     requires durable { D.tells → IsDurable file (D.view disk.old) }
-    ensures moments { D.tells → (block slot : ℕ) → length body.now + 1 ≡ block → at ≡ slot * block → LeavesOnly (D.view disk.old) (D.view disk.new) (MayShut file block slot (D.view disk.old)) }
-    ensures ok { D.tells → (block slot : ℕ) → length body.now + 1 ≡ block → at ≡ slot * block → OnOk result (IsFilled file block slot body.now (D.view disk.old) (D.view disk.new)) }
+    ensures moments { D.tells → (block slot : ℕ) → length body.now + 1 ≡ block → at ≡ slot * block
+        → LeavesOnly (D.view disk.old) (D.view disk.new) (MayShut file block slot (D.view disk.old)) }
+    ensures ok { D.tells → (block slot : ℕ) → length body.now + 1 ≡ block → at ≡ slot * block
+        → OnOk result (IsFilled file block slot body.now (D.view disk.old) (D.view disk.new)) }
     ensures call { IsCall D.Disk disk.old disk.new (IsErr result) }
 {
     begin_slot(disk, file, at)?;
@@ -87,8 +96,11 @@ pub(crate) fn write_next<D: Disk>(
     requires body { (1 ≤ length body.now) × (length body.now < 2 ^ 32) }
     requires within { D.tells → at ≤ length ((D.view disk.old).seen file) }
     requires durable { D.tells → IsDurable file (D.view disk.old) }
-    ensures crash { D.tells → (log : Journal) (next : Logged) → IsNext log next file at body.now → HasLog log (D.view disk.old) → LeavesOnly (D.view disk.old) (D.view disk.new) (LeavesLog log (D.view disk.old)) }
-    ensures ok { D.tells → (log : Journal) (next : Logged) → IsNext log next file at body.now → HasLog log (D.view disk.old) → OnOk result (Prepares log next (D.view disk.old) (D.view disk.new)) }
+    ensures crash { D.tells → (log : Journal) (next : Logged)
+        → IsNext log next file at body.now → HasLog log (D.view disk.old)
+        → LeavesOnly (D.view disk.old) (D.view disk.new) (LeavesLog log (D.view disk.old)) }
+    ensures ok { D.tells → (log : Journal) (next : Logged) → IsNext log next file at body.now
+        → HasLog log (D.view disk.old) → OnOk result (Prepares log next (D.view disk.old) (D.view disk.new)) }
     ensures call { IsCall D.Disk disk.old disk.new (IsErr result) }
 {
     fill_slot(disk, file, at, body)
@@ -99,7 +111,8 @@ pub(crate) fn write_first<D: Disk>(disk: &mut D, file: u8, body: &[u8]) -> Resul
     requires file { file < 7 }
     requires body { (1 ≤ length body.now) × (length body.now < 2 ^ 32) }
     ensures crash { IsCrashSafe D.Disk disk.old disk.new (IsAfter (Differs file) (D.view disk.old)) }
-    ensures ok { D.tells → (base : Point) (size block : ℕ) (marker : Logged) → IsMarker base size block marker body.now → OnOk result (HasLog (begun file base size block) (D.view disk.new)) }
+    ensures ok { D.tells → (base : Point) (size block : ℕ) (marker : Logged) → IsMarker base size block marker body.now
+        → OnOk result (HasLog (begun file base size block) (D.view disk.new)) }
     ensures durable { D.tells → OnOk result (IsDurable file (D.view disk.new)) }
     ensures others { D.tells → OnOk result (ReadsOthers file (D.view disk.old) (D.view disk.new)) }
     ensures call { IsCall D.Disk disk.old disk.new (IsErr result) }

@@ -1,5 +1,6 @@
 -- A policy is added: what the step does, as what the primary performs of its place.
-use Rattle.std.proofs.Common.{◌≡◌, ◌+◌, ◌<◌, ◌≤◌, inl, inr, Bool, true, false, [], ◌∷◌, length, Option, Some, None, refl, sym, ◌∙◌, ap, subst, arith}
+use Rattle.std.proofs.Common.{◌≡◌, ◌+◌, ◌<◌, ◌≤◌, inl, inr, Bool, true, false, [], ◌∷◌}
+use Rattle.std.proofs.Common.{length, Option, Some, None, refl, sym, ◌∙◌, ap, subst, arith}
 use Rattle.std.specs.Prelude.{nat_le, nat_lt, if◌then◌else◌}
 use Rattle.std.proofs.lemmas.Bool.{le-leb, lt-leb, ltb-true, true≢false}
 use Rattle.master_keys.proofs.SideBySide.{zip_length}
@@ -12,7 +13,9 @@ use Rattle.kdb_histories.proofs.Growing.{StaysValid}
 use Rattle.kdb_histories.specs.Asks.{Enters, Kind, Outcome, Replied, commanded, kept_op, kind_of, outcome}
 use Rattle.kdb_histories.specs.Calls.{IsFit, Leads, MayBeFit, Performs}
 use Rattle.kdb_histories.specs.Moves.{IsLeft}
-use Rattle.kdb_histories.specs.Seen.{Plan, Put, Seen, answer_at, did, due_at, entry_point, is_due, is_due_of, made_at, made_by, moment_at, outcome_at, plan_at, planned, reset_for, reset_point, seen, stash_of}
+use Rattle.kdb_histories.specs.Seen.{Plan, Put, Seen, answer_at, did, due_at, entry_point}
+use Rattle.kdb_histories.specs.Seen.{is_due, is_due_of, made_at, made_by, moment_at, outcome_at}
+use Rattle.kdb_histories.specs.Seen.{plan_at, planned, reset_for, reset_point, seen, stash_of}
 use Rattle.kdb_histories.specs.Stages.{Anew, ShowsAt, stage}
 use Rattle.kdb_model.proofs.Moments.{by_secs}
 use Rattle.kdb_model.proofs.Stepping.{truth}
@@ -110,13 +113,15 @@ module _ (a : Adding) (p : Place) (s : State) (h : MayAdd a p s) where
   made_is =
       let anew = stage (reset_for a.clock (adding_op a) p) Anew ∷ did (adding_ask a) true (adding_op a) p
       (committed (adding_op a) (reset_point a.clock p).time (reset_for a.clock (adding_op a) p)) ∷ [] in
-      ap (λ (x : Plan). made_by (adding_ask a) x p) plan_is ∙ ap (λ (x : Bool). if x then anew else added_stage a p ∷ []) h.due
+      ap (λ (x : Plan). made_by (adding_ask a) x p) plan_is
+      ∙ ap (λ (x : Bool). if x then anew else added_stage a p ∷ []) h.due
 
   -- ---- the point and the state
 
   point_is : change_point s Given ≡ added_point a p
   unfolding point_after
-  point_is = ap (λ (x : Point). let y : Point = record { sno = x.sno + 1; time = later_moment x.time a.clock } in y) h.shows.at
+  point_is =
+      ap (λ (x : Point). let y : Point = record { sno = x.sno + 1; time = later_moment x.time a.clock } in y) h.shows.at
 
   entry_at : entry_point a.clock (adding_op a) p ≡ added_point a p
   entry_at =
@@ -133,23 +138,29 @@ module _ (a : Adding) (p : Place) (s : State) (h : MayAdd a p s) where
 
   added_since : (point_of p).time.secs ≤ (added_point a p).time.secs
   added_since = elim (truth (nat_lt (micros (point_of p).time) (micros a.clock))) [
-    | inl e ↦ rw e (by_secs (point_of p).time a.clock h.clock.usecs (omega (arith, ltb-true (micros (point_of p).time) (micros a.clock) e)))
+    | inl e ↦ rw e (by_secs (point_of p).time a.clock h.clock.usecs (omega (
+      arith,
+      ltb-true (micros (point_of p).time) (micros a.clock) e,
+    )))
     | inr e ↦ rw e (omega arith)
   ]
 
   still_valid : StaysValid → IsValid (added_point a p).time (at_point (added_point a p) (put_policy a.policy s))
   still_valid valid =
-      let put = put_policy_valid (point_of p).time s a.policy h.shows.valid h.policy (rw put_one (omega (arith, h.room))) in
+      let put =
+      put_policy_valid (point_of p).time s a.policy h.shows.valid h.policy (rw put_one (omega (arith, h.room))) in
       let later = valid.later (put_policy a.policy s) (point_of p).time (added_point a p).time added_since put in
       valid.point (put_policy a.policy s) (added_point a p).time (added_point a p) later
 
-  left : StaysValid → IsLeft p.realm (added_point a p) (adding_op a) p.rows (at_point (added_point a p) (put_policy a.policy s))
+  left : StaysValid
+      → IsLeft p.realm (added_point a p) (adding_op a) p.rows (at_point (added_point a p) (put_policy a.policy s))
   unfolding effect_on
   left valid = record {
     same = h.shows.realm;
     at = refl;
     shows = shows_at (effect (Some (adding_op a)) p.rows) (added_point a p) (put_policy a.policy s)
-        (change_shows_at p.rows s h.shows.shows.history (adding_op a) (PutPolicy a.policy) h.shows.shows h.shows.shows.history_is refl tt);
+        (change_shows_at p.rows s h.shows.shows.history (adding_op a)
+        (PutPolicy a.policy) h.shows.shows h.shows.shows.history_is refl tt);
     valid = still_valid valid;
   }
 
@@ -159,16 +170,24 @@ module _ (a : Adding) (p : Place) (s : State) (h : MayAdd a p s) where
       let same = zip_length (ShowsPrinc s.masters h.shows.shows.history) p.rows.princs s.princs h.shows.shows.princs in
       rw put_row (rw (le-leb (length p.rows.princs + 1) most_rows (omega (arith, same, h.room))) refl)
 
-  pub performs : StaysValid → Performs p s (adding_ask a) (Replied (reply.Done (added_point a p))) (added_stage a p ∷ [])
+  pub performs : StaysValid
+      → Performs p s (adding_ask a) (Replied (reply.Done (added_point a p))) (added_stage a p ∷ [])
   performs valid =
       let state : at_point (added_point a p) (put_policy a.policy s) ≡ (outcome_at (adding_ask a) At).state =
-      ap (λ (x : Point). at_point x (put_policy a.policy s)) (sym point_is) ∙ sym came_state ∙ ap (λ (x : Outcome). x.state) (sym came) in
+      ap (λ (x : Point). at_point x (put_policy a.policy s)) (sym point_is) ∙ sym came_state
+      ∙ ap (λ (x : Outcome). x.state) (sym came) in
       let answer : Replied (reply.Done (added_point a p)) ≡ answer_at (adding_ask a) At =
-      ap (λ (x : Point). Replied (reply.Done x)) (sym point_is) ∙ sym came_answer ∙ ap (λ (x : Outcome). x.answer) (sym came) in
+      ap (λ (x : Point). Replied (reply.Done x)) (sym point_is) ∙ sym came_answer
+      ∙ ap (λ (x : Outcome). x.answer) (sym came) in
       let there = subst (λ (x : State). IsLeft p.realm (added_point a p) (adding_op a) p.rows x) state (left valid) in
-      let here = subst (λ (x : Point). IsLeft p.realm x (adding_op a) p.rows (outcome_at (adding_ask a) At).state) (sym entry_at) there in
+      let here = subst (λ (x : Point). IsLeft p.realm x (adding_op a) p.rows (outcome_at (adding_ask a) At).state)
+      (sym entry_at) there in
       let fit : IsFit p (adding_op a) =
-      record { newer = h.newer; fits = fits; left = λ (due : is_due (adding_op a) p ≡ true). absurd (true≢false (sym due ∙ h.due)) } in
+      record {
+        newer = h.newer;
+        fits = fits;
+        left = λ (due : is_due (adding_op a) p ≡ true). absurd (true≢false (sym due ∙ h.due));
+      } in
       record {
         answers = answer;
         leads = subst (Leads a.clock p s (outcome_at (adding_ask a) At).state) (sym plan_is) here;

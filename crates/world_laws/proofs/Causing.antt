@@ -8,7 +8,8 @@ use Rattle.kdb_histories.proofs.Resetting.{caused}
 use Rattle.kdb_histories.proofs.SiteRuns.{onto_rest}
 use Rattle.kdb_histories.specs.Asks.{Answer}
 use Rattle.kdb_histories.specs.Calls.{Call, ResetCause}
-use Rattle.kdb_histories.specs.Sites.{Called, Created, Site, SiteEvent, Creates, Calls, Stops, Crashes, Ends, Looks, Polls, Dumps, EndsDump, HappensAt, state_of, story_of}
+use Rattle.kdb_histories.specs.Sites.{Called, Created, Site, SiteEvent, Creates, Calls, Stops, Crashes}
+use Rattle.kdb_histories.specs.Sites.{Ends, Looks, Polls, Dumps, EndsDump, HappensAt, state_of, story_of}
 use Rattle.kdb_histories.specs.Stages.{Anew, Filled, Stage, onto}
 use Rattle.kdb_plain.specs.declared.states.State.{State}
 use Rattle.kdb_worlds.specs.Worlds.{AtPrimary, Happens, World}
@@ -26,10 +27,12 @@ none_caused s event = All-nil (λ (t : Stage). t.deed ≡ Anew → HasCause s ev
 not_filled : (state : State) → Filled state ≡ Anew → ⊥
 not_filled state is = absurd cc
 
-created_goes : (t : Stage) (up : Bool) (old new : Site) (said : Option Message) → Created old new t up said → AddsStages (Creates t up) old new
+created_goes : (t : Stage) (up : Bool) (old new : Site) (said : Option Message) → Created old new t up said
+    → AddsStages (Creates t up) old new
 created_goes t up old new said e =
     let event = Creates t up in
-    let never : t.deed ≡ Anew → HasCause old event = λ (is : t.deed ≡ Anew). absurd (not_filled e.creation.state (sym e.creation.deed ∙ is)) in
+    let never : t.deed ≡ Anew → HasCause old event =
+    λ (is : t.deed ≡ Anew). absurd (not_filled e.creation.state (sym e.creation.deed ∙ is)) in
     record {
       story = ap story_of e.is ∙ ap (λ (x : List Stage). t ∷ x ++ old.ended) (sym e.none);
       causes = All-cons (λ (u : Stage). u.deed ≡ Anew → HasCause old event) t [] never (none_caused old event);
@@ -37,12 +40,15 @@ created_goes t up old new said e =
 
 -- ---- a call
 
-called_story : (old new : Site) (call : Call) (answer : Answer) (made done : List Stage) (up : Bool) (said : Option Message)
+called_story : (old new : Site) (call : Call) (answer : Answer) (made done : List Stage) (up : Bool)
+    (said : Option Message)
     → Called old new call answer made done up said → story_of new ≡ onto done (story_of old)
 called_story old new call answer made done up said e = ap story_of e.is ∙ sym (onto_rest done old.history old.ended)
 
-call_caused : (old new : Site) (call : Call) (answer : Answer) (made done : List Stage) (up : Bool) (said : Option Message)
-    → (e : Called old new call answer made done up said) → All (λ (t : Stage). t.deed ≡ Anew → ResetCause e.at.last.place call made) made
+call_caused : (old new : Site) (call : Call) (answer : Answer) (made done : List Stage) (up : Bool)
+    (said : Option Message)
+    → (e : Called old new call answer made done up said)
+    → All (λ (t : Stage). t.deed ≡ Anew → ResetCause e.at.last.place call made) made
 call_caused old new call answer made done up said e = caused e.at.last.place (state_of old) call answer made e.makes
 
 returned_goes : (call : Call) (answer : Answer) (made : List Stage) (old new : Site) (said : Option Message)
@@ -53,8 +59,10 @@ returned_goes call answer made old new said e =
     record {
       story = called_story old new call answer made made true said e;
       causes =
-          All-weaker (λ (t : Stage). t.deed ≡ Anew → ResetCause p call made) (λ (t : Stage). t.deed ≡ Anew → HasCause old event)
-          (λ t cause is. record { at = e.at; why = cause is }) made (call_caused old new call answer made made true said e);
+          All-weaker (λ (t : Stage). t.deed ≡ Anew → ResetCause p call made)
+          (λ (t : Stage). t.deed ≡ Anew → HasCause old event)
+          (λ t cause is. record { at = e.at; why = cause is }) made
+          (call_caused old new call answer made made true said e);
     }
 
 stopped_goes : (call : Call) (answer : Answer) (made : List Stage) (part : ℕ) (old new : Site) (said : Option Message)
@@ -65,7 +73,8 @@ stopped_goes call answer made part old new said e =
     record {
       story = called_story old new call answer made (take part made) false said e;
       causes =
-          All-weaker (λ (t : Stage). t.deed ≡ Anew → ResetCause p call made) (λ (t : Stage). t.deed ≡ Anew → HasCause old event)
+          All-weaker (λ (t : Stage). t.deed ≡ Anew → ResetCause p call made)
+          (λ (t : Stage). t.deed ≡ Anew → HasCause old event)
           (λ t cause is. record { at = e.at; why = cause is }) (take part made)
           (All-take (λ (t : Stage). t.deed ≡ Anew → ResetCause p call made) part made
           (call_caused old new call answer made (take part made) false said e));
@@ -73,7 +82,8 @@ stopped_goes call answer made part old new said e =
 
 -- ---- all events
 
-goes_on : (event : SiteEvent) (old new : Site) (said : Option Message) → HappensAt event old new said → AddsStages event old new
+goes_on : (event : SiteEvent) (old new : Site) (said : Option Message) → HappensAt event old new said
+    → AddsStages event old new
 goes_on (Creates t up) old new said e = created_goes t up old new said e
 goes_on (Calls call answer made) old new said e = returned_goes call answer made old new said e
 goes_on (Stops call answer made part) old new said e = stopped_goes call answer made part old new said e
@@ -82,8 +92,11 @@ goes_on Ends old new said e = record { story = ap story_of e.is; causes = none_c
 goes_on Looks old new said e = record { story = ap story_of e.is; causes = none_caused old Looks }
 goes_on (Polls client access asked) old new said e =
     record { story = ap story_of e.is; causes = none_caused old (Polls client access asked) }
-goes_on (Dumps client access) old new said e = record { story = ap story_of e.is; causes = none_caused old (Dumps client access) }
+goes_on (Dumps client access) old new said e =
+    record { story = ap story_of e.is; causes = none_caused old (Dumps client access) }
 goes_on EndsDump old new said e = record { story = ap story_of e.is; causes = none_caused old EndsDump }
 
-pub primary_goes : (event : SiteEvent) (said : Option Message) (w new : World) → Happens (AtPrimary event said) w new → AddsStages event w.site new.site
-primary_goes event said w new e = subst (λ (x : World). AddsStages event w.site x.site) (sym e.is) (goes_on event w.site e.site said e.happens)
+pub primary_goes : (event : SiteEvent) (said : Option Message) (w new : World) → Happens (AtPrimary event said) w new
+    → AddsStages event w.site new.site
+primary_goes event said w new e =
+    subst (λ (x : World). AddsStages event w.site x.site) (sym e.is) (goes_on event w.site e.site said e.happens)

@@ -19,7 +19,8 @@ use Rattle.princ_record.specs.Policies.{IsPolicy, policy}
 use Rattle.kdb_format.specs.Spellings.{big, counted}
 use Rattle.stash_file.specs.Written.{stash_text}
 use Rattle.world_laws.proofs.Running.{MayRun, updates}
-use Rattle.world_laws.specs.Examples.{LeadsToUpdate, added_place, adding_op, example_adding, example_events, example_moment, example_place, example_random, example_spec, example_state}
+use Rattle.world_laws.specs.Examples.{LeadsToUpdate, added_place, adding_op, example_adding, example_events}
+use Rattle.world_laws.specs.Examples.{example_moment, example_place, example_random, example_spec, example_state}
 
 random_long : length example_random ≡ 2048
 unfolding example_random
@@ -55,7 +56,14 @@ creation = record {
 
 is_policy : IsPolicy example_adding.policy
 unfolding is_policy_name
-is_policy = record { named = refl; max_life = omega arith; min_life = omega arith; length = refl; classes = refl; remembered = refl }
+is_policy = record {
+  named = refl;
+  max_life = omega arith;
+  min_life = omega arith;
+  length = refl;
+  classes = refl;
+  remembered = refl;
+}
 
 -- the entry is short, and serials are left
 not_due : is_due (adding_op example_adding) example_place ≡ false

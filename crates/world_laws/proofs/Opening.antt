@@ -23,9 +23,11 @@ use Rattle.world_laws.specs.Opened.{IsOpenedByEach, IsReplicaOpened}
 
 -- ---- versions
 
-named_by : (newest : Key) (k : KeyItem) (items : List KeyItem) (m : Master) (ms : List Master) (version : ℕ) → IsKeyOf newest k m
+named_by : (newest : Key) (k : KeyItem) (items : List KeyItem) (m : Master) (ms : List Master) (version : ℕ)
+    → IsKeyOf newest k m
     → (Contains (map (λ (x : KeyItem). x.kvno) items) version → (key : Key) × Lists ms version key)
-    → (k.kvno ≡ version) ⊎ Contains (map (λ (x : KeyItem). x.kvno) items) version → (key : Key) × Lists (m ∷ ms) version key
+    → (k.kvno ≡ version) ⊎ Contains (map (λ (x : KeyItem). x.kvno) items) version
+    → (key : Key) × Lists (m ∷ ms) version key
 named_by newest k items m ms version is others (inl here) =
     (m.key, subst (λ (v : ℕ). Lists (m ∷ ms) v m.key) (sym is.version ∙ here) (contains_first m ms))
 named_by newest k items m ms version is others (inr there) =
@@ -63,7 +65,8 @@ pub replica_opened : (w : World) (p : Place) → IsReplicaOf w p → IsReplicaOp
 replica_opened w p copy = record { copy = copy; opened = opened p copy.at.state copy.shows }
 
 -- each place of a story shows what all deeds up to it come to
-shown_by : (t : Stage) (older : List Stage) (a : Seen) → IsFolded (t ∷ older) → (Contains (all_seen older) a → ShowsAt a.place a.state)
+shown_by : (t : Stage) (older : List Stage) (a : Seen) → IsFolded (t ∷ older)
+    → (Contains (all_seen older) a → ShowsAt a.place a.state)
     → (seen t.place (fold (t ∷ older)) ≡ a) ⊎ Contains (all_seen older) a → ShowsAt a.place a.state
 shown_by t older a h others (inl is) = subst (λ (x : Seen). ShowsAt x.place x.state) is h.0
 shown_by t older a h others (inr there) = others there
@@ -71,7 +74,9 @@ shown_by t older a h others (inr there) = others there
 shown_at : (stages : List Stage) (a : Seen) → IsFolded stages → Contains (all_seen stages) a → ShowsAt a.place a.state
 shown_at [] a h there = absurd (omega (arith, there.1))
 shown_at (t ∷ older) a h there =
-    shown_by t older a h (λ rest. shown_at older a h.1 rest) (contains_cases (seen t.place (fold (t ∷ older))) (all_seen older) a there)
+    shown_by t older a h (λ rest. shown_at older a h.1 rest)
+    (contains_cases (seen t.place (fold (t ∷ older))) (all_seen older) a there)
 
-pub place_opened : (stages : List Stage) (a : Seen) → IsFolded stages → Contains (all_seen stages) a → IsOpenedByEach a.place a.state
+pub place_opened : (stages : List Stage) (a : Seen) → IsFolded stages → Contains (all_seen stages) a
+    → IsOpenedByEach a.place a.state
 place_opened stages a h there = opened a.place a.state (shown_at stages a h there)

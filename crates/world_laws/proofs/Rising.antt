@@ -13,7 +13,8 @@ use Rattle.kdb_histories.specs.Asks.{Answer}
 use Rattle.kdb_histories.specs.Calls.{Call, CallMakes}
 use Rattle.kdb_histories.specs.Histories.{HasRoom, IsCreation, IsStory}
 use Rattle.kdb_histories.specs.Moves.{IsLoad, IsPath, IsReset, Moves}
-use Rattle.kdb_histories.specs.Sites.{Site, SiteEvent, Creates, Calls, Stops, Crashes, Ends, Looks, Polls, Dumps, EndsDump, HappensAt, SiteHolds, clock_at, places_of, story_of}
+use Rattle.kdb_histories.specs.Sites.{Site, SiteEvent, Creates, Calls, Stops, Crashes, Ends, Looks, Polls}
+use Rattle.kdb_histories.specs.Sites.{Dumps, EndsDump, HappensAt, SiteHolds, clock_at, places_of, story_of}
 use Rattle.kdb_histories.specs.Stages.{Deed, Filled, Did, Anew, Stashed, ShowsAt, Stage, fold, onto, places}
 use Rattle.kdb_model.specs.Laws.{IsMoment}
 use Rattle.kdb_places.proofs.Points.{committed_point, first_point}
@@ -25,7 +26,8 @@ use Rattle.world_laws.specs.Strict.{IsStrict, Rises, RisesFrom}
 -- ---- one deed
 
 -- a place that begins a log stands at the base marker's point, which is later
-marked_later : (p q : Place) (base : Point) → micros (point_of p).time < micros base.time → point_of q ≡ base → ComesBefore (point_of p) (point_of q)
+marked_later : (p q : Place) (base : Point) → micros (point_of p).time < micros base.time → point_of q ≡ base
+    → ComesBefore (point_of p) (point_of q)
 marked_later p q base later at = subst (λ (x : Point). ComesBefore (point_of p) x) (sym at) (inl later)
 
 load_later : (p q : Place) (state : State) → IsLoad p state q → ComesBefore (point_of p) (point_of q)
@@ -38,7 +40,8 @@ reset_behind p q h =
     let base : Point = record { sno = 1; time = h.time } in
     marked_later p q base h.later (ap point_of h.is ∙ first_point no_point (base_marker base))
 
-move_leads : (deed : Deed) (p q : Place) (before : State) → 0 < p.size → Moves p before deed q → Rises deed (point_of p) (point_of q)
+move_leads : (deed : Deed) (p q : Place) (before : State) → 0 < p.size → Moves p before deed q
+    → Rises deed (point_of p) (point_of q)
 move_leads (Filled state) p q before sized h = load_later p q state h
 move_leads (Did ask due point op) p q before sized h =
     let at : point_of q ≡ next_point h.time p = ap point_of h.is ∙ committed_point op h.time p sized in
@@ -53,21 +56,25 @@ record Strictly (stages : List Stage) : Type 0 where
   story : IsStory stages
   strict : IsStrict stages
 
-path_rises : (valid : StaysValid) (made : List Stage) (t : Stage) (older : List Stage) → Strictly (t ∷ older) → IsPath t.place (fold (t ∷ older)) made
+path_rises : (valid : StaysValid) (made : List Stage) (t : Stage) (older : List Stage) → Strictly (t ∷ older)
+    → IsPath t.place (fold (t ∷ older)) made
     → Strictly (onto made (t ∷ older))
 path_rises valid [] t older h path = h
 path_rises valid (u ∷ made) t older h path =
     let sized = All-head HasRoom t.place (places older) h.story.good.sized in
     let leads = move_leads u.deed t.place u.place (fold (t ∷ older)) sized path.0 in
-    let next : Strictly (u ∷ t ∷ older) = record { story = story_grows valid t u older h.story path.0; strict = (leads, h.strict) } in
+    let next : Strictly (u ∷ t ∷ older) =
+    record { story = story_grows valid t u older h.story path.0; strict = (leads, h.strict) } in
     path_rises valid made u (t ∷ older) next path.1
 
 front_shows : (t : Stage) (older : List Stage) → IsStory (t ∷ older) → ShowsAt t.place (fold (t ∷ older))
 front_shows t older h = let folded = h.folded in folded.0
 
 -- so many of the places that it makes
-called_rises : (valid : StaysValid) (history others ended : List Stage) (t : Stage) (call : Call) (answer : Answer) (made : List Stage) (part : ℕ)
-    → history ≡ t ∷ others → Strictly (history ++ ended) → IsMoment (clock_at call) → CallMakes t.place (fold (history ++ ended)) call answer made
+called_rises : (valid : StaysValid) (history others ended : List Stage) (t : Stage) (call : Call) (answer : Answer)
+    (made : List Stage) (part : ℕ)
+    → history ≡ t ∷ others → Strictly (history ++ ended) → IsMoment (clock_at call)
+    → CallMakes t.place (fold (history ++ ended)) call answer made
     → Strictly (onto (take part made) (history ++ ended))
 called_rises valid history others ended t call answer made part is h clock makes =
     let older = others ++ ended in
@@ -77,7 +84,8 @@ called_rises valid history others ended t call answer made part is h clock makes
     subst (λ (x : List Stage). CallMakes t.place (fold (x ++ ended)) call answer made) is makes in
     let sized = All-head HasRoom t.place (places older) here.story.good.sized in
     let whole = call_path t.place (fold all) call answer made clock (front_shows t older here.story) sized makes_here in
-    let after : Strictly (onto (take part made) all) = path_rises valid (take part made) t older here (path_front t.place (fold all) made part whole) in
+    let after : Strictly (onto (take part made) all) =
+    path_rises valid (take part made) t older here (path_front t.place (fold all) made part whole) in
     subst (λ (x : List Stage). Strictly (onto (take part made) (x ++ ended))) (sym is) after
 
 whole_is : (made : List Stage) → take (length made) made ≡ made
@@ -86,36 +94,45 @@ whole_is (t ∷ made) = ap (λ (x : List Stage). t ∷ x) (whole_is made)
 
 -- ---- a creation
 
-filled_leads : (deed : Deed) (state : State) (old new : Point) → deed ≡ Filled state → ComesBefore old new → Rises deed old new
+filled_leads : (deed : Deed) (state : State) (old new : Point) → deed ≡ Filled state → ComesBefore old new
+    → Rises deed old new
 filled_leads deed state old new is later = subst (λ (x : Deed). Rises x old new) (sym is) later
 
 created_leads : (t : Stage) (older : List Stage) → IsCreation (places older) t → RisesFrom older t
 created_leads t [] c = tt
 created_leads t (u ∷ older) c =
     let at : point_of t.place ≡ c.point = ap point_of c.is ∙ first_point no_point (base_marker c.point) in
-    let later = All-head (λ (p : Place). micros (point_of p).time < micros c.point.time) u.place (places older) c.later in
-    filled_leads t.deed c.state (point_of u.place) (point_of t.place) c.deed (marked_later u.place t.place c.point later at)
+    let later =
+    All-head (λ (p : Place). micros (point_of p).time < micros c.point.time) u.place (places older) c.later in
+    filled_leads t.deed c.state (point_of u.place) (point_of t.place) c.deed
+    (marked_later u.place t.place c.point later at)
 
 -- ---- events
 
 module _ (valid : StaysValid) where
-  strict_by : (event : SiteEvent) (old new : Site) (said : Option Message) → Strictly (story_of old) → HappensAt event old new said
+  strict_by : (event : SiteEvent) (old new : Site) (said : Option Message) → Strictly (story_of old)
+      → HappensAt event old new said
       → IsStrict (story_of new)
   strict_by (Creates t up) old new said h e =
       let ended : IsStrict old.ended = subst (λ (x : List Stage). IsStrict (x ++ old.ended)) e.none h.strict in
       subst (λ (x : Site). IsStrict (story_of x)) (sym e.is) (created_leads t old.ended e.creation, ended)
   strict_by (Calls call answer made) old new said h e =
-      let part = called_rises valid old.history e.at.others old.ended e.at.last call answer made (length made) e.at.is h e.clock e.makes in
+      let part = called_rises valid old.history e.at.others old.ended e.at.last call answer made
+      (length made) e.at.is h e.clock e.makes in
       let whole : IsStrict (onto made (old.history ++ old.ended)) =
       subst (λ (x : List Stage). IsStrict (onto x (old.history ++ old.ended))) (whole_is made) part.strict in
-      subst (λ (x : Site). IsStrict (story_of x)) (sym e.is) (subst IsStrict (onto_rest made old.history old.ended) whole)
+      subst (λ (x : Site). IsStrict (story_of x)) (sym e.is)
+      (subst IsStrict (onto_rest made old.history old.ended) whole)
   strict_by (Stops call answer made part) old new said h e =
-      let front = called_rises valid old.history e.at.others old.ended e.at.last call answer made part e.at.is h e.clock e.makes in
-      subst (λ (x : Site). IsStrict (story_of x)) (sym e.is) (subst IsStrict (onto_rest (take part made) old.history old.ended) front.strict)
+      let front =
+      called_rises valid old.history e.at.others old.ended e.at.last call answer made part e.at.is h e.clock e.makes in
+      subst (λ (x : Site). IsStrict (story_of x)) (sym e.is)
+      (subst IsStrict (onto_rest (take part made) old.history old.ended) front.strict)
   strict_by Crashes old new said h e = subst (λ (x : Site). IsStrict (story_of x)) (sym e.is) h.strict
   strict_by Ends old new said h e = subst (λ (x : Site). IsStrict (story_of x)) (sym e.is) h.strict
   strict_by Looks old new said h e = subst (λ (x : Site). IsStrict (story_of x)) (sym e.is) h.strict
-  strict_by (Polls client access asked) old new said h e = subst (λ (x : Site). IsStrict (story_of x)) (sym e.is) h.strict
+  strict_by (Polls client access asked) old new said h e =
+      subst (λ (x : Site). IsStrict (story_of x)) (sym e.is) h.strict
   strict_by (Dumps client access) old new said h e = subst (λ (x : Site). IsStrict (story_of x)) (sym e.is) h.strict
   strict_by EndsDump old new said h e = subst (λ (x : Site). IsStrict (story_of x)) (sym e.is) h.strict
 
@@ -126,7 +143,8 @@ module _ (valid : StaysValid) where
     holds : SiteHolds s []
     strict : IsStrict (story_of s)
 
-  site_rises : (event : SiteEvent) (old new : Site) (said : Option Message) → SiteRises old → HappensAt event old new said → SiteRises new
+  site_rises : (event : SiteEvent) (old new : Site) (said : Option Message) → SiteRises old
+      → HappensAt event old new said → SiteRises new
   site_rises event old new said h e =
       let after = event_holds valid event old new [] said h.holds e in
       record {

@@ -1,5 +1,6 @@
 -- A creation, a dump that a replica loads, a policy that is added, a poll, and the update that the replica takes.
-use Rattle.std.proofs.Common.{◌≡◌, ℕ, ◌-◌, ◌<◌, ◌≤◌, Bool, true, false, List, [], ◌∷◌, ◌++◌, drop, length, Some, None, refl, sym, ◌∙◌, ap, subst, arith}
+use Rattle.std.proofs.Common.{◌≡◌, ℕ, ◌-◌, ◌<◌, ◌≤◌, Bool, true, false, List, [], ◌∷◌, ◌++◌}
+use Rattle.std.proofs.Common.{drop, length, Some, None, refl, sym, ◌∙◌, ap, subst, arith}
 use Rattle.std.specs.Prelude.{if◌then◌else◌}
 use Rattle.iprop_reply.proofs.Serials.{point_same}
 use Rattle.iprop_reply.specs.Polls.{updates_after}
@@ -15,7 +16,8 @@ use Rattle.kdb_histories.specs.Asks.{Replied}
 use Rattle.kdb_histories.specs.Calls.{Perform}
 use Rattle.kdb_histories.specs.Histories.{IsCreation}
 use Rattle.kdb_histories.specs.Seen.{is_due, moment_at}
-use Rattle.kdb_histories.specs.Sites.{Calls, Creates, Dumps, Polls, Site, after_call, begun, no_site, places_of, with_dumps}
+use Rattle.kdb_histories.specs.Sites.{Calls, Creates, Dumps, Polls, Site, after_call}
+use Rattle.kdb_histories.specs.Sites.{begun, no_site, places_of, with_dumps}
 use Rattle.kdb_histories.specs.Stages.{Filled, ShowsAt, Stage, stage}
 use Rattle.kdb_model.specs.Laws.{IsMoment}
 use Rattle.kdb_places.proofs.Points.{committed_point, first_point}
@@ -27,14 +29,17 @@ use Rattle.kdb_worlds.specs.Worlds.{AtPrimary, AtReplica, Event, Happens, Run, W
 use Rattle.princ_rows.specs.declared.entries.Entry.{Entry}
 use Rattle.princ_record.specs.Policies.{IsPolicy}
 use Rattle.replica_steps.specs.Judging.{all_updated}
-use Rattle.replica_steps.specs.Replicas.{Does, Install, Reopen, Replica, Take, loaded, makes_of, no_replica, place_after, replica_after}
+use Rattle.replica_steps.specs.Replicas.{Does, Install, Reopen, Replica, Take, loaded}
+use Rattle.replica_steps.specs.Replicas.{makes_of, no_replica, place_after, replica_after}
 use Rattle.replica_steps.specs.Wholes.{IsTakenWhole}
 use Rattle.world_laws.proofs.Adding.{MayAdd, performs}
-use Rattle.world_laws.specs.Examples.{Adding, LeadsToUpdate, added_place, added_point, added_stage, adding_ask, adding_op, update_events, update_reply}
+use Rattle.world_laws.specs.Examples.{Adding, LeadsToUpdate, added_place, added_point, added_stage}
+use Rattle.world_laws.specs.Examples.{adding_ask, adding_op, update_events, update_reply}
 
 -- ---- a run and one event more
 
-run_push : (events : List Event) (old mid new : World) (event : Event) → Run old events mid → Happens event mid new → Run old (events ++ event ∷ []) new
+run_push : (events : List Event) (old mid new : World) (event : Event) → Run old events mid → Happens event mid new
+    → Run old (events ++ event ∷ []) new
 run_push [] old mid new event run e = (new, subst (λ (x : World). Happens event x new) run e, refl)
 run_push (first ∷ events) old mid new event run e = (run.0, run.1, run_push events run.0 mid new event run.2 e)
 
@@ -140,7 +145,8 @@ module _ (valid : StaysValid) (a : Adding) (p : Place) (s : State) (h : MayRun a
       let held : p.held ≡ base_marker base ∷ [] = ap (λ (x : Place). x.held) h.creation.is in
       let at : point_of p ≡ base = ap point_of h.creation.is ∙ first_point no_point (base_marker base) in
       let same : p.held ≡ base_marker (point_of p) ∷ [] = held ∙ ap (λ (x : Point). base_marker x ∷ []) (sym at) in
-      ap (λ (x : List Entry). last_entries p.size (x ++ e ∷ [])) same ∙ two_entries p.size (base_marker (point_of p)) e h.least
+      ap (λ (x : List Entry). last_entries p.size (x ++ e ∷ [])) same
+      ∙ two_entries p.size (base_marker (point_of p)) e h.least
 
   after_is : updates_after (point_of p) (added_place a p).held ≡ Some (Told.updates)
   unfolding updates_after
@@ -157,21 +163,45 @@ module _ (valid : StaysValid) (a : Adding) (p : Place) (s : State) (h : MayRun a
   event2 : Happens (AtPrimary (Dumps a.client None) (Some Dump)) World1 World2
   event2 = record {
     site = Dumping;
-    happens = record { at = record { last = First; others = []; is = refl }; ready = refl; allowed = refl; free = refl; is = refl; says = refl };
+    happens = record {
+      at = record { last = First; others = []; is = refl };
+      ready = refl;
+      allowed = refl;
+      free = refl;
+      is = refl;
+      says = refl;
+    };
     is = refl;
   }
 
   event3 : Happens (AtReplica 0 (Does (Reopen 1000)) None) World2 World3
-  event3 = record { replica = Opened; happens = record { came = omega arith; ready = refl; is = refl; silent = refl }; is = refl }
+  event3 = record {
+    replica = Opened;
+    happens = record { came = omega arith; ready = refl; is = refl; silent = refl };
+    is = refl;
+  }
 
   event4 : Happens (AtReplica 0 (Does (Install (contents_of p))) None) World3 World4
-  event4 = record { replica = Holding; happens = record { came = contains_first Dump []; ready = refl; is = refl; silent = refl }; is = refl }
+  event4 = record {
+    replica = Holding;
+    happens = record { came = contains_first Dump []; ready = refl; is = refl; silent = refl };
+    is = refl;
+  }
 
   may_add : MayAdd a p s
   may_add =
-      record { shows = shown; none = h.none; room = h.room; policy = h.policy; clock = h.clock; newer = h.newer; due = h.due }
+      record {
+        shows = shown;
+        none = h.none;
+        room = h.room;
+        policy = h.policy;
+        clock = h.clock;
+        newer = h.newer;
+        due = h.due;
+      }
 
-  event5 : Happens (AtPrimary (Calls (Perform (adding_ask a)) (Replied (reply.Done (added_point a p))) (Second ∷ [])) None) World4 World5
+  event5 : Happens (AtPrimary (Calls (Perform (adding_ask a)) (Replied (reply.Done (added_point a p))) (Second ∷ []))
+      None) World4 World5
   event5 = record {
     site = Stood;
     happens = record {
@@ -215,7 +245,8 @@ module _ (valid : StaysValid) (a : Adding) (p : Place) (s : State) (h : MayRun a
       ∷ []
 
   six_run : Run no_world Six World6
-  six_run = (World1, event1, (World2, event2, (World3, event3, (World4, event4, (World5, event5, (World6, event6, refl))))))
+  six_run =
+      (World1, event1, (World2, event2, (World3, event3, (World4, event4, (World5, event5, (World6, event6, refl))))))
 
   -- ---- the update
 
@@ -224,7 +255,8 @@ module _ (valid : StaysValid) (a : Adding) (p : Place) (s : State) (h : MayRun a
 
   whole : IsTakenWhole (places_of Stood) 1000 Copy Told
   whole =
-      (lawful World6 held_in).whole 0 Copy Told refl (contains_first (Reply Told) (Dump ∷ [])) refl (sym (first_point no_point (base_marker (point_of p))))
+      (lawful World6 held_in).whole 0 Copy Told refl (contains_first (Reply Told) (Dump ∷ [])) refl
+      (sym (first_point no_point (base_marker (point_of p))))
 
   abbrev Last : Place
   Last = end_of Copy (all_updated 1000 Told.updates Copy)
@@ -237,7 +269,8 @@ module _ (valid : StaysValid) (a : Adding) (p : Place) (s : State) (h : MayRun a
   same_is : contents_of Last ≡ contents_of (added_place a p)
   same_is =
       let q = added_place a p in
-      let here : Has (places_of Stood) (contents_of q) = record { place = q; there = contains_first q (p ∷ []); is = refl } in
+      let here : Has (places_of Stood) (contents_of q) =
+      record { place = q; there = contains_first q (p ∷ []); is = refl } in
       let some : 0 < p.size = omega (arith, h.least) in
       let at : point_of Last ≡ point_of q =
       whole.at

@@ -2,7 +2,8 @@
 use Rattle.std.specs.Prelude.{◌≡◌, List, [], ◌∷◌, take}
 use Rattle.std.specs.List.{All}
 use Rattle.kdb_histories.specs.Calls.{ResetCause}
-use Rattle.kdb_histories.specs.Sites.{Site, SiteEvent, Creates, Calls, Stops, Crashes, Ends, Looks, Polls, Dumps, EndsDump, Stands, story_of}
+use Rattle.kdb_histories.specs.Sites.{Site, SiteEvent, Creates, Calls, Stops, Crashes, Ends}
+use Rattle.kdb_histories.specs.Sites.{Looks, Polls, Dumps, EndsDump, Stands, story_of}
 use Rattle.kdb_histories.specs.Stages.{Anew, Stage, onto}
 use Rattle.kdb_places.specs.Places.{Place}
 

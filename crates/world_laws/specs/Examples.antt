@@ -1,4 +1,5 @@
--- A run that there is: a database is made, a replica loads a dump of it, a policy is added, and the replica takes the update.
+-- A run that there is: a database is made, a replica loads a dump of it, a policy is added, and the replica takes the
+-- update.
 use Rattle.std.specs.Prelude.{ℕ, ◌≡◌, true, false, List, [], ◌∷◌, codes, replicate, Some, None}
 use Rattle.first_rows.specs.Creation.{first_point, first_rows, first_state}
 use Rattle.first_rows.specs.Parts.{SpecParts}
@@ -56,7 +57,8 @@ added_stage a p = did (adding_ask a) false (adding_op a) p (added_place a p)
 abbrev pub update_reply : Adding → Place → PollReply
 update_reply a p = reply_of updates_here (point_of p) (change (adding_op a) (added_point a p) ∷ [])
 
--- The creation of this place, of which the rows show this state; a dump, which a replica loads; the command; a poll, and the update.
+-- The creation of this place, of which the rows show this state; a dump, which a replica loads; the command; a poll,
+-- and the update.
 abbrev pub update_events : Adding → Place → State → List Event
 update_events a p s =
     AtPrimary (Creates (stage p (Filled s)) true) None
@@ -96,7 +98,8 @@ example_state = first_state example_spec example_moment example_random
 
 abbrev pub example_place : Place
 example_place =
-    created example_spec.realm (first_rows example_spec example_moment example_random) (first_point example_moment) example_spec.size 2048
+    created example_spec.realm (first_rows example_spec example_moment example_random)
+    (first_point example_moment) example_spec.size 2048
     (Some (stash_text example_spec.realm example_moment.secs example_state.masters)) 2
 
 -- addpol -minlength 8 -minclasses 2 staff, by admin/local, a second later

@@ -11,8 +11,8 @@ use Rattle.princ_rows.specs.declared.entries.Entry.{Entry}
 abbrev pub IsLost : Point → List Entry → Type 0
 IsLost point entries = All (λ (e : Entry). e.point ≢ point) entries
 
--- The place that stands holds no entry with the point, and none of those that were made since the last base marker has it, as many of the
--- last ones as the log holds.
+-- The place that stands holds no entry with the point, and none of those that were made since the last base marker has
+-- it, as many of the last ones as the log holds.
 pub record IsLostAt (s : Site) (point : Point) : Type 0 where
   pub at : Stands s
   pub held : IsLost point at.last.place.held

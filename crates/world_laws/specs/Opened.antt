@@ -11,8 +11,8 @@ use Rattle.master_keys.specs.First.{master_name}
 use Rattle.princ_record.specs.declared.princs.Princ.{Princ}
 use Rattle.row_keys.specs.Lookups.{record_named}
 
--- The rows show the state, so its master keys open each key and each remembered key. With K/M's record of the rows, each of these master keys
--- opens all of them, and each version that the record lists has one.
+-- The rows show the state, so its master keys open each key and each remembered key. With K/M's record of the rows,
+-- each of these master keys opens all of them, and each version that the record lists has one.
 pub record IsOpenedByEach (p : Place) (s : State) : Type 0 where
   pub shows : ShowsAt p s
   pub own : Princ

@@ -24,25 +24,33 @@ use kdb_plain::laws::valid_later;
 use kdb_worlds::laws::world_law;
 
 /// A dump is wanted for lost points alone. Where a poll is told to take one, now or when one may be begun, the primary
-/// holds no entry with the asked point, and none of the last ones since the base marker has it; and of a replica that has
-/// a place and is polled, the place holds none.
+/// holds no entry with the asked point, and none of the last ones since the base marker has it; and of a replica that
+/// has a place and is polled, the place holds none.
 pub fn dumps_are_for_lost_points()
-    ensures primary { (events : List Event) (w new : World) (client : NameParts) (access : Option (List AclLine)) (asked : Point) (r : PollReply) → Run no_world events w → Happens (AtPrimary (Polls client access asked) (Some (Reply r))) w new → WantsDump r.code → IsLostAt w.site asked }
-    ensures replica { (w new : World) (i : ℕ) (client : NameParts) (access : Option (List AclLine)) (asked : Point) (r : PollReply) (p : Place) → (w.replicas i).place ≡ Some p → Happens (AtReplica i (NodePolls client access asked) (Some (Reply r))) w new → WantsDump r.code → IsLost asked p.held }
+    ensures primary { (events : List Event) (w new : World)
+        (client : NameParts) (access : Option (List AclLine)) (asked : Point) (r : PollReply)
+        → Run no_world events w → Happens (AtPrimary (Polls client access asked) (Some (Reply r))) w new
+        → WantsDump r.code → IsLostAt w.site asked }
+    ensures replica { (w new : World) (i : ℕ) (client : NameParts) (access : Option (List AclLine))
+        (asked : Point) (r : PollReply) (p : Place) → (w.replicas i).place ≡ Some p
+        → Happens (AtReplica i (NodePolls client access asked) (Some (Reply r))) w new → WantsDump r.code
+        → IsLost asked p.held }
 {
     world_law();
 }
 
-/// The log is begun anew for its causes alone. Whatever happens at the primary adds its stages to the story, and whichever
-/// of them begins the log anew is of a call, which returned or was stopped, and has one of the causes of that call; what
-/// happens at a replica leaves the primary as it is.
+/// The log is begun anew for its causes alone. Whatever happens at the primary adds its stages to the story, and
+/// whichever of them begins the log anew is of a call, which returned or was stopped, and has one of the causes of that
+/// call; what happens at a replica leaves the primary as it is.
 pub fn logs_are_begun_anew_for_their_causes()
-    ensures primary { (event : SiteEvent) (said : Option Message) (w new : World) → Happens (AtPrimary event said) w new → AddsStages event w.site new.site }
-    ensures replica { (i : ℕ) (event : ReplicaEvent) (said : Option Message) (w new : World) → Happens (AtReplica i event said) w new → new.site ≡ w.site }
+    ensures primary { (event : SiteEvent) (said : Option Message) (w new : World) → Happens (AtPrimary event said) w new
+        → AddsStages event w.site new.site }
+    ensures replica { (i : ℕ) (event : ReplicaEvent) (said : Option Message) (w new : World)
+        → Happens (AtReplica i event said) w new → new.site ≡ w.site }
 {}
 
-/// Points rise strictly along the primary's story, from one database to the next too: each stage stands at a later point
-/// than the one before it, but for a stash, which keeps the point.
+/// Points rise strictly along the primary's story, from one database to the next too: each stage stands at a later
+/// point than the one before it, but for a stash, which keeps the point.
 pub fn points_rise_strictly()
     ensures { (events : List Event) (w : World) → Run no_world events w → IsStrict (story_of w.site) }
 {
@@ -53,8 +61,10 @@ pub fn points_rise_strictly()
 /// and at any place whose rows show a state: each master key of the state opens all of them, with K/M's record of these
 /// rows.
 pub fn each_listed_master_key_opens_all()
-    ensures primary { (events : List Event) (w : World) (a : Seen) → Run no_world events w → Contains (all_seen (story_of w.site)) a → IsOpenedByEach a.place a.state }
-    ensures replicas { (events : List Event) (w : World) (i : ℕ) (p : Place) → Run no_world events w → (w.replicas i).place ≡ Some p → IsReplicaOpened w p }
+    ensures primary { (events : List Event) (w : World) (a : Seen) → Run no_world events w
+        → Contains (all_seen (story_of w.site)) a → IsOpenedByEach a.place a.state }
+    ensures replicas { (events : List Event) (w : World) (i : ℕ) (p : Place) → Run no_world events w
+        → (w.replicas i).place ≡ Some p → IsReplicaOpened w p }
     // Whatever place it is, as one to which the files recover that a crash leaves.
     ensures shown { (p : Place) (s : State) → ShowsAt p s → IsOpenedByEach p s }
 {

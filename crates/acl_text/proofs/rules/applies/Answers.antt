@@ -9,7 +9,8 @@ returns-then-not-matches c =
     let line = c.args.line.now in
     let client = c.args.client.now in
     ap (λ (b : Bool). b && target_fits line.target line.client client (option_map (λ t. t.now) c.args.target))
-    (sym c.if-not-matches.true ∙ same_test c.matches.result _ line.client client refl c.matches.ensures.matches.0 c.matches.ensures.matches.1)
+    (sym c.if-not-matches.true
+    ∙ same_test c.matches.result _ line.client client refl c.matches.ensures.matches.0 c.matches.ensures.matches.1)
 
 pub returns : goal.returns
 unfolding applies
@@ -18,4 +19,5 @@ returns c =
     let client = c.args.client.now in
     c.target_fits.ensures
     ∙ ap (λ (b : Bool). b && target_fits line.target line.client client (option_map (λ t. t.now) c.args.target))
-    (sym c.if-not-matches.false ∙ same_test c.matches.result _ line.client client refl c.matches.ensures.matches.0 c.matches.ensures.matches.1)
+    (sym c.if-not-matches.false
+    ∙ same_test c.matches.result _ line.client client refl c.matches.ensures.matches.0 c.matches.ensures.matches.1)

@@ -7,4 +7,5 @@ use Rattle.acl_text.proofs.targets.parts_match.Given as goal
 abbrev pub invariant-loop-at : goal.invariant-loop-at
 invariant-loop-at l =
     (pattern : PatternShape) → l.hits.at ≡ hits_of pattern
-    → parts_match (map (meant pattern l.client) (drop l.at l.parts)) (drop l.at l.texts) ≡ parts_match (map (meant pattern l.client) l.parts) l.texts
+    → parts_match (map (meant pattern l.client) (drop l.at l.parts)) (drop l.at l.texts)
+    ≡ parts_match (map (meant pattern l.client) l.parts) l.texts

@@ -5,7 +5,8 @@ use Rattle.aes_cts.proofs.rounds.decrypt_last_column.Goals as goal
 
 pub returns : goal.returns
 returns c =
-    last_column_of _ c.args.key _ _ _ _ _ _ _ _ (omega arith) (omega arith) (omega arith) (omega arith) c.from_be_bytes.ensures
+    last_column_of _ c.args.key _ _ _ _ _ _ _ _ (omega arith) (omega arith) (omega arith)
+    (omega arith) c.from_be_bytes.ensures
     (c.unsub_byte.ensures ∙ ap unsub_byte (byte_read _ c.args.a 0 c.to_be_bytes.ensures))
     (c.unsub_byte-2.ensures ∙ ap unsub_byte (byte_read _ c.args.b 1 c.to_be_bytes-2.ensures))
     (c.unsub_byte-3.ensures ∙ ap unsub_byte (byte_read _ c.args.c 2 c.to_be_bytes-3.ensures))

@@ -12,9 +12,11 @@ loop-r-init g c =
 
 pub loop-r-preserved : goal.loop-r-preserved
 loop-r-preserved g c =
-    rounds_next c.args.keys.now _ (to_be_bytes w128 c.args.block) _ _ c.loop-r.r (omega arith) (omega arith) c.loop-r.invariant c.encrypt_round-next.ensures
+    rounds_next c.args.keys.now _ (to_be_bytes w128 c.args.block) _ _ c.loop-r.r (omega arith)
+    (omega arith) c.loop-r.invariant c.encrypt_round-next.ensures
 
 pub returns : goal.returns
 returns g c =
     c.pack.ensures
-    ∙ rounds_last c.args.keys.now _ (to_be_bytes w128 c.args.block) _ _ c.loop-r.r _ (omega arith) (omega arith) (omega arith) c.loop-r.invariant c.encrypt_last_round.ensures
+    ∙ rounds_last c.args.keys.now _ (to_be_bytes w128 c.args.block) _ _ c.loop-r.r _ (omega arith) (omega arith)
+    (omega arith) c.loop-r.invariant c.encrypt_last_round.ensures

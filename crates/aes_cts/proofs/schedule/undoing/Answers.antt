@@ -13,8 +13,10 @@ loop-index-init g c = (
 pub loop-index-preserved : goal.loop-index-preserved
 loop-index-preserved g c = (
   length-set c.loop-index.undo c.loop-index.index c.unmix_key.result ∙ c.loop-index.invariant.0,
-  undo_more c.args.keys.now c.loop-index.undo c.loop-index.index c.unmix_key.result (c.loop-index.invariant.0 ∙ sym c.told-keys) (omega arith)
-      (undo_key_inner c.args.keys.now g.row.N c.loop-index.index _ _ c.told-keys (omega arith) (omega arith) c.unmix_key.ensures)
+  undo_more c.args.keys.now c.loop-index.undo c.loop-index.index c.unmix_key.result
+      (c.loop-index.invariant.0 ∙ sym c.told-keys) (omega arith)
+      (undo_key_inner c.args.keys.now g.row.N c.loop-index.index _ _ c.told-keys (omega arith)
+      (omega arith) c.unmix_key.ensures)
       c.loop-index.invariant.1,
 )
 

@@ -11,14 +11,16 @@ loop-item-init g c =
     let row = g.T.UnitRow.row_of in
     let xs = c.args.items.now in
     record {
-      built = λ cells built may. subst (IsBuilt c.args.format c.args.building.now.index) (none_done row xs with_row cells) built;
+      built = λ cells built may.
+          subst (IsBuilt c.args.format c.args.building.now.index) (none_done row xs with_row cells) built;
       follow = λ cells may. subst (MayFollow c.args.format (map row xs)) (none_done row xs with_row cells) may;
       texts = none_done row xs text_of c.args.building.now.texts.items;
       placed = c.requires.placed;
     }
 
 pub add_row-requires-clause-fits : goal.add_row-requires-clause-fits
-add_row-requires-clause-fits g c = subst g.T.UnitRow.fits (sym (c.get.ensures ∙ c.item-item.is)) (c.requires.fits c.loop-item.item-index c.item-item.result c.loop-item-test.true)
+add_row-requires-clause-fits g c = subst g.T.UnitRow.fits (sym (c.get.ensures ∙ c.item-item.is))
+    (c.requires.fits c.loop-item.item-index c.item-item.result c.loop-item-test.true)
 
 pub add_row-requires-clause-next : goal.add_row-requires-clause-next
 add_row-requires-clause-next g c =
@@ -32,7 +34,8 @@ add_row-requires-clause-next g c =
       cells,
       (
         c.loop-item.invariant.built from.0 from.1.0 from.1.1,
-        (follow_next c.args.format (row x) (map row (drop (i + 1) xs)) (map row (drop i xs)) cells (left_next row xs i x c.loop-item-test.true is) (c.loop-item.invariant.follow from.0 from.1.1)).0,
+        (follow_next c.args.format (row x) (map row (drop (i + 1) xs)) (map row (drop i xs)) cells
+            (left_next row xs i x c.loop-item-test.true is) (c.loop-item.invariant.follow from.0 from.1.1)).0,
       ),
     )
 
@@ -48,19 +51,27 @@ loop-item-preserved g c =
     let done : List Cell → List Cell = λ cells. cells ++ map with_row (map row (take i xs)) in
     record {
       built = λ cells built may.
-          let next = follow_next c.args.format (row x) (map row (drop (i + 1) xs)) (map row (drop i xs)) (done cells) (left_next row xs i x lt is) (inv.follow cells may) in
-          subst (IsBuilt c.args.format c.add_row.new.building.index) (done_next row xs with_row cells i x lt is) (c.in_ok-add_row.ensures.built (done cells) (inv.built cells built may) next.0);
+          let next = follow_next c.args.format (row x) (map row (drop (i + 1) xs)) (map row (drop i xs)) (done cells)
+          (left_next row xs i x lt is) (inv.follow cells may) in
+          subst (IsBuilt c.args.format c.add_row.new.building.index) (done_next row xs with_row cells i x lt is)
+          (c.in_ok-add_row.ensures.built (done cells) (inv.built cells built may) next.0);
       follow = λ cells may.
-          let next = follow_next c.args.format (row x) (map row (drop (i + 1) xs)) (map row (drop i xs)) (done cells) (left_next row xs i x lt is) (inv.follow cells may) in
-          subst (MayFollow c.args.format (map row (drop (i + 1) xs))) (done_next row xs with_row cells i x lt is) next.1;
-      texts = c.in_ok-add_row.ensures.texts ∙ ap (λ (l : List RowText). l ++ text_of (row x) ∷ []) inv.texts ∙ done_next row xs text_of c.args.building.now.texts.items i x lt is;
+          let next = follow_next c.args.format (row x) (map row (drop (i + 1) xs)) (map row (drop i xs)) (done cells)
+          (left_next row xs i x lt is) (inv.follow cells may) in
+          subst (MayFollow c.args.format (map row (drop (i + 1) xs)))
+          (done_next row xs with_row cells i x lt is) next.1;
+      texts = c.in_ok-add_row.ensures.texts ∙ ap (λ (l : List RowText). l ++ text_of (row x) ∷ []) inv.texts
+          ∙ done_next row xs text_of c.args.building.now.texts.items i x lt is;
       placed = c.in_ok-add_row.ensures.placed;
     }
 
 pub returns-clause-built : goal.returns-clause-built
 returns-clause-built g c = λ cells built may.
     let row = g.T.UnitRow.row_of in
-    subst (IsBuilt c.args.format c.loop-item.building.index) (all_done row c.args.items.now with_row cells c.loop-item.item-index (omega arith)) (c.loop-item.invariant.built cells built may)
+    subst (IsBuilt c.args.format c.loop-item.building.index)
+    (all_done row c.args.items.now with_row cells c.loop-item.item-index (omega arith))
+    (c.loop-item.invariant.built cells built may)
 
 pub returns-clause-texts : goal.returns-clause-texts
-returns-clause-texts g c = c.loop-item.invariant.texts ∙ all_done g.T.UnitRow.row_of c.args.items.now text_of c.args.building.now.texts.items c.loop-item.item-index (omega arith)
+returns-clause-texts g c = c.loop-item.invariant.texts ∙ all_done g.T.UnitRow.row_of c.args.items.now text_of
+    c.args.building.now.texts.items c.loop-item.item-index (omega arith)

@@ -33,4 +33,11 @@ returns-clause-long c =
       c.unit_size-unit.ensures.value,
     ) in
     let n = c.unit_size-unit.result - length old in
-    omega (arith, ap (λ (l : List ℕ). length l) c.in_ok-pad.ensures, length-append old (zeros n), length-zeros n, short, c.unit_size-unit.ensures.value)
+    omega (
+      arith,
+      ap (λ (l : List ℕ). length l) c.in_ok-pad.ensures,
+      length-append old (zeros n),
+      length-zeros n,
+      short,
+      c.unit_size-unit.ensures.value,
+    )

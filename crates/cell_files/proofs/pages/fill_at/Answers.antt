@@ -12,7 +12,9 @@ returns c =
     let row = c.args.text.now.row in
     let page = c.args.page.now in
     let part = take (at + unit - at) (drop at page) in
-    let long : length part ≡ unit = omega (arith, length-take (at + unit - at) (drop at page), length-drop at page, c.requires.within) in
+    let long : length part ≡ unit =
+    omega (arith, length-take (at + unit - at) (drop at page), length-drop at page, c.requires.within) in
     mid_put at _ page c.fill_unit.new.unit (unit_with unit kind row)
-    (c.fill_unit.ensures ∙ ap (λ (n : ℕ). unit_with n kind c.as_slice.result.now) long ∙ ap (unit_with unit kind) c.as_slice.ensures)
+    (c.fill_unit.ensures ∙ ap (λ (n : ℕ). unit_with n kind c.as_slice.result.now) long
+    ∙ ap (unit_with unit kind) c.as_slice.ensures)
     (omega (arith, length-unit_with unit kind row c.requires.fits.room))

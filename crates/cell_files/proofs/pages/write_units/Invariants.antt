@@ -7,8 +7,10 @@ use Rattle.cell_files.proofs.pages.write_units.Given as goal
 
 abbrev pub invariant-loop-at : goal.invariant-loop-at
 invariant-loop-at g l = record {
-  moments : g.D.Disk.tells → LeavesOnly (g.D.Disk.view l.fn.disk) (g.D.Disk.view l.disk) (IsAfter (Differs l.file) (g.D.Disk.view l.fn.disk));
-  seen : g.D.Disk.tells → (g.D.Disk.view l.disk).seen ≡ written l.file l.from (text_units l.unit (take l.at l.texts)) (g.D.Disk.view l.fn.disk).seen;
+  moments : g.D.Disk.tells → LeavesOnly (g.D.Disk.view l.fn.disk) (g.D.Disk.view l.disk)
+      (IsAfter (Differs l.file) (g.D.Disk.view l.fn.disk));
+  seen : g.D.Disk.tells → (g.D.Disk.view l.disk).seen
+      ≡ written l.file l.from (text_units l.unit (take l.at l.texts)) (g.D.Disk.view l.fn.disk).seen;
   within : l.at ≤ length l.texts;
   long : length l.page ≡ length l.fn.page;
   same : g.D.Disk.loans l.disk ≡ g.D.Disk.loans l.fn.disk;

@@ -5,8 +5,10 @@ use Rattle.command_plans.proofs.listing.plan_list_policies.Goals as goal
 
 pub returns-in-Some : goal.returns-in-Some
 returns-in-Some c =
-    list_refused c.args.given.now command.ListPolicies c.denial.result c.in-Some.why (list_comes c.args.given.now c.denial.result c.denial.ensures) c.in-Some.is
+    list_refused c.args.given.now command.ListPolicies c.denial.result c.in-Some.why
+    (list_comes c.args.given.now c.denial.result c.denial.ensures) c.in-Some.is
 
 pub returns-in_ok-names-in-None : goal.returns-in_ok-names-in-None
 returns-in_ok-names-in-None c =
-    lists_policies c.args.given.now c.denial.result c.in_ok-names-in-None.names c.denial.ensures c.in-None.is c.in_ok-names-in-None.ensures
+    lists_policies c.args.given.now c.denial.result c.in_ok-names-in-None.names c.denial.ensures c.in-None.is
+    c.in_ok-names-in-None.ensures

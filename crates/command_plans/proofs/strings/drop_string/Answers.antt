@@ -15,10 +15,12 @@ returns-then-not-has_string c =
 pub put-requires : goal.put-requires
 put-requires c =
     let room : has_string c.args.c.now.key c.args.princ.now.strings ≡ true = search rules in
-    subst IsPrinc (sym c.in_ok-made.ensures.princ) (drop_so c.args.given.now c.args.c.now c.args.princ.now c.requires.target c.in_ok-made.ensures.by c.requires.realm c.requires.command)
+    subst IsPrinc (sym c.in_ok-made.ensures.princ) (drop_so c.args.given.now c.args.c.now c.args.princ.now
+    c.requires.target c.in_ok-made.ensures.by c.requires.realm c.requires.command)
 
 pub returns : goal.returns
 returns c =
     let room : has_string c.args.c.now.key c.args.princ.now.strings ≡ true = search rules in
-    drops c.args.given.now c.args.c.now c.args.princ.now c.requires.target c.put.result room c.in_ok-made.ensures.by c.requires.realm c.requires.command
+    drops c.args.given.now c.args.c.now c.args.princ.now c.requires.target c.put.result room c.in_ok-made.ensures.by
+    c.requires.realm c.requires.command
     (subst (λ (p : Princ). IsPut op.PutPrinc p c.put.result) c.in_ok-made.ensures.princ c.put.ensures)

@@ -2,4 +2,5 @@ use Rattle.command_plans.proofs.StringPlans.{set_early}
 use Rattle.command_plans.proofs.strings.plan_set_string.Goals as goal
 
 pub returns : goal.returns
-returns c = set_early c.args.given.now c.args.c.now c.in-Err.why c.target.ensures.rows (c.target.ensures.err c.in-Err.why c.in-Err.is)
+returns c = set_early c.args.given.now c.args.c.now c.in-Err.why c.target.ensures.rows
+    (c.target.ensures.err c.in-Err.why c.in-Err.is)

@@ -7,8 +7,10 @@ use Rattle.dump_text.proofs.reader.take_piece.Given as goal
 -- what is left is judged as the whole was
 abbrev pub invariant-loop-front : goal.invariant-loop-front
 invariant-loop-front l =
-    ((rest : List ℕ) → judged_from l.said l.count (l.line.items ++ (l.rest ++ rest)) ≡ judged_from l.fn.said l.fn.count (l.fn.line.items ++ (l.fn.piece ++ rest)))
-    × (said_by l.said (lines_of (l.line.items ++ l.rest)).whole ≡ said_by l.fn.said (lines_of (l.fn.line.items ++ l.fn.piece)).whole)
+    ((rest : List ℕ) → judged_from l.said l.count (l.line.items ++ (l.rest ++ rest))
+    ≡ judged_from l.fn.said l.fn.count (l.fn.line.items ++ (l.fn.piece ++ rest)))
+    × (said_by l.said (lines_of (l.line.items ++ l.rest)).whole
+    ≡ said_by l.fn.said (lines_of (l.fn.line.items ++ l.fn.piece)).whole)
     × ((lines_of (l.line.items ++ l.rest)).rest ≡ (lines_of (l.fn.line.items ++ l.fn.piece)).rest)
     × (lacks 10 l.line.items ≡ true)
     × Grows l.fn.said l.said

@@ -4,7 +4,9 @@ use Rattle.dump_text.proofs.writer.write_body.Goals as goal
 
 pub returns-in-Err-write_end-clause-err : goal.returns-in-Err-write_end-clause-err
 returns-in-Err-write_end-clause-err g c =
-    end_said c.args.mark.now c.args.rows.now _ _ _ _ _ _ c.count_rows-count.ensures c.in-Ok.ensures.ok c.in-Err-write_end.ensures.err
+    end_said c.args.mark.now c.args.rows.now _ _ _ _ _ _ c.count_rows-count.ensures c.in-Ok.ensures.ok
+    c.in-Err-write_end.ensures.err
 
 pub returns-in-Err-clause-err : goal.returns-in-Err-clause-err
-returns-in-Err-clause-err g c = said_in_front c.args.out.now.items (marked_rows c.args.mark.now c.args.rows.now) (marked c.args.mark.now (end_line (row_count c.args.rows.now))) _ _ c.in-Err.ensures.err
+returns-in-Err-clause-err g c = said_in_front c.args.out.now.items (marked_rows c.args.mark.now c.args.rows.now)
+    (marked c.args.mark.now (end_line (row_count c.args.rows.now))) _ _ c.in-Err.ensures.err

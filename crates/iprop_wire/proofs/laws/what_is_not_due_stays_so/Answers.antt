@@ -10,4 +10,5 @@ returns-clause-stays c = λ due s bytes not_due. stays_not due s bytes not_due
 
 pub returns-clause-none : goal.returns-clause-none
 returns-clause-none c = λ due text rest message not_due spells.
-    never_due due text rest message not_due (ap (fed fresh) (sym (append-nil (text ++ rest))) ∙ (message_ends (text ++ rest) message spells).leads [])
+    never_due due text rest message not_due
+    (ap (fed fresh) (sym (append-nil (text ++ rest))) ∙ (message_ends (text ++ rest) message spells).leads [])

@@ -13,12 +13,15 @@ prepare-requires c =
 
 pub judge_ready-requires-clause-command : goal.judge_ready-requires-clause-command
 judge_ready-requires-clause-command c =
-    is_renewal c.args.primary.now.kept.realm c.args.name.now c.args.etypes.now c.in_ok-ready.ready.command (c.in_ok-ready.ensures.command ∙ c.in_ok-command.ensures) c.requires.name c.requires.etypes
+    is_renewal c.args.primary.now.kept.realm c.args.name.now c.args.etypes.now c.in_ok-ready.ready.command
+    (c.in_ok-ready.ensures.command ∙ c.in_ok-command.ensures) c.requires.name c.requires.etypes
 
 pub judge_ready-requires-clause-judged : goal.judge_ready-requires-clause-judged
-judge_ready-requires-clause-judged c = is_judged_renewal c.args.name.now c.args.etypes.now c.in_ok-ready.ready.command (c.in_ok-ready.ensures.command ∙ c.in_ok-command.ensures)
+judge_ready-requires-clause-judged c = is_judged_renewal c.args.name.now c.args.etypes.now c.in_ok-ready.ready.command
+    (c.in_ok-ready.ensures.command ∙ c.in_ok-command.ensures)
 
 pub returns-clause-decided : goal.returns-clause-decided
 returns-clause-decided c =
-    decided_so c.judge_ready.result c.args.primary.now (wanted c.args.client.now c.args.name.now c.args.etypes.now) c.args.now c.args.random.now c.in_ok-ready.ready.command
+    decided_so c.judge_ready.result c.args.primary.now (wanted c.args.client.now c.args.name.now c.args.etypes.now)
+    c.args.now c.args.random.now c.in_ok-ready.ready.command
     (c.in_ok-ready.ensures.command ∙ c.in_ok-command.ensures) c.judge_ready.ensures.decided

@@ -11,5 +11,6 @@ returns-in-Some c = λ s has answered. behind_refused _ c.in-Some.why _ (sym c.r
 pub returns-in-Ok : goal.returns-in-Ok
 returns-in-Ok c = λ s has answered.
     behind_accepted _ c.in-Ok.keys _ (sym c.refused_in.ensures ∙ c.in-None.is)
-    (fresh_behind (seen (place_of c.args.primary.now) s) (wanted c.args.client.now c.args.name.now c.args.etypes.now) c.args.now c.args.random.now c.args.reply.now c.in-Ok.keys
+    (fresh_behind (seen (place_of c.args.primary.now) s) (wanted c.args.client.now c.args.name.now c.args.etypes.now)
+    c.args.now c.args.random.now c.args.reply.now c.in-Ok.keys
     answered (sym c.refused_in.ensures ∙ c.in-None.is) (c.in-Ok.ensures s has))

@@ -9,5 +9,7 @@ returns-clause-answer c = λ s has.
     let o = c.args.primary.now in
     let w = wanted c.args.client.now c.args.name.now c.args.etypes.now in
     let reply = c.in_ok-judged.judged.reply in
-    let answered = c.decisions_are_asked.ensures.answers o (ask_for w c.args.now c.args.random.now) reply c.in_ok-judged.judged.change s c.in_ok-judged.ensures.decided has in
-    answer_so c.in_ok-answer.answer (seen (place_of o) s) w c.args.now c.args.random.now c.args.list reply answered (c.in_ok-answer.ensures s has answered)
+    let answered = c.decisions_are_asked.ensures.answers o
+    (ask_for w c.args.now c.args.random.now) reply c.in_ok-judged.judged.change s c.in_ok-judged.ensures.decided has in
+    answer_so c.in_ok-answer.answer (seen (place_of o) s) w c.args.now c.args.random.now c.args.list reply answered
+    (c.in_ok-answer.ensures s has answered)

@@ -11,7 +11,8 @@ unfolding lacks_feed
 lacks-onto b bytes other lacks = rw other lacks
 
 -- a byte that is no line feed at the front of the first line
-onto-input : (b : ℕ) (bytes : List ℕ) (lines : List Line) → (b == 10) ≡ false → IsInputOf bytes lines → IsInputOf (b ∷ bytes) (onto_first b lines)
+onto-input : (b : ℕ) (bytes : List ℕ) (lines : List Line) → (b == 10) ≡ false → IsInputOf bytes lines
+    → IsInputOf (b ∷ bytes) (onto_first b lines)
 unfolding onto_first bytes_of AreLines lacks_feed
 onto-input b bytes [] other input = record {
   whole = ap (λ t. b ∷ t) input.whole;
@@ -22,7 +23,8 @@ onto-input b bytes (line ∷ lines) other input = record {
   each = (lacks-onto b line.bytes other input.each.0, (λ is. ((input.each.1 is).0, λ none. cc)), input.each.2);
 }
 
-feed-input : (b : ℕ) (bytes : List ℕ) (lines : List Line) → b ≡ 10 → IsInputOf bytes lines → IsInputOf (b ∷ bytes) (record { bytes = []; ended = true } ∷ lines)
+feed-input : (b : ℕ) (bytes : List ℕ) (lines : List Line) → b ≡ 10 → IsInputOf bytes lines
+    → IsInputOf (b ∷ bytes) (record { bytes = []; ended = true } ∷ lines)
 unfolding bytes_of AreLines lacks_feed
 feed-input b bytes lines is input = record {
   whole = ap (λ t. 10 ∷ t) input.whole ∙ ap (λ n. n ∷ bytes) (sym is);
@@ -33,7 +35,10 @@ lines-input : (bytes : List ℕ) → IsInputOf bytes (lines_of bytes)
 unfolding lines_of bytes_of AreLines
 lines-input [] = record { whole = refl; each = tt }
 lines-input (b ∷ bytes) =
-    elim (b == 10) as (λ v. ((b == 10) ≡ v) → IsInputOf (b ∷ bytes) (if v then record { bytes = []; ended = true } ∷ lines_of bytes else onto_first b (lines_of bytes))) [
+    elim (b == 10) as (λ v. ((b == 10) ≡ v) → IsInputOf (b ∷ bytes) (if v then record {
+      bytes = [];
+      ended = true;
+    } ∷ lines_of bytes else onto_first b (lines_of bytes))) [
       | true ↦ λ is. feed-input b bytes (lines_of bytes) (eqb-true b 10 is) (lines-input bytes)
       | false ↦ λ is. onto-input b bytes (lines_of bytes) is (lines-input bytes)
     ] refl

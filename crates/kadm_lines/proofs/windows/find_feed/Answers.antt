@@ -5,7 +5,8 @@ use Rattle.kadm_lines.specs.Windows.{Parts, lacks_feed}
 use Rattle.kadm_lines.proofs.Ranges.{parts-at, lacks-nowhere}
 use Rattle.kadm_lines.proofs.windows.find_feed.Goals as goal
 
-found : (hay : List ℕ) (r : Option ℕ) → IsFirstByte (is_byte 10) hay r → IfSome r (λ place. Parts hay (take place hay) (drop (place + 1) hay))
+found : (hay : List ℕ) (r : Option ℕ) → IsFirstByte (is_byte 10) hay r
+    → IfSome r (λ place. Parts hay (take place hay) (drop (place + 1) hay))
 found hay None first = tt
 found hay (Some k) first = parts-at hay k (first.0.high) (first.1) (λ j lt is. first.0.before j (omega arith) lt is)
 

@@ -8,7 +8,8 @@ abbrev pub invariant-loop-taken : goal.invariant-loop-taken
 invariant-loop-taken g l = record {
   few : l.taken ≤ 4294967296;
   room : length l.buffer ≡ 65536;
-  judged : option_map (judged_with l.reader) (g.S.Source.left l.source) ≡ option_map (judged_with l.fn.reader) (g.S.Source.left l.fn.source);
+  judged : option_map (judged_with l.reader) (g.S.Source.left l.source)
+      ≡ option_map (judged_with l.fn.reader) (g.S.Source.left l.fn.source);
   taken : WereTaken l.taken (g.S.Source.left l.fn.source) (g.S.Source.left l.source);
   faults : g.S.Source.faults l.fn.source ≤ g.S.Source.faults l.source;
 }

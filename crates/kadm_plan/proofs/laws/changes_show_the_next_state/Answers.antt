@@ -11,7 +11,10 @@ use Rattle.row_keys.specs.Shows.{Shows}
 
 pub returns : goal.returns
 returns c = λ rows s call op planned shows is.
-    let spared = c.changed_rows_show.ensures.ordinary s is.plain (c.changes_spare_the_own_keys.ensures s call is.plain is.accepted is.entry_is (no_master_line call.command planned)) in
-    let shown = c.changed_rows_show.ensures.shows rows s shows.history op is.plain shows shows.history_is (is.shown shows.history shows.history_is) spared in
-    subst (λ (t : State). Shows (effect (Some op) rows) t) (sym (c.accepted_change_takes_effect.ensures.state s call is.plain is.accepted is.entry_is))
+    let spared = c.changed_rows_show.ensures.ordinary s is.plain (c.changes_spare_the_own_keys.ensures s call is.plain
+    is.accepted is.entry_is (no_master_line call.command planned)) in
+    let shown = c.changed_rows_show.ensures.shows rows s shows.history op is.plain shows shows.history_is
+    (is.shown shows.history shows.history_is) spared in
+    subst (λ (t : State). Shows (effect (Some op) rows) t)
+    (sym (c.accepted_change_takes_effect.ensures.state s call is.plain is.accepted is.entry_is))
     (shows_at (effect (Some op) rows) (step s call).state.point (effect_on is.plain s) shown)

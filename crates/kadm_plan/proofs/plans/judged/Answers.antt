@@ -5,4 +5,5 @@ use Rattle.princ_plans.specs.Ready.{ready_keys}
 pub plan_change_keys-requires-clause-ready : goal.plan_change_keys-requires-clause-ready
 unfolding ready_keys
 plan_change_keys-requires-clause-ready c =
-    c.as_slice.ensures ∙ (c.keys-in-ChangeKeys.ensures.own ∙ ap ready_keys (sym c.command.ensures.value ∙ c.in-ChangeKeys.is))
+    c.as_slice.ensures
+    ∙ (c.keys-in-ChangeKeys.ensures.own ∙ ap ready_keys (sym c.command.ensures.value ∙ c.in-ChangeKeys.is))

@@ -5,6 +5,9 @@ use Rattle.kadm_plan.proofs.ready.prepare.Goals as goal
 
 pub invariant_of-result : goal.invariant_of-result
 invariant_of-result c = record {
-  own = record { realm = c.args.realm.now; is = subst (IsCommand c.args.realm.now) (sym c.in_ok-copied.ensures) c.requires };
+  own = record {
+    realm = c.args.realm.now;
+    is = subst (IsCommand c.args.realm.now) (sym c.in_ok-copied.ensures) c.requires;
+  };
   keys_are = c.in_ok-keys.ensures ∙ ap ready_keys (sym c.in_ok-copied.ensures);
 }

@@ -4,4 +4,5 @@ use Rattle.kadm_replies.specs.Lists.{extract_line}
 use Rattle.kadm_replies.proofs.lists.push_extracts.Given as goal
 
 abbrev pub invariant-loop-extract : goal.invariant-loop-extract
-invariant-loop-extract l = l.out.items ++ flat_map extract_line (drop l.extract-index l.extracts) ≡ l.fn.out.items ++ flat_map extract_line l.extracts
+invariant-loop-extract l = l.out.items ++ flat_map extract_line (drop l.extract-index l.extracts)
+    ≡ l.fn.out.items ++ flat_map extract_line l.extracts

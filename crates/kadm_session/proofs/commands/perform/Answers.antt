@@ -8,5 +8,7 @@ use Rattle.kadm_session.proofs.commands.perform.Goals as goal
 
 pub returns-in-Err-clause-safe : goal.returns-in-Err-clause-safe
 returns-in-Err-clause-safe g c = λ s has.
-    safe_still g.D.Disk c.args.disk.now c.args.disk.now (Does c.args.command.now) (told_draws (g.C.Clock.moments c.args.clock.now) (g.E.Entropy.stream c.args.entropy.now)) (seen (place_of c.args.primary.now) s) refl
+    safe_still g.D.Disk c.args.disk.now c.args.disk.now
+    (Does c.args.command.now) (told_draws (g.C.Clock.moments c.args.clock.now) (g.E.Entropy.stream c.args.entropy.now))
+    (seen (place_of c.args.primary.now) s) refl
     (λ told. c.what_is_kept_is_recovered.ensures c.args.primary.now.kept (c.requires.on told))

@@ -11,11 +11,13 @@ returns-in-Some c =
     let text = c.args.text.now in
     let cases = strip_suffix_is Decides-eqb text (13 ∷ []) c.strip_suffix.result c.strip_suffix.ensures.cases in
     return_stripped text c.in-Some.front.now
-    (subst (λ (r : Option (Bor (List ℕ))). MatchOption r ((front : List ℕ) → text ≢ front ++ 13 ∷ []) (λ x. text ≡ x.now ++ 13 ∷ [])) c.in-Some.is cases)
+    (subst (λ (r : Option (Bor (List ℕ))).
+    MatchOption r ((front : List ℕ) → text ≢ front ++ 13 ∷ []) (λ x. text ≡ x.now ++ 13 ∷ [])) c.in-Some.is cases)
 
 pub returns-in-None : goal.returns-in-None
 returns-in-None c =
     let text = c.args.text.now in
     let cases = strip_suffix_is Decides-eqb text (13 ∷ []) c.strip_suffix.result c.strip_suffix.ensures.cases in
     no_return text
-    (subst (λ (r : Option (Bor (List ℕ))). MatchOption r ((front : List ℕ) → text ≢ front ++ 13 ∷ []) (λ x. text ≡ x.now ++ 13 ∷ [])) c.in-None.is cases)
+    (subst (λ (r : Option (Bor (List ℕ))).
+    MatchOption r ((front : List ℕ) → text ≢ front ++ 13 ∷ []) (λ x. text ≡ x.now ++ 13 ∷ [])) c.in-None.is cases)

@@ -5,15 +5,18 @@ use Rattle.primary_core.specs.Opened.{Opened, place_of}
 use Rattle.princ_name.specs.Printed.{IsPrinted}
 use Rattle.session_base.specs.declared.halts.SessionHalt.TheVariants.{MemoryOut, DrawFault}
 use Rattle.kadm_session.proofs.Leaving.{crash_still}
-use Rattle.kadm_session.proofs.Moving.{rekeyed_all, rekeyed_part, rekeyed_refused, step_ok, stopped_safe, underway_as, underway_first, underway_next, underway_safe, word_has, word_next}
+use Rattle.kadm_session.proofs.Moving.{rekeyed_all, rekeyed_part, rekeyed_refused, step_ok, stopped_safe, underway_as}
+use Rattle.kadm_session.proofs.Moving.{underway_first, underway_next, underway_safe, word_has, word_next}
 use Rattle.kadm_session.proofs.Turning.{err_on}
 use Rattle.kadm_session.proofs.rekeying.rekey_all.Goals as goal
 
 pub loop-name-init : goal.loop-name-init
 loop-name-init g c = record {
   goes = λ s has.
-      underway_first g.D.Disk c.args.disk.now c.args.names.now c.args.now (g.E.Entropy.stream c.args.entropy.now) c.args.primary.now s has
-      (crash_still g.D.Disk c.args.disk.now c.args.disk.now (place_of c.args.primary.now) [] refl (λ told. c.what_is_kept_is_recovered.ensures c.args.primary.now.kept (c.requires.on told)));
+      underway_first g.D.Disk c.args.disk.now c.args.names.now c.args.now
+      (g.E.Entropy.stream c.args.entropy.now) c.args.primary.now s has
+      (crash_still g.D.Disk c.args.disk.now c.args.disk.now (place_of c.args.primary.now) [] refl
+      (λ told. c.what_is_kept_is_recovered.ensures c.args.primary.now.kept (c.requires.on told)));
   few = omega arith;
   on = λ told. c.requires.on told;
   whole = c.requires.whole;
@@ -26,7 +29,8 @@ loop-name-init g c = record {
 
 pub rekey_one-requires-clause-printed : goal.rekey_one-requires-clause-printed
 rekey_one-requires-clause-printed g c =
-    word_has IsPrinted c.args.names.now c.loop-name.name-index c.name-item.result c.as_slice.result.now c.requires.printed c.loop-name-test.true c.name-item.is c.as_slice.ensures
+    word_has IsPrinted c.args.names.now c.loop-name.name-index c.name-item.result c.as_slice.result.now
+    c.requires.printed c.loop-name-test.true c.name-item.is c.as_slice.ensures
 
 pub rekey_one-requires-clause-ring : goal.rekey_one-requires-clause-ring
 rekey_one-requires-clause-ring g c = c.requires.ring ∙ sym c.loop-name.invariant.masters
@@ -46,11 +50,27 @@ loop-name-preserved g c =
     let one = c.in-Ok-Ok.ensures in
     record {
       goes = λ s has.
-          let before = (underway_as g.D.Disk c.args.disk.now c.loop-name.disk c.args.names.now (drop c.loop-name.name-index c.args.names.now) (c.as_slice.result.now ∷ drop (c.loop-name.name-index + 1) c.args.names.now) c.args.now (g.E.Entropy.stream c.args.entropy.now) (seen (place_of c.args.primary.now) s) c.loop-name.totals c.loop-name.primary (g.E.Entropy.stream c.loop-name.entropy) (word_next c.args.names.now c.loop-name.name-index c.name-item.result c.as_slice.result.now c.loop-name-test.true c.name-item.is c.as_slice.ensures) (was.goes s has)) in
-          underway_next g.D.Disk c.args.disk.now c.loop-name.disk c.rekey_one.new.disk c.args.names.now c.as_slice.result.now (drop (c.loop-name.name-index + 1) c.args.names.now) c.args.now (g.E.Entropy.stream c.args.entropy.now) (seen (place_of c.args.primary.now) s) c.loop-name.totals c.in-Ok-Ok.more c.loop-name.primary c.rekey_one.new.primary (g.E.Entropy.stream c.loop-name.entropy) (g.E.Entropy.stream c.rekey_one.new.entropy)
+          let before =
+          (underway_as g.D.Disk c.args.disk.now c.loop-name.disk c.args.names.now (drop c.loop-name.name-index
+          c.args.names.now) (c.as_slice.result.now ∷ drop (c.loop-name.name-index + 1) c.args.names.now) c.args.now
+          (g.E.Entropy.stream c.args.entropy.now) (seen (place_of c.args.primary.now) s)
+          c.loop-name.totals c.loop-name.primary (g.E.Entropy.stream c.loop-name.entropy)
+          (word_next c.args.names.now c.loop-name.name-index c.name-item.result c.as_slice.result.now
+          c.loop-name-test.true c.name-item.is c.as_slice.ensures) (was.goes s has)) in
+          underway_next g.D.Disk c.args.disk.now c.loop-name.disk c.rekey_one.new.disk
+          c.args.names.now c.as_slice.result.now (drop (c.loop-name.name-index + 1) c.args.names.now) c.args.now
+          (g.E.Entropy.stream c.args.entropy.now) (seen (place_of c.args.primary.now) s) c.loop-name.totals
+          c.in-Ok-Ok.more c.loop-name.primary c.rekey_one.new.primary (g.E.Entropy.stream c.loop-name.entropy)
+          (g.E.Entropy.stream c.rekey_one.new.entropy)
           before
-          (step_ok c.rekey_one.result _ c.in-Ok-Ok.field-0 (Ok c.in-Ok-Ok.more) c.in-Ok-Ok.is c.in-Ok-Ok.field-0-is (c.rekey_one.ensures.done before.state before.has));
-      few = omega (arith, was.few, step_ok c.rekey_one.result _ c.in-Ok-Ok.field-0 (Ok c.in-Ok-Ok.more) c.in-Ok-Ok.is c.in-Ok-Ok.field-0-is c.rekey_one.ensures.few);
+          (step_ok c.rekey_one.result _ c.in-Ok-Ok.field-0 (Ok c.in-Ok-Ok.more) c.in-Ok-Ok.is c.in-Ok-Ok.field-0-is
+          (c.rekey_one.ensures.done before.state before.has));
+      few = omega (
+        arith,
+        was.few,
+        step_ok c.rekey_one.result _ c.in-Ok-Ok.field-0 (Ok c.in-Ok-Ok.more) c.in-Ok-Ok.is c.in-Ok-Ok.field-0-is
+            c.rekey_one.ensures.few,
+      );
       on = λ told. one.on told;
       whole = one.whole;
       realm = one.realm ∙ was.realm;
@@ -62,7 +82,8 @@ loop-name-preserved g c =
 
 pub returns-clause-done : goal.returns-clause-done
 returns-clause-done g c = λ s has.
-    rekeyed_all _ _ _ _ _ _ _ _ _ _ _ (drop_all c.loop-name.name-index c.args.names.now (omega (arith, c.loop-name-test.false))) (c.loop-name.invariant.goes s has)
+    rekeyed_all _ _ _ _ _ _ _ _ _ _ _ (drop_all c.loop-name.name-index c.args.names.now
+    (omega (arith, c.loop-name-test.false))) (c.loop-name.invariant.goes s has)
 
 pub returns-clause-safe : goal.returns-clause-safe
 returns-clause-safe g c = λ s has. underway_safe _ _ _ _ _ _ _ _ _ _ _ (c.loop-name.invariant.goes s has)
@@ -70,36 +91,73 @@ returns-clause-safe g c = λ s has. underway_safe _ _ _ _ _ _ _ _ _ _ _ (c.loop-
 pub returns-in-Ok-Err-clause-done : goal.returns-in-Ok-Err-clause-done
 returns-in-Ok-Err-clause-done g c = λ s has.
     let was = c.loop-name.invariant in
-    let before = (underway_as g.D.Disk c.args.disk.now c.loop-name.disk c.args.names.now (drop c.loop-name.name-index c.args.names.now) (c.as_slice.result.now ∷ drop (c.loop-name.name-index + 1) c.args.names.now) c.args.now (g.E.Entropy.stream c.args.entropy.now) (seen (place_of c.args.primary.now) s) c.loop-name.totals c.loop-name.primary (g.E.Entropy.stream c.loop-name.entropy) (word_next c.args.names.now c.loop-name.name-index c.name-item.result c.as_slice.result.now c.loop-name-test.true c.name-item.is c.as_slice.ensures) (was.goes s has)) in
-    rekeyed_refused g.D.Disk c.args.disk.now c.loop-name.disk c.rekey_one.new.disk c.args.names.now c.as_slice.result.now (drop (c.loop-name.name-index + 1) c.args.names.now) c.args.now (g.E.Entropy.stream c.args.entropy.now) (seen (place_of c.args.primary.now) s) c.loop-name.totals c.in-Ok-Err.why c.loop-name.primary c.rekey_one.new.primary (g.E.Entropy.stream c.loop-name.entropy) (g.E.Entropy.stream c.rekey_one.new.entropy)
+    let before =
+    (underway_as g.D.Disk c.args.disk.now c.loop-name.disk c.args.names.now (drop c.loop-name.name-index
+    c.args.names.now) (c.as_slice.result.now ∷ drop (c.loop-name.name-index + 1) c.args.names.now) c.args.now
+    (g.E.Entropy.stream c.args.entropy.now) (seen (place_of c.args.primary.now) s)
+    c.loop-name.totals c.loop-name.primary (g.E.Entropy.stream c.loop-name.entropy)
+    (word_next c.args.names.now c.loop-name.name-index c.name-item.result c.as_slice.result.now c.loop-name-test.true
+    c.name-item.is c.as_slice.ensures) (was.goes s has)) in
+    rekeyed_refused g.D.Disk c.args.disk.now c.loop-name.disk c.rekey_one.new.disk
+    c.args.names.now c.as_slice.result.now (drop (c.loop-name.name-index + 1) c.args.names.now) c.args.now
+    (g.E.Entropy.stream c.args.entropy.now) (seen (place_of c.args.primary.now) s) c.loop-name.totals
+    c.in-Ok-Err.why c.loop-name.primary c.rekey_one.new.primary (g.E.Entropy.stream c.loop-name.entropy)
+    (g.E.Entropy.stream c.rekey_one.new.entropy)
     before
-    (step_ok c.rekey_one.result _ c.in-Ok-Err.field-0 (Err c.in-Ok-Err.why) c.in-Ok-Err.is c.in-Ok-Err.field-0-is (c.rekey_one.ensures.done before.state before.has))
+    (step_ok c.rekey_one.result _ c.in-Ok-Err.field-0 (Err c.in-Ok-Err.why) c.in-Ok-Err.is c.in-Ok-Err.field-0-is
+    (c.rekey_one.ensures.done before.state before.has))
 
 pub returns-in-Ok-Err-clause-safe : goal.returns-in-Ok-Err-clause-safe
 returns-in-Ok-Err-clause-safe g c = λ s has.
     let was = c.loop-name.invariant in
-    let before = (underway_as g.D.Disk c.args.disk.now c.loop-name.disk c.args.names.now (drop c.loop-name.name-index c.args.names.now) (c.as_slice.result.now ∷ drop (c.loop-name.name-index + 1) c.args.names.now) c.args.now (g.E.Entropy.stream c.args.entropy.now) (seen (place_of c.args.primary.now) s) c.loop-name.totals c.loop-name.primary (g.E.Entropy.stream c.loop-name.entropy) (word_next c.args.names.now c.loop-name.name-index c.name-item.result c.as_slice.result.now c.loop-name-test.true c.name-item.is c.as_slice.ensures) (was.goes s has)) in
-    stopped_safe g.D.Disk c.args.disk.now c.loop-name.disk c.rekey_one.new.disk c.args.names.now c.as_slice.result.now (drop (c.loop-name.name-index + 1) c.args.names.now) c.args.now (g.E.Entropy.stream c.args.entropy.now) (seen (place_of c.args.primary.now) s) c.loop-name.totals c.loop-name.primary (g.E.Entropy.stream c.loop-name.entropy)
+    let before =
+    (underway_as g.D.Disk c.args.disk.now c.loop-name.disk c.args.names.now (drop c.loop-name.name-index
+    c.args.names.now) (c.as_slice.result.now ∷ drop (c.loop-name.name-index + 1) c.args.names.now) c.args.now
+    (g.E.Entropy.stream c.args.entropy.now) (seen (place_of c.args.primary.now) s)
+    c.loop-name.totals c.loop-name.primary (g.E.Entropy.stream c.loop-name.entropy)
+    (word_next c.args.names.now c.loop-name.name-index c.name-item.result c.as_slice.result.now c.loop-name-test.true
+    c.name-item.is c.as_slice.ensures) (was.goes s has)) in
+    stopped_safe g.D.Disk c.args.disk.now c.loop-name.disk c.rekey_one.new.disk c.args.names.now c.as_slice.result.now
+    (drop (c.loop-name.name-index + 1) c.args.names.now) c.args.now (g.E.Entropy.stream c.args.entropy.now)
+    (seen (place_of c.args.primary.now) s) c.loop-name.totals c.loop-name.primary
+    (g.E.Entropy.stream c.loop-name.entropy)
     before (c.rekey_one.ensures.safe before.state before.has)
 
 pub returns-in-Err-clause-safe : goal.returns-in-Err-clause-safe
 returns-in-Err-clause-safe g c = λ s has.
     let was = c.loop-name.invariant in
-    let before = (underway_as g.D.Disk c.args.disk.now c.loop-name.disk c.args.names.now (drop c.loop-name.name-index c.args.names.now) (c.as_slice.result.now ∷ drop (c.loop-name.name-index + 1) c.args.names.now) c.args.now (g.E.Entropy.stream c.args.entropy.now) (seen (place_of c.args.primary.now) s) c.loop-name.totals c.loop-name.primary (g.E.Entropy.stream c.loop-name.entropy) (word_next c.args.names.now c.loop-name.name-index c.name-item.result c.as_slice.result.now c.loop-name-test.true c.name-item.is c.as_slice.ensures) (was.goes s has)) in
-    stopped_safe g.D.Disk c.args.disk.now c.loop-name.disk c.rekey_one.new.disk c.args.names.now c.as_slice.result.now (drop (c.loop-name.name-index + 1) c.args.names.now) c.args.now (g.E.Entropy.stream c.args.entropy.now) (seen (place_of c.args.primary.now) s) c.loop-name.totals c.loop-name.primary (g.E.Entropy.stream c.loop-name.entropy)
+    let before =
+    (underway_as g.D.Disk c.args.disk.now c.loop-name.disk c.args.names.now (drop c.loop-name.name-index
+    c.args.names.now) (c.as_slice.result.now ∷ drop (c.loop-name.name-index + 1) c.args.names.now) c.args.now
+    (g.E.Entropy.stream c.args.entropy.now) (seen (place_of c.args.primary.now) s)
+    c.loop-name.totals c.loop-name.primary (g.E.Entropy.stream c.loop-name.entropy)
+    (word_next c.args.names.now c.loop-name.name-index c.name-item.result c.as_slice.result.now c.loop-name-test.true
+    c.name-item.is c.as_slice.ensures) (was.goes s has)) in
+    stopped_safe g.D.Disk c.args.disk.now c.loop-name.disk c.rekey_one.new.disk c.args.names.now c.as_slice.result.now
+    (drop (c.loop-name.name-index + 1) c.args.names.now) c.args.now (g.E.Entropy.stream c.args.entropy.now)
+    (seen (place_of c.args.primary.now) s) c.loop-name.totals c.loop-name.primary
+    (g.E.Entropy.stream c.loop-name.entropy)
     before (c.rekey_one.ensures.safe before.state before.has)
 
 pub returns-in-Err-clause-memory : goal.returns-in-Err-clause-memory
 returns-in-Err-clause-memory g c = λ s has is.
     let halted = err_on c.rekey_one.result _ _ c.in-Err.halt MemoryOut c.in-Err.is refl refl is in
-    rekeyed_part g.D.Disk c.args.disk.now c.loop-name.disk c.rekey_one.new.disk c.args.names.now (drop c.loop-name.name-index c.args.names.now) c.args.now (g.E.Entropy.stream c.args.entropy.now) (seen (place_of c.args.primary.now) s) c.loop-name.totals c.loop-name.primary c.rekey_one.new.primary (g.E.Entropy.stream c.loop-name.entropy)
+    rekeyed_part g.D.Disk c.args.disk.now c.loop-name.disk c.rekey_one.new.disk c.args.names.now
+    (drop c.loop-name.name-index c.args.names.now) c.args.now (g.E.Entropy.stream c.args.entropy.now)
+    (seen (place_of c.args.primary.now) s) c.loop-name.totals c.loop-name.primary c.rekey_one.new.primary
+    (g.E.Entropy.stream c.loop-name.entropy)
     (c.loop-name.invariant.goes s has) (c.rekey_one.ensures.memory_place halted)
-    (λ told. c.what_is_kept_is_recovered-in-Err.ensures c.rekey_one.new.primary.kept (c.rekey_one.ensures.memory told halted))
+    (λ told. c.what_is_kept_is_recovered-in-Err.ensures c.rekey_one.new.primary.kept
+    (c.rekey_one.ensures.memory told halted))
 
 pub returns-in-Err-clause-drawn : goal.returns-in-Err-clause-drawn
 returns-in-Err-clause-drawn g c = λ s has is.
     let halted = err_on c.rekey_one.result _ _ c.in-Err.halt DrawFault c.in-Err.is refl refl is in
     let same = c.rekey_one.ensures.drawn halted in
-    rekeyed_part g.D.Disk c.args.disk.now c.loop-name.disk c.rekey_one.new.disk c.args.names.now (drop c.loop-name.name-index c.args.names.now) c.args.now (g.E.Entropy.stream c.args.entropy.now) (seen (place_of c.args.primary.now) s) c.loop-name.totals c.loop-name.primary c.rekey_one.new.primary (g.E.Entropy.stream c.loop-name.entropy)
+    rekeyed_part g.D.Disk c.args.disk.now c.loop-name.disk c.rekey_one.new.disk c.args.names.now
+    (drop c.loop-name.name-index c.args.names.now) c.args.now (g.E.Entropy.stream c.args.entropy.now)
+    (seen (place_of c.args.primary.now) s) c.loop-name.totals c.loop-name.primary c.rekey_one.new.primary
+    (g.E.Entropy.stream c.loop-name.entropy)
     (c.loop-name.invariant.goes s has) (ap (λ (o : Opened). place_of o) same.1)
-    (λ told. c.what_is_kept_is_recovered-in-Err.ensures c.rekey_one.new.primary.kept (rw (same.0, same.1) (c.loop-name.invariant.on told)))
+    (λ told. c.what_is_kept_is_recovered-in-Err.ensures c.rekey_one.new.primary.kept
+    (rw (same.0, same.1) (c.loop-name.invariant.on told)))

@@ -10,7 +10,9 @@ use Rattle.kadm_session.proofs.rekeying.rekey_all.Given as goal
 -- What is left comes to what all of them come to, and the disk holds the place of the primary.
 abbrev pub invariant-loop-name : goal.invariant-loop-name
 invariant-loop-name g l = record {
-  goes : (s : State) → HasState l.fn.primary s → IsUnderway g.D.Disk l.fn.disk l.disk l.names (drop l.name-index l.names) l.now (g.E.Entropy.stream l.fn.entropy) (seen (place_of l.fn.primary) s) l.totals l.primary (g.E.Entropy.stream l.entropy);
+  goes : (s : State) → HasState l.fn.primary s
+      → IsUnderway g.D.Disk l.fn.disk l.disk l.names (drop l.name-index l.names) l.now (g.E.Entropy.stream l.fn.entropy)
+      (seen (place_of l.fn.primary) s) l.totals l.primary (g.E.Entropy.stream l.entropy);
   few : sum_of l.totals ≤ l.name-index;
   on : g.D.Disk.tells → IsOnDisk l.primary.kept (g.D.Disk.view l.disk);
   whole : l.primary.kept.broken ≡ false;

@@ -9,34 +9,44 @@ use Rattle.kadm_session.proofs.rekeying.rekey_matching.Goals as goal
 
 pub returns-in-Ok-clause-decided : goal.returns-in-Ok-clause-decided
 returns-in-Ok-clause-decided g c = λ s has.
-    decides_matched c.rekey_all.result c.args.glob.now c.as_slice.result.now (g.C.Clock.moments c.args.clock.now) (g.C.Clock.moments c.now-now.new.self) (g.E.Entropy.stream c.args.entropy.now) (g.E.Entropy.stream c.rekey_all.new.entropy) c.now-now.result c.args.primary.now c.rekey_all.new.primary s
-    c.holds_moment.ensures (c.as_slice.ensures.value ∙ c.in-Ok.ensures.names s has) c.now-now.ensures.first c.now-now.ensures.others
+    decides_matched c.rekey_all.result c.args.glob.now c.as_slice.result.now
+    (g.C.Clock.moments c.args.clock.now) (g.C.Clock.moments c.now-now.new.self) (g.E.Entropy.stream c.args.entropy.now)
+    (g.E.Entropy.stream c.rekey_all.new.entropy) c.now-now.result c.args.primary.now c.rekey_all.new.primary s
+    c.holds_moment.ensures (c.as_slice.ensures.value ∙ c.in-Ok.ensures.names s has) c.now-now.ensures.first
+    c.now-now.ensures.others
     (c.rekey_all.ensures.done s has)
 
 pub returns-in-Ok-clause-safe : goal.returns-in-Ok-clause-safe
 returns-in-Ok-clause-safe g c = λ s has.
-    line_rekeyed g.D.Disk c.args.disk.now c.rekey_all.new.disk c.args.glob.now c.as_slice.result.now (g.C.Clock.moments c.args.clock.now) (g.E.Entropy.stream c.args.entropy.now) c.now-now.result c.args.primary.now s
+    line_rekeyed g.D.Disk c.args.disk.now c.rekey_all.new.disk c.args.glob.now c.as_slice.result.now
+    (g.C.Clock.moments c.args.clock.now) (g.E.Entropy.stream c.args.entropy.now) c.now-now.result c.args.primary.now s
     c.holds_moment.ensures (c.as_slice.ensures.value ∙ c.in-Ok.ensures.names s has) c.now-now.ensures.first
     (c.rekey_all.ensures.safe s has)
 
 pub returns-in-Err-clause-safe : goal.returns-in-Err-clause-safe
 returns-in-Err-clause-safe g c = λ s has.
-    safe_still g.D.Disk c.args.disk.now c.args.disk.now (Rekeys c.args.glob.now) (told_draws (g.C.Clock.moments c.args.clock.now) (g.E.Entropy.stream c.args.entropy.now)) (seen (place_of c.args.primary.now) s) refl
+    safe_still g.D.Disk c.args.disk.now c.args.disk.now
+    (Rekeys c.args.glob.now) (told_draws (g.C.Clock.moments c.args.clock.now) (g.E.Entropy.stream c.args.entropy.now))
+    (seen (place_of c.args.primary.now) s) refl
     (λ told. c.what_is_kept_is_recovered.ensures c.args.primary.now.kept (c.requires.on told))
 
 pub returns-in-Err-clause-memory : goal.returns-in-Err-clause-memory
 returns-in-Err-clause-memory g c = λ s has is.
-    halfway_still g.D.Disk c.args.disk.now c.args.disk.now (Rekeys c.args.glob.now) (told_draws (g.C.Clock.moments c.args.clock.now) (g.E.Entropy.stream c.args.entropy.now)) (seen (place_of c.args.primary.now) s) refl
+    halfway_still g.D.Disk c.args.disk.now c.args.disk.now
+    (Rekeys c.args.glob.now) (told_draws (g.C.Clock.moments c.args.clock.now) (g.E.Entropy.stream c.args.entropy.now))
+    (seen (place_of c.args.primary.now) s) refl
     (λ told. c.what_is_kept_is_recovered.ensures c.args.primary.now.kept (c.requires.on told))
 
 pub returns-in-Ok-clause-memory : goal.returns-in-Ok-clause-memory
 returns-in-Ok-clause-memory g c = λ s has is.
-    halfway_rekeyed g.D.Disk c.rekey_all.new.disk c.args.glob.now c.as_slice.result.now (g.C.Clock.moments c.args.clock.now) (g.E.Entropy.stream c.args.entropy.now) c.now-now.result c.args.primary.now s
+    halfway_rekeyed g.D.Disk c.rekey_all.new.disk c.args.glob.now c.as_slice.result.now
+    (g.C.Clock.moments c.args.clock.now) (g.E.Entropy.stream c.args.entropy.now) c.now-now.result c.args.primary.now s
     (c.as_slice.ensures.value ∙ c.in-Ok.ensures.names s has) c.now-now.ensures.first
     (c.rekey_all.ensures.memory s has is)
 
 pub returns-in-Ok-clause-drawn : goal.returns-in-Ok-clause-drawn
 returns-in-Ok-clause-drawn g c = λ s has is.
-    halfway_rekeyed g.D.Disk c.rekey_all.new.disk c.args.glob.now c.as_slice.result.now (g.C.Clock.moments c.args.clock.now) (g.E.Entropy.stream c.args.entropy.now) c.now-now.result c.args.primary.now s
+    halfway_rekeyed g.D.Disk c.rekey_all.new.disk c.args.glob.now c.as_slice.result.now
+    (g.C.Clock.moments c.args.clock.now) (g.E.Entropy.stream c.args.entropy.now) c.now-now.result c.args.primary.now s
     (c.as_slice.ensures.value ∙ c.in-Ok.ensures.names s has) c.now-now.ensures.first
     (c.rekey_all.ensures.drawn s has is)

@@ -7,7 +7,8 @@ use Rattle.kadm_session.proofs.rekeying.rekey_one.Goals as goal
 
 pub returns-in-Err-clause-safe : goal.returns-in-Err-clause-safe
 returns-in-Err-clause-safe g c = λ s has.
-    move_still g.D.Disk c.args.disk.now c.args.disk.now c.args.name.now c.args.now (g.E.Entropy.stream c.args.entropy.now) (place_of c.args.primary.now) s
+    move_still g.D.Disk c.args.disk.now c.args.disk.now c.args.name.now c.args.now
+    (g.E.Entropy.stream c.args.entropy.now) (place_of c.args.primary.now) s
     (λ made. crash_still g.D.Disk c.args.disk.now c.args.disk.now (place_of c.args.primary.now) made refl
     (λ told. c.what_is_kept_is_recovered.ensures c.args.primary.now.kept (c.requires.on told)))
     (λ call. may_still g.D.Disk c.args.disk.now c.args.disk.now (place_of c.args.primary.now) s call refl
@@ -15,6 +16,8 @@ returns-in-Err-clause-safe g c = λ s has.
 
 pub returns-in-Ok-clause-safe : goal.returns-in-Ok-clause-safe
 returns-in-Ok-clause-safe g c = λ s has.
-    move_drawn g.D.Disk c.args.disk.now c.rekey_with.new.disk c.args.name.now c.args.now (g.E.Entropy.stream c.args.entropy.now) (place_of c.args.primary.now) s c.as_slice.result.now
-    (bytes_seen (g.E.Entropy.stream c.args.entropy.now) c.in-Ok.random.items c.as_slice.result.now 512 c.as_slice.ensures.value c.in-Ok.ensures.value)
+    move_drawn g.D.Disk c.args.disk.now c.rekey_with.new.disk c.args.name.now c.args.now
+    (g.E.Entropy.stream c.args.entropy.now) (place_of c.args.primary.now) s c.as_slice.result.now
+    (bytes_seen (g.E.Entropy.stream c.args.entropy.now) c.in-Ok.random.items c.as_slice.result.now 512
+    c.as_slice.ensures.value c.in-Ok.ensures.value)
     (c.rekey_with.ensures.crash s has)

@@ -18,8 +18,10 @@ returns-in-Ok-clause-done g c = λ s has.
     let who = name_said c.args.name.now [] in
     let named = printed_said c.printed_form_spells_the_name.ensures c.args.name.now c.requires.printed in
     let answer = ap answer_of c.in-Ok.is in
-    subst (λ (r : List ℕ). IsMoved (rekey_ask c.args.now r c.args.name.now) c.args.totals (seen (place_of c.args.primary.now) s) (Ok c.counted.result) c.rekey_now.new.primary) c.block_of.ensures
-    (moved_on (rekey_ask c.args.now c.block_of.result.now c.args.name.now) c.args.primary.now c.rekey_now.new.primary s c.in-Ok.settled c.args.totals c.counted.result c.counted.ensures.value
+    subst (λ (r : List ℕ). IsMoved (rekey_ask c.args.now r c.args.name.now) c.args.totals
+    (seen (place_of c.args.primary.now) s) (Ok c.counted.result) c.rekey_now.new.primary) c.block_of.ensures
+    (moved_on (rekey_ask c.args.now c.block_of.result.now c.args.name.now) c.args.primary.now c.rekey_now.new.primary s
+    c.in-Ok.settled c.args.totals c.counted.result c.counted.ensures.value
     (c.rekey_now.ensures.does s who (Moved c.in-Ok.settled) c.requires.whole has named answer)
     (c.rekey_now.ensures.state s who (Moved c.in-Ok.settled) c.requires.whole has named answer))
 
@@ -32,7 +34,8 @@ returns-in-Ok-clause-realm g c =
     let answer = ap answer_of c.in-Ok.is in
     let ask = rekey_ask c.args.now c.block_of.result.now c.args.name.now in
     moved_realm ask c.args.primary.now c.rekey_now.new.primary s c.args.totals (Ok c.counted.result)
-    (moved_on ask c.args.primary.now c.rekey_now.new.primary s c.in-Ok.settled c.args.totals c.counted.result c.counted.ensures.value
+    (moved_on ask c.args.primary.now c.rekey_now.new.primary s c.in-Ok.settled c.args.totals c.counted.result
+    c.counted.ensures.value
     (c.rekey_now.ensures.does s who (Moved c.in-Ok.settled) c.requires.whole has named answer)
     (c.rekey_now.ensures.state s who (Moved c.in-Ok.settled) c.requires.whole has named answer))
 
@@ -42,31 +45,38 @@ returns-in-Err-Refused-clause-done g c = λ s has.
     let why = c.in-Err-Refused.why in
     let named = printed_said c.printed_form_spells_the_name.ensures c.args.name.now c.requires.printed in
     let answer = ap answer_of c.in-Err-Refused.is ∙ ap (λ (x : Stop). answer_of (Err x)) c.in-Err-Refused.field-0-is in
-    subst (λ (w : Refusal). IsMoved (rekey_ask c.args.now c.args.random.now c.args.name.now) c.args.totals (seen (place_of c.args.primary.now) s) (Err w) c.rekey_now.new.primary) (sym c.in-Err-Refused.why-is)
-    (subst (λ (r : List ℕ). IsMoved (rekey_ask c.args.now r c.args.name.now) c.args.totals (seen (place_of c.args.primary.now) s) (Err why) c.rekey_now.new.primary) c.block_of.ensures
-    (moved_not (rekey_ask c.args.now c.block_of.result.now c.args.name.now) c.args.primary.now c.rekey_now.new.primary s why c.args.totals
+    subst (λ (w : Refusal). IsMoved (rekey_ask c.args.now c.args.random.now c.args.name.now) c.args.totals
+    (seen (place_of c.args.primary.now) s) (Err w) c.rekey_now.new.primary) (sym c.in-Err-Refused.why-is)
+    (subst (λ (r : List ℕ). IsMoved (rekey_ask c.args.now r c.args.name.now) c.args.totals
+    (seen (place_of c.args.primary.now) s) (Err why) c.rekey_now.new.primary) c.block_of.ensures
+    (moved_not (rekey_ask c.args.now c.block_of.result.now c.args.name.now) c.args.primary.now c.rekey_now.new.primary s
+    why c.args.totals
     (c.rekey_now.ensures.does s who (NotMoved why) c.requires.whole has named answer)
     (c.rekey_now.ensures.state s who (NotMoved why) c.requires.whole has named answer)))
 
 pub returns-in-Err-Refused-clause-on : goal.returns-in-Err-Refused-clause-on
 returns-in-Err-Refused-clause-on g c = λ told.
-    let same = c.rekey_now.ensures.refused_keeps c.in-Err-Refused.why (c.in-Err-Refused.is ∙ ap (λ x. Err x) c.in-Err-Refused.field-0-is) in
+    let same = c.rekey_now.ensures.refused_keeps c.in-Err-Refused.why
+    (c.in-Err-Refused.is ∙ ap (λ x. Err x) c.in-Err-Refused.field-0-is) in
     rw (same.0, same.1) (c.requires.on told)
 
 pub returns-in-Ok-clause-crash : goal.returns-in-Ok-clause-crash
 returns-in-Ok-clause-crash g c = λ s has.
     let named = printed_said c.printed_form_spells_the_name.ensures c.args.name.now c.requires.printed in
-    subst (λ (r : List ℕ). IsCrashSafe g.D.Disk c.args.disk.now c.rekey_now.new.disk (MayLeave (place_of c.args.primary.now) s (Perform (rekey_ask c.args.now r c.args.name.now)))) c.block_of.ensures
+    subst (λ (r : List ℕ). IsCrashSafe g.D.Disk c.args.disk.now c.rekey_now.new.disk
+    (MayLeave (place_of c.args.primary.now) s (Perform (rekey_ask c.args.now r c.args.name.now)))) c.block_of.ensures
     (c.rekey_now.ensures.crash s (name_said c.args.name.now []) c.requires.whole has named)
 
 pub returns-in-Err-Refused-clause-crash : goal.returns-in-Err-Refused-clause-crash
 returns-in-Err-Refused-clause-crash g c = λ s has.
     let named = printed_said c.printed_form_spells_the_name.ensures c.args.name.now c.requires.printed in
-    subst (λ (r : List ℕ). IsCrashSafe g.D.Disk c.args.disk.now c.rekey_now.new.disk (MayLeave (place_of c.args.primary.now) s (Perform (rekey_ask c.args.now r c.args.name.now)))) c.block_of.ensures
+    subst (λ (r : List ℕ). IsCrashSafe g.D.Disk c.args.disk.now c.rekey_now.new.disk
+    (MayLeave (place_of c.args.primary.now) s (Perform (rekey_ask c.args.now r c.args.name.now)))) c.block_of.ensures
     (c.rekey_now.ensures.crash s (name_said c.args.name.now []) c.requires.whole has named)
 
 pub returns-in-Err-Halt-clause-crash : goal.returns-in-Err-Halt-clause-crash
 returns-in-Err-Halt-clause-crash g c = λ s has.
     let named = printed_said c.printed_form_spells_the_name.ensures c.args.name.now c.requires.printed in
-    subst (λ (r : List ℕ). IsCrashSafe g.D.Disk c.args.disk.now c.rekey_now.new.disk (MayLeave (place_of c.args.primary.now) s (Perform (rekey_ask c.args.now r c.args.name.now)))) c.block_of.ensures
+    subst (λ (r : List ℕ). IsCrashSafe g.D.Disk c.args.disk.now c.rekey_now.new.disk
+    (MayLeave (place_of c.args.primary.now) s (Perform (rekey_ask c.args.now r c.args.name.now)))) c.block_of.ensures
     (c.rekey_now.ensures.crash s (name_said c.args.name.now []) c.requires.whole has named)

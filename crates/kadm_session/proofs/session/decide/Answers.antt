@@ -12,80 +12,116 @@ use Rattle.kadm_session.proofs.session.decide.Goals as goal
 
 pub returns-in-Nothing-clause-decided : goal.returns-in-Nothing-clause-decided
 returns-in-Nothing-clause-decided g c = λ s has.
-    decides_nothing c.args.asked.now (told_draws (g.C.Clock.moments c.args.clock.now) (g.E.Entropy.stream c.args.entropy.now)) c.args.primary.now s c.in-Nothing.is has
+    decides_nothing c.args.asked.now (told_draws (g.C.Clock.moments c.args.clock.now)
+    (g.E.Entropy.stream c.args.entropy.now)) c.args.primary.now s c.in-Nothing.is has
 
 pub returns-in-Nothing-clause-safe : goal.returns-in-Nothing-clause-safe
 returns-in-Nothing-clause-safe g c = λ s has.
-    safe_still g.D.Disk c.args.disk.now c.args.disk.now c.args.asked.now (told_draws (g.C.Clock.moments c.args.clock.now) (g.E.Entropy.stream c.args.entropy.now)) (seen (place_of c.args.primary.now) s) refl
+    safe_still g.D.Disk c.args.disk.now c.args.disk.now c.args.asked.now
+    (told_draws (g.C.Clock.moments c.args.clock.now) (g.E.Entropy.stream c.args.entropy.now))
+    (seen (place_of c.args.primary.now) s) refl
     (λ told. c.what_is_kept_is_recovered.ensures c.args.primary.now.kept (c.requires.on told))
 
 pub returns-in-Ok-clause-decided : goal.returns-in-Ok-clause-decided
 returns-in-Ok-clause-decided g c = λ s has.
-    decides_refused c.args.asked.now c.in-Refused.refusal (told_draws (g.C.Clock.moments c.args.clock.now) (g.E.Entropy.stream c.args.entropy.now)) c.args.primary.now s c.in-Ok.printed.reply c.in-Refused.is c.in-Ok.ensures.reply has
+    decides_refused c.args.asked.now c.in-Refused.refusal
+    (told_draws (g.C.Clock.moments c.args.clock.now) (g.E.Entropy.stream c.args.entropy.now)) c.args.primary.now s
+    c.in-Ok.printed.reply c.in-Refused.is c.in-Ok.ensures.reply has
 
 pub returns-in-Ok-clause-safe : goal.returns-in-Ok-clause-safe
 returns-in-Ok-clause-safe g c = λ s has.
-    safe_still g.D.Disk c.args.disk.now c.args.disk.now c.args.asked.now (told_draws (g.C.Clock.moments c.args.clock.now) (g.E.Entropy.stream c.args.entropy.now)) (seen (place_of c.args.primary.now) s) refl
+    safe_still g.D.Disk c.args.disk.now c.args.disk.now c.args.asked.now
+    (told_draws (g.C.Clock.moments c.args.clock.now) (g.E.Entropy.stream c.args.entropy.now))
+    (seen (place_of c.args.primary.now) s) refl
     (λ told. c.what_is_kept_is_recovered.ensures c.args.primary.now.kept (c.requires.on told))
 
 pub returns-in-Err-clause-safe : goal.returns-in-Err-clause-safe
 returns-in-Err-clause-safe g c = λ s has.
-    safe_still g.D.Disk c.args.disk.now c.args.disk.now c.args.asked.now (told_draws (g.C.Clock.moments c.args.clock.now) (g.E.Entropy.stream c.args.entropy.now)) (seen (place_of c.args.primary.now) s) refl
+    safe_still g.D.Disk c.args.disk.now c.args.disk.now c.args.asked.now
+    (told_draws (g.C.Clock.moments c.args.clock.now) (g.E.Entropy.stream c.args.entropy.now))
+    (seen (place_of c.args.primary.now) s) refl
     (λ told. c.what_is_kept_is_recovered.ensures c.args.primary.now.kept (c.requires.on told))
 
 pub returns-in-Err-clause-memory : goal.returns-in-Err-clause-memory
 returns-in-Err-clause-memory g c = λ s has is.
-    halfway_still g.D.Disk c.args.disk.now c.args.disk.now c.args.asked.now (told_draws (g.C.Clock.moments c.args.clock.now) (g.E.Entropy.stream c.args.entropy.now)) (seen (place_of c.args.primary.now) s) refl
+    halfway_still g.D.Disk c.args.disk.now c.args.disk.now c.args.asked.now
+    (told_draws (g.C.Clock.moments c.args.clock.now) (g.E.Entropy.stream c.args.entropy.now))
+    (seen (place_of c.args.primary.now) s) refl
     (λ told. c.what_is_kept_is_recovered.ensures c.args.primary.now.kept (c.requires.on told))
 
 pub returns-in-Err-perform-clause-memory : goal.returns-in-Err-perform-clause-memory
 returns-in-Err-perform-clause-memory g c = λ s has is.
-    let same = c.perform.ensures.memory (err_on c.perform.result _ _ c.in-Err-perform.halt MemoryOut c.in-Err-perform.is refl refl is) in
-    halfway_still g.D.Disk c.args.disk.now c.perform.new.disk c.args.asked.now (told_draws (g.C.Clock.moments c.args.clock.now) (g.E.Entropy.stream c.args.entropy.now)) (seen (place_of c.args.primary.now) s) same.0
+    let same = c.perform.ensures.memory
+    (err_on c.perform.result _ _ c.in-Err-perform.halt MemoryOut c.in-Err-perform.is refl refl is) in
+    halfway_still g.D.Disk c.args.disk.now c.perform.new.disk c.args.asked.now
+    (told_draws (g.C.Clock.moments c.args.clock.now) (g.E.Entropy.stream c.args.entropy.now))
+    (seen (place_of c.args.primary.now) s) same.0
     (λ told. c.what_is_kept_is_recovered.ensures c.args.primary.now.kept (c.requires.on told))
 
 pub returns-in-Err-rekey-clause-memory : goal.returns-in-Err-rekey-clause-memory
 returns-in-Err-rekey-clause-memory g c = λ s has is.
-    halfway_as g.D.Disk c.rekey.new.disk c.args.asked.now (Rekeys c.in-Rekeys.glob) (told_draws (g.C.Clock.moments c.args.clock.now) (g.E.Entropy.stream c.args.entropy.now)) (seen (place_of c.args.primary.now) s) c.in-Rekeys.is
-    (c.rekey.ensures.memory s has (err_on c.rekey.result _ _ c.in-Err-rekey.halt MemoryOut c.in-Err-rekey.is refl refl is))
+    halfway_as g.D.Disk c.rekey.new.disk c.args.asked.now
+    (Rekeys c.in-Rekeys.glob) (told_draws (g.C.Clock.moments c.args.clock.now) (g.E.Entropy.stream c.args.entropy.now))
+    (seen (place_of c.args.primary.now) s) c.in-Rekeys.is
+    (c.rekey.ensures.memory s has
+    (err_on c.rekey.result _ _ c.in-Err-rekey.halt MemoryOut c.in-Err-rekey.is refl refl is))
 
 pub returns-in-Err-perform-clause-drawn : goal.returns-in-Err-perform-clause-drawn
 returns-in-Err-perform-clause-drawn g c = λ s has is.
-    let same = c.perform.ensures.drawn (err_on c.perform.result _ _ c.in-Err-perform.halt DrawFault c.in-Err-perform.is refl refl is) in
-    halfway_still g.D.Disk c.args.disk.now c.perform.new.disk c.args.asked.now (told_draws (g.C.Clock.moments c.args.clock.now) (g.E.Entropy.stream c.args.entropy.now)) (seen (place_of c.args.primary.now) s) same.0
+    let same = c.perform.ensures.drawn
+    (err_on c.perform.result _ _ c.in-Err-perform.halt DrawFault c.in-Err-perform.is refl refl is) in
+    halfway_still g.D.Disk c.args.disk.now c.perform.new.disk c.args.asked.now
+    (told_draws (g.C.Clock.moments c.args.clock.now) (g.E.Entropy.stream c.args.entropy.now))
+    (seen (place_of c.args.primary.now) s) same.0
     (λ told. c.what_is_kept_is_recovered.ensures c.args.primary.now.kept (c.requires.on told))
 
 pub returns-in-Err-rekey-clause-drawn : goal.returns-in-Err-rekey-clause-drawn
 returns-in-Err-rekey-clause-drawn g c = λ s has is.
-    halfway_as g.D.Disk c.rekey.new.disk c.args.asked.now (Rekeys c.in-Rekeys.glob) (told_draws (g.C.Clock.moments c.args.clock.now) (g.E.Entropy.stream c.args.entropy.now)) (seen (place_of c.args.primary.now) s) c.in-Rekeys.is
-    (c.rekey.ensures.drawn s has (err_on c.rekey.result _ _ c.in-Err-rekey.halt DrawFault c.in-Err-rekey.is refl refl is))
+    halfway_as g.D.Disk c.rekey.new.disk c.args.asked.now
+    (Rekeys c.in-Rekeys.glob) (told_draws (g.C.Clock.moments c.args.clock.now) (g.E.Entropy.stream c.args.entropy.now))
+    (seen (place_of c.args.primary.now) s) c.in-Rekeys.is
+    (c.rekey.ensures.drawn s has
+    (err_on c.rekey.result _ _ c.in-Err-rekey.halt DrawFault c.in-Err-rekey.is refl refl is))
 
 pub returns-in-Err-renew-clause-memory : goal.returns-in-Err-renew-clause-memory
 returns-in-Err-renew-clause-memory g c = λ s has is.
-    let same = c.renew.ensures.memory (err_on c.renew.result _ _ c.in-Err-renew.halt MemoryOut c.in-Err-renew.is refl refl is) in
-    halfway_still g.D.Disk c.args.disk.now c.renew.new.disk c.args.asked.now (told_draws (g.C.Clock.moments c.args.clock.now) (g.E.Entropy.stream c.args.entropy.now)) (seen (place_of c.args.primary.now) s) same.0
+    let same =
+    c.renew.ensures.memory (err_on c.renew.result _ _ c.in-Err-renew.halt MemoryOut c.in-Err-renew.is refl refl is) in
+    halfway_still g.D.Disk c.args.disk.now c.renew.new.disk c.args.asked.now
+    (told_draws (g.C.Clock.moments c.args.clock.now) (g.E.Entropy.stream c.args.entropy.now))
+    (seen (place_of c.args.primary.now) s) same.0
     (λ told. c.what_is_kept_is_recovered.ensures c.args.primary.now.kept (c.requires.on told))
 
 pub returns-in-Ok-take_draws-clause-decided : goal.returns-in-Ok-take_draws-clause-decided
 returns-in-Ok-take_draws-clause-decided g c = λ s has.
-    decides_dump c.args.asked.now (told_draws (g.C.Clock.moments c.args.clock.now) (g.E.Entropy.stream c.args.entropy.now)) _ c.args.primary.now s c.in-WritesDump.is c.in-Ok-take_draws.ensures.taken has
+    decides_dump c.args.asked.now
+    (told_draws (g.C.Clock.moments c.args.clock.now) (g.E.Entropy.stream c.args.entropy.now)) _ c.args.primary.now s
+    c.in-WritesDump.is c.in-Ok-take_draws.ensures.taken has
 
 pub returns-in-Ok-take_draws-clause-safe : goal.returns-in-Ok-take_draws-clause-safe
 returns-in-Ok-take_draws-clause-safe g c = λ s has.
-    safe_still g.D.Disk c.args.disk.now c.args.disk.now c.args.asked.now (told_draws (g.C.Clock.moments c.args.clock.now) (g.E.Entropy.stream c.args.entropy.now)) (seen (place_of c.args.primary.now) s) refl
+    safe_still g.D.Disk c.args.disk.now c.args.disk.now c.args.asked.now
+    (told_draws (g.C.Clock.moments c.args.clock.now) (g.E.Entropy.stream c.args.entropy.now))
+    (seen (place_of c.args.primary.now) s) refl
     (λ told. c.what_is_kept_is_recovered.ensures c.args.primary.now.kept (c.requires.on told))
 
 pub returns-in-Err-take_draws-clause-safe : goal.returns-in-Err-take_draws-clause-safe
 returns-in-Err-take_draws-clause-safe g c = λ s has.
-    safe_still g.D.Disk c.args.disk.now c.args.disk.now c.args.asked.now (told_draws (g.C.Clock.moments c.args.clock.now) (g.E.Entropy.stream c.args.entropy.now)) (seen (place_of c.args.primary.now) s) refl
+    safe_still g.D.Disk c.args.disk.now c.args.disk.now c.args.asked.now
+    (told_draws (g.C.Clock.moments c.args.clock.now) (g.E.Entropy.stream c.args.entropy.now))
+    (seen (place_of c.args.primary.now) s) refl
     (λ told. c.what_is_kept_is_recovered.ensures c.args.primary.now.kept (c.requires.on told))
 
 pub returns-in-Err-take_draws-clause-memory : goal.returns-in-Err-take_draws-clause-memory
 returns-in-Err-take_draws-clause-memory g c = λ s has is.
-    halfway_still g.D.Disk c.args.disk.now c.args.disk.now c.args.asked.now (told_draws (g.C.Clock.moments c.args.clock.now) (g.E.Entropy.stream c.args.entropy.now)) (seen (place_of c.args.primary.now) s) refl
+    halfway_still g.D.Disk c.args.disk.now c.args.disk.now c.args.asked.now
+    (told_draws (g.C.Clock.moments c.args.clock.now) (g.E.Entropy.stream c.args.entropy.now))
+    (seen (place_of c.args.primary.now) s) refl
     (λ told. c.what_is_kept_is_recovered.ensures c.args.primary.now.kept (c.requires.on told))
 
 pub returns-in-Err-take_draws-clause-drawn : goal.returns-in-Err-take_draws-clause-drawn
 returns-in-Err-take_draws-clause-drawn g c = λ s has is.
-    halfway_still g.D.Disk c.args.disk.now c.args.disk.now c.args.asked.now (told_draws (g.C.Clock.moments c.args.clock.now) (g.E.Entropy.stream c.args.entropy.now)) (seen (place_of c.args.primary.now) s) refl
+    halfway_still g.D.Disk c.args.disk.now c.args.disk.now c.args.asked.now
+    (told_draws (g.C.Clock.moments c.args.clock.now) (g.E.Entropy.stream c.args.entropy.now))
+    (seen (place_of c.args.primary.now) s) refl
     (λ told. c.what_is_kept_is_recovered.ensures c.args.primary.now.kept (c.requires.on told))

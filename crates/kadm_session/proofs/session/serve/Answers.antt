@@ -1,7 +1,9 @@
 use Rattle.std.proofs.Common.{◌∙◌, refl, ap, arith, Ok}
 use Rattle.kdb_disk.proofs.Runs.{then_on}
 use Rattle.session_base.specs.declared.halts.SessionHalt.TheVariants.{MemoryOut, DrawFault, ReadFault, InputTooLong}
-use Rattle.kadm_session.proofs.Turning.{between_from, done_from, ended_from, err_on, goes_first, goes_none, goes_on_then, goes_some, goes_with, is_refused, leaves_here, rests_on, stopped_from, was_refused}
+use Rattle.kadm_session.proofs.Turning.{between_from, done_from, ended_from, err_on, goes_first}
+use Rattle.kadm_session.proofs.Turning.{goes_none, goes_on_then, goes_some, goes_with, is_refused}
+use Rattle.kadm_session.proofs.Turning.{leaves_here, rests_on, stopped_from, was_refused}
 use Rattle.kadm_session.proofs.session.serve.Goals as goal
 
 pub loop-now_refused-init : goal.loop-now_refused-init
@@ -27,10 +29,12 @@ loop-now_refused-preserved-then-refused g c =
           let before = was.goes s has in
           goes_with _ _ _ _ _ _ _ (was_refused c.loop-now_refused.refused c.in-Ok-Some.now_refused c.if-refused.true)
           (goes_on_then _ _ _ _ _ _ _ _ _ _ _ before
-          (goes_some _ _ c.in-Ok-Some.field-0 c.in-Ok-Some.now_refused c.in-Ok-Some.is c.in-Ok-Some.field-0-is (c.turn.ensures.next before.state c.loop-now_refused.refused before.has)));
+          (goes_some _ _ c.in-Ok-Some.field-0 c.in-Ok-Some.now_refused c.in-Ok-Some.is c.in-Ok-Some.field-0-is
+          (c.turn.ensures.next before.state c.loop-now_refused.refused before.has)));
       run = λ told s has.
           let before = was.goes s has in
-          then_on (was.run told s has) (c.turn.ensures.moments told before.state c.loop-now_refused.refused before.has) before.follows.leaves;
+          then_on (was.run told s has) (c.turn.ensures.moments told before.state c.loop-now_refused.refused before.has)
+          before.follows.leaves;
       on = λ told. turn.on told;
       whole = turn.whole;
       same = turn.call.same ∙ was.same;
@@ -50,10 +54,12 @@ loop-now_refused-preserved g c =
           let before = was.goes s has in
           goes_with _ _ _ _ _ _ _ (is_refused c.loop-now_refused.refused c.in-Ok-Some.now_refused c.if-refused.false)
           (goes_on_then _ _ _ _ _ _ _ _ _ _ _ before
-          (goes_some _ _ c.in-Ok-Some.field-0 c.in-Ok-Some.now_refused c.in-Ok-Some.is c.in-Ok-Some.field-0-is (c.turn.ensures.next before.state c.loop-now_refused.refused before.has)));
+          (goes_some _ _ c.in-Ok-Some.field-0 c.in-Ok-Some.now_refused c.in-Ok-Some.is c.in-Ok-Some.field-0-is
+          (c.turn.ensures.next before.state c.loop-now_refused.refused before.has)));
       run = λ told s has.
           let before = was.goes s has in
-          then_on (was.run told s has) (c.turn.ensures.moments told before.state c.loop-now_refused.refused before.has) before.follows.leaves;
+          then_on (was.run told s has) (c.turn.ensures.moments told before.state c.loop-now_refused.refused before.has)
+          before.follows.leaves;
       on = λ told. turn.on told;
       whole = turn.whole;
       same = turn.call.same ∙ was.same;
@@ -67,53 +73,63 @@ loop-now_refused-preserved g c =
 pub returns-in-Ok-None-clause-ended : goal.returns-in-Ok-None-clause-ended
 returns-in-Ok-None-clause-ended g c = λ s end has e.
     let before = c.loop-now_refused.invariant.goes s has in
-    let none = goes_none _ _ c.in-Ok-None.field-0 c.in-Ok-None.is c.in-Ok-None.field-0-is (c.turn.ensures.next before.state c.loop-now_refused.refused before.has) in
+    let none = goes_none _ _ c.in-Ok-None.field-0 c.in-Ok-None.is c.in-Ok-None.field-0-is
+    (c.turn.ensures.next before.state c.loop-now_refused.refused before.has) in
     let stays = c.turn.ensures.end (c.in-Ok-None.is ∙ ap Ok c.in-Ok-None.field-0-is) in
-    rw (stays.0, stays.1, c.turn.ensures.end_draws (c.in-Ok-None.is ∙ ap Ok c.in-Ok-None.field-0-is)) (ended_from _ _ _ c.loop-now_refused.refused _ _ end before none e)
+    rw (stays.0, stays.1, c.turn.ensures.end_draws (c.in-Ok-None.is ∙ ap Ok c.in-Ok-None.field-0-is))
+    (ended_from _ _ _ c.loop-now_refused.refused _ _ end before none e)
 
 pub returns-in-Ok-None-clause-done : goal.returns-in-Ok-None-clause-done
 returns-in-Ok-None-clause-done g c = λ s has.
     let before = c.loop-now_refused.invariant.goes s has in
     done_from _ _ _ c.loop-now_refused.refused _ _ before
-    (goes_none _ _ c.in-Ok-None.field-0 c.in-Ok-None.is c.in-Ok-None.field-0-is (c.turn.ensures.next before.state c.loop-now_refused.refused before.has))
+    (goes_none _ _ c.in-Ok-None.field-0 c.in-Ok-None.is c.in-Ok-None.field-0-is
+    (c.turn.ensures.next before.state c.loop-now_refused.refused before.has))
 
 pub returns-in-Ok-None-clause-moments : goal.returns-in-Ok-None-clause-moments
 returns-in-Ok-None-clause-moments g c = λ told s has.
     let was = c.loop-now_refused.invariant in
     let before = was.goes s has in
-    then_on (was.run told s has) (c.turn.ensures.moments told before.state c.loop-now_refused.refused before.has) before.follows.leaves
+    then_on (was.run told s has) (c.turn.ensures.moments told before.state c.loop-now_refused.refused before.has)
+    before.follows.leaves
 
 pub returns-in-Err-clause-moments : goal.returns-in-Err-clause-moments
 returns-in-Err-clause-moments g c = λ told s has.
     let was = c.loop-now_refused.invariant in
     let before = was.goes s has in
-    then_on (was.run told s has) (c.turn.ensures.moments told before.state c.loop-now_refused.refused before.has) before.follows.leaves
+    then_on (was.run told s has) (c.turn.ensures.moments told before.state c.loop-now_refused.refused before.has)
+    before.follows.leaves
 
 pub returns-in-Err-clause-stopped : goal.returns-in-Err-clause-stopped
 returns-in-Err-clause-stopped g c = λ told s has.
     let before = c.loop-now_refused.invariant.goes s has in
-    stopped_from _ _ _ _ _ _ _ _ before (c.in-Err.ensures.stopped told before.state c.loop-now_refused.refused before.has)
+    stopped_from _ _ _ _ _ _ _ _ before
+    (c.in-Err.ensures.stopped told before.state c.loop-now_refused.refused before.has)
 
 pub returns-in-Err-clause-memory : goal.returns-in-Err-clause-memory
 returns-in-Err-clause-memory g c = λ told s has is.
     let before = c.loop-now_refused.invariant.goes s has in
     rests_on _ _ _ _ _ _ _ _ _ before
-    (c.turn.ensures.memory told before.state c.loop-now_refused.refused before.has (err_on c.turn.result _ _ c.in-Err.halt MemoryOut c.in-Err.is refl refl is))
+    (c.turn.ensures.memory told before.state c.loop-now_refused.refused before.has
+    (err_on c.turn.result _ _ c.in-Err.halt MemoryOut c.in-Err.is refl refl is))
 
 pub returns-in-Err-clause-drawn : goal.returns-in-Err-clause-drawn
 returns-in-Err-clause-drawn g c = λ told s has is.
     let before = c.loop-now_refused.invariant.goes s has in
     rests_on _ _ _ _ _ _ _ _ _ before
-    (c.turn.ensures.drawn told before.state c.loop-now_refused.refused before.has (err_on c.turn.result _ _ c.in-Err.halt DrawFault c.in-Err.is refl refl is))
+    (c.turn.ensures.drawn told before.state c.loop-now_refused.refused before.has
+    (err_on c.turn.result _ _ c.in-Err.halt DrawFault c.in-Err.is refl refl is))
 
 pub returns-in-Err-clause-read : goal.returns-in-Err-clause-read
 returns-in-Err-clause-read g c = λ told s has is.
     let was = c.loop-now_refused.invariant in
     let same = c.turn.ensures.read (err_on c.turn.result _ _ c.in-Err.halt ReadFault c.in-Err.is refl refl is) in
-    rw (same.0, same.1) (between_from _ _ _ _ _ _ _ (was.goes s has) (c.what_is_kept_is_recovered-in-loop-now_refused.ensures _ (was.on told)))
+    rw (same.0, same.1) (between_from _ _ _ _ _ _ _ (was.goes s has)
+    (c.what_is_kept_is_recovered-in-loop-now_refused.ensures _ (was.on told)))
 
 pub returns-in-Err-clause-at_limit : goal.returns-in-Err-clause-at_limit
 returns-in-Err-clause-at_limit g c = λ told s has is.
     let was = c.loop-now_refused.invariant in
     let same = c.turn.ensures.at_limit (err_on c.turn.result _ _ c.in-Err.halt InputTooLong c.in-Err.is refl refl is) in
-    rw (same.0, same.1) (between_from _ _ _ _ _ _ _ (was.goes s has) (c.what_is_kept_is_recovered-in-loop-now_refused.ensures _ (was.on told)))
+    rw (same.0, same.1) (between_from _ _ _ _ _ _ _ (was.goes s has)
+    (c.what_is_kept_is_recovered-in-loop-now_refused.ensures _ (was.on told)))

@@ -10,25 +10,32 @@ use Rattle.primary_core.specs.Opened.{place_of}
 
 pub returns-in-Ok-stash_reply-clause-performs : goal.returns-in-Ok-stash_reply-clause-performs
 returns-in-Ok-stash_reply-clause-performs g c = λ s random has.
-    stash_performs c.args.primary.now c.perform_stash.new.self s c.args.client.now c.args.now random c.perform_stash.result c.in-Ok-perform_stash.reply c.in-Ok-stash_reply.printed.reply
-    c.requires.client c.in-Ok-perform_stash.is c.in-Ok-stash_reply.ensures.reply (c.perform_stash.ensures.does s random c.requires.whole has)
+    stash_performs c.args.primary.now c.perform_stash.new.self s c.args.client.now c.args.now random
+    c.perform_stash.result c.in-Ok-perform_stash.reply c.in-Ok-stash_reply.printed.reply
+    c.requires.client c.in-Ok-perform_stash.is c.in-Ok-stash_reply.ensures.reply
+    (c.perform_stash.ensures.does s random c.requires.whole has)
 
 pub returns-in-Ok-stash_reply-clause-stands : goal.returns-in-Ok-stash_reply-clause-stands
 returns-in-Ok-stash_reply-clause-stands g c = λ s random has.
-    stash_stands c.args.primary.now c.perform_stash.new.self s c.args.client.now c.args.now random c.perform_stash.result c.in-Ok-perform_stash.reply
-    c.requires.client c.in-Ok-perform_stash.is (c.perform_stash.ensures.does s random c.requires.whole has) (c.perform_stash.ensures.state s has)
+    stash_stands c.args.primary.now c.perform_stash.new.self s c.args.client.now c.args.now random
+    c.perform_stash.result c.in-Ok-perform_stash.reply
+    c.requires.client c.in-Ok-perform_stash.is (c.perform_stash.ensures.does s random c.requires.whole has)
+    (c.perform_stash.ensures.state s has)
 
 pub returns-in-Ok-stash_reply-clause-crash : goal.returns-in-Ok-stash_reply-clause-crash
 returns-in-Ok-stash_reply-clause-crash g c = λ s random has.
-    stash_crash g.D.Disk c.args.disk.now c.perform_stash.new.disk c.args.primary.now s c.args.client.now c.args.now random c.requires.client (c.perform_stash.ensures.crash s random c.requires.whole has)
+    stash_crash g.D.Disk c.args.disk.now c.perform_stash.new.disk c.args.primary.now s c.args.client.now c.args.now
+    random c.requires.client (c.perform_stash.ensures.crash s random c.requires.whole has)
 
 pub returns-in-Err-stash_reply-clause-crash : goal.returns-in-Err-stash_reply-clause-crash
 returns-in-Err-stash_reply-clause-crash g c = λ s random has.
-    stash_crash g.D.Disk c.args.disk.now c.perform_stash.new.disk c.args.primary.now s c.args.client.now c.args.now random c.requires.client (c.perform_stash.ensures.crash s random c.requires.whole has)
+    stash_crash g.D.Disk c.args.disk.now c.perform_stash.new.disk c.args.primary.now s c.args.client.now c.args.now
+    random c.requires.client (c.perform_stash.ensures.crash s random c.requires.whole has)
 
 pub returns-in-Err-perform_stash-clause-crash : goal.returns-in-Err-perform_stash-clause-crash
 returns-in-Err-perform_stash-clause-crash g c = λ s random has.
-    stash_crash g.D.Disk c.args.disk.now c.perform_stash.new.disk c.args.primary.now s c.args.client.now c.args.now random c.requires.client (c.perform_stash.ensures.crash s random c.requires.whole has)
+    stash_crash g.D.Disk c.args.disk.now c.perform_stash.new.disk c.args.primary.now s c.args.client.now c.args.now
+    random c.requires.client (c.perform_stash.ensures.crash s random c.requires.whole has)
 
 pub returns-in-Err-clause-crash : goal.returns-in-Err-clause-crash
 returns-in-Err-clause-crash g c = λ s random has.

@@ -2,7 +2,8 @@ use Rattle.std.proofs.Common.{◌∙◌, Option, ap, refl, subst, sym}
 use Rattle.std.specs.Prelude.{None, Result, Err}
 use Rattle.std.proofs.lemmas.Result.{on_ok_weaker}
 use Rattle.session_base.specs.Draws.{Draws, told_draws}
-use Rattle.kadm_top.proofs.Loads.{good_loading, load_cut, load_halted, load_opened_run, load_reads, load_refused, refused_loading}
+use Rattle.kadm_top.proofs.Loads.{good_loading, load_cut, load_halted, load_opened_run}
+use Rattle.kadm_top.proofs.Loads.{load_reads, load_refused, refused_loading}
 use Rattle.kadm_top.proofs.Openings.{Answers}
 use Rattle.kadm_top.proofs.Telling.{behind_clock, clock_gave}
 use Rattle.kadm_top.proofs.loading.load.Goals as goal
@@ -50,7 +51,8 @@ returns-in-Ok-clause-unread g c = λ tells stream o loads not.
       refusals = c.recover.ensures.refusals tells;
       stays = c.recover.ensures.refused_stays tells;
     } in
-    absurd (not (load_reads (g.S.Source.left c.args.source.now) (told_draws moments stream) clock o c.in-Ok.opened loads (subst (λ (r : Result Opened Stop). Answers found None clock r old mid) c.in-Ok.is answers)))
+    absurd (not (load_reads (g.S.Source.left c.args.source.now) (told_draws moments stream) clock o c.in-Ok.opened loads
+    (subst (λ (r : Result Opened Stop). Answers found None clock r old mid) c.in-Ok.is answers)))
 
 pub returns-in-Ok-refuse-clause-run : goal.returns-in-Ok-refuse-clause-run
 returns-in-Ok-refuse-clause-run g c = λ tells stream o loads.
@@ -68,9 +70,12 @@ returns-in-Ok-refuse-clause-run g c = λ tells stream o loads.
       refusals = c.recover.ensures.refusals tells;
       stays = c.recover.ensures.refused_stays tells;
     } in
-    load_refused clock o c.in-Err-Refused.refusal (λ d e. clock_gave moments stream d clock e c.now-moment.ensures.first) loads
+    load_refused clock o c.in-Err-Refused.refusal
+    (λ d e. clock_gave moments stream d clock e c.now-moment.ensures.first) loads
     (subst (λ (r : Result Opened Stop). Answers found None clock r old mid) is answers)
-    (c.in-Ok-refuse.ensures.ok ∙ ap (λ (r : Refusal). after_told (g.K.Sink.taken c.args.sink.now) (refusal_line r)) c.in-Err-Refused.refusal-is) ((λ i. told_draws (c.now-moment.ensures.others i) stream) ∙ behind_clock moments stream)
+    (c.in-Ok-refuse.ensures.ok
+    ∙ ap (λ (r : Refusal). after_told (g.K.Sink.taken c.args.sink.now) (refusal_line r)) c.in-Err-Refused.refusal-is)
+    ((λ i. told_draws (c.now-moment.ensures.others i) stream) ∙ behind_clock moments stream)
 
 pub returns-in-Err-clause-run : goal.returns-in-Err-clause-run
 returns-in-Err-clause-run g c = λ tells stream o loads.
@@ -88,7 +93,8 @@ returns-in-Err-clause-run g c = λ tells stream o loads.
       refusals = c.recover.ensures.refusals tells;
       stays = c.recover.ensures.refused_stays tells;
     } in
-    load_cut clock o c.in-Err-Refused.refusal _ (λ d e. clock_gave moments stream d clock e c.now-moment.ensures.first) loads
+    load_cut clock o c.in-Err-Refused.refusal _
+    (λ d e. clock_gave moments stream d clock e c.now-moment.ensures.first) loads
     (subst (λ (r : Result Opened Stop). Answers found None clock r old mid) is answers)
     c.in-Err.ensures.err (λ spares. ap g.K.Sink.taken (c.in-Err.ensures.rests spares))
 
@@ -97,7 +103,8 @@ returns-in-Err-Halt-clause-run g c = λ tells stream o loads.
     let moments = g.C.Clock.moments c.args.clock.now in
     let found = found_in (g.D.Disk.view c.args.disk.now).seen in
     let clock = c.now-moment.result in
-    let answers : Answers found None clock c.recover.result (g.D.Disk.view c.args.disk.now) (g.D.Disk.view c.recover.new.disk) = record {
+    let answers : Answers found None clock c.recover.result (g.D.Disk.view c.args.disk.now)
+    (g.D.Disk.view c.recover.new.disk) = record {
       opens = c.recover.ensures.opens tells;
       only_refused = c.recover.ensures.only_refused tells;
       complete = c.recover.ensures.complete tells;
@@ -105,19 +112,26 @@ returns-in-Err-Halt-clause-run g c = λ tells stream o loads.
       refusals = c.recover.ensures.refusals tells;
       stays = c.recover.ensures.refused_stays tells;
     } in
-    load_halted clock o c.recover.result _ (λ d e. clock_gave moments stream d clock e c.now-moment.ensures.first) loads answers refl
+    load_halted clock o c.recover.result _ (λ d e. clock_gave moments stream d clock e c.now-moment.ensures.first)
+    loads answers refl
 
 pub returns-in-Ok-clause-opening : goal.returns-in-Ok-clause-opening
 returns-in-Ok-clause-opening g c = λ tells stream draws is.
     let moments = g.C.Clock.moments c.args.clock.now in
     let found = found_in (g.D.Disk.view c.args.disk.now).seen in
     let clock = c.now-moment.result in
-    let gone = (λ i. told_draws (c.now-moment.ensures.others i) stream) ∙ behind_clock moments stream ∙ ap (behind AMoment) is in
-    on_ok_weaker c.load_opened.result (λ loaded. subst (λ (d : Option Draws). HasLoading (g.S.Source.left c.args.source.now) found d) (sym is)
-    (good_loading (g.S.Source.left c.args.source.now) found draws clock c.in-Ok.opened (clock_gave moments stream draws clock is c.now-moment.ensures.first) (c.in-Ok.ensures.opens tells) c.load_opened.ensures.opened loaded))
+    let gone = (λ i. told_draws (c.now-moment.ensures.others i) stream) ∙ behind_clock moments stream
+    ∙ ap (behind AMoment) is in
+    on_ok_weaker c.load_opened.result
+    (λ loaded. subst (λ (d : Option Draws). HasLoading (g.S.Source.left c.args.source.now) found d) (sym is)
+    (good_loading (g.S.Source.left c.args.source.now) found draws clock c.in-Ok.opened
+    (clock_gave moments stream draws clock is c.now-moment.ensures.first)
+    (c.in-Ok.ensures.opens tells) c.load_opened.ensures.opened loaded))
     (c.load_opened.ensures.comes _ stream gone)
 
 pub returns-in-Ok-refuse-clause-opening : goal.returns-in-Ok-refuse-clause-opening
 returns-in-Ok-refuse-clause-opening g c = λ tells stream draws is.
-    refused_loading (g.S.Source.left c.args.source.now) (found_in (g.D.Disk.view c.args.disk.now).seen) _ c.now-moment.result c.in-Err-Refused.refusal
-    (c.recover.ensures.refused tells c.in-Err-Refused.refusal (c.in-Err-Refused.is ∙ ap Err c.in-Err-Refused.field-0-is))
+    refused_loading (g.S.Source.left c.args.source.now) (found_in (g.D.Disk.view c.args.disk.now).seen) _
+    c.now-moment.result c.in-Err-Refused.refusal
+    (c.recover.ensures.refused tells c.in-Err-Refused.refusal
+    (c.in-Err-Refused.is ∙ ap Err c.in-Err-Refused.field-0-is))

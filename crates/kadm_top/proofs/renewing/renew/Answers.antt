@@ -2,7 +2,8 @@ use Rattle.std.proofs.Common.{◌∙◌, Option, ap, refl, subst, sym}
 use Rattle.std.specs.Prelude.{None, Result, Err}
 use Rattle.std.proofs.lemmas.Result.{on_ok_weaker}
 use Rattle.session_base.specs.Draws.{Draws, behind_moment, told_draws}
-use Rattle.kadm_top.proofs.RenewalRuns.{good_renewing, refused_renewing, renew_cut, renew_halted, renew_opened_run, renew_refused, renew_unread}
+use Rattle.kadm_top.proofs.RenewalRuns.{good_renewing, refused_renewing, renew_cut, renew_halted}
+use Rattle.kadm_top.proofs.RenewalRuns.{renew_opened_run, renew_refused, renew_unread}
 use Rattle.kadm_top.proofs.Openings.{Answers}
 use Rattle.kadm_top.proofs.Telling.{behind_clock, clock_gave}
 use Rattle.kadm_top.proofs.renewing.renew.Goals as goal
@@ -32,9 +33,11 @@ returns-in-Ok-clause-run g c = λ tells o adds.
       stays = c.recover.ensures.refused_stays tells;
     } in
     let gone = (λ i. told_draws (c.now-moment.ensures.others i) stream) ∙ behind_clock moments stream in
-    renew_opened_run c.args.word.now c.args.etypes.now clock o c.in-Ok.opened (λ d e. clock_gave moments stream d clock e c.now-moment.ensures.first) adds
+    renew_opened_run c.args.word.now c.args.etypes.now clock o c.in-Ok.opened
+    (λ d e. clock_gave moments stream d clock e c.now-moment.ensures.first) adds
     (subst (λ (r : Result Opened Stop). Answers found None clock r old mid) c.in-Ok.is answers)
-    (λ s draws reads what has told comes. c.renew_opened.ensures.renewed tells s draws reads what has (gone ∙ told) comes)
+    (λ s draws reads what has told comes.
+    c.renew_opened.ensures.renewed tells s draws reads what has (gone ∙ told) comes)
     c.renew_opened.ensures.read
 
 pub returns-in-Ok-clause-unread : goal.returns-in-Ok-clause-unread
@@ -53,8 +56,10 @@ returns-in-Ok-clause-unread g c = λ tells o adds not.
       refusals = c.recover.ensures.refusals tells;
       stays = c.recover.ensures.refused_stays tells;
     } in
-    renew_unread c.args.word.now c.args.etypes.now (g.S.Source.left c.args.source.now) (told_draws moments stream) clock o c.in-Ok.opened _ (λ d e. clock_gave moments stream d clock e c.now-moment.ensures.first) adds
-    (subst (λ (r : Result Opened Stop). Answers found None clock r old mid) c.in-Ok.is answers) not c.renew_opened.ensures.unread
+    renew_unread c.args.word.now c.args.etypes.now (g.S.Source.left c.args.source.now) (told_draws moments stream) clock
+    o c.in-Ok.opened _ (λ d e. clock_gave moments stream d clock e c.now-moment.ensures.first) adds
+    (subst (λ (r : Result Opened Stop). Answers found None clock r old mid) c.in-Ok.is answers) not
+    c.renew_opened.ensures.unread
 
 pub returns-in-Ok-refuse-clause-run : goal.returns-in-Ok-refuse-clause-run
 returns-in-Ok-refuse-clause-run g c = λ tells o adds.
@@ -73,9 +78,12 @@ returns-in-Ok-refuse-clause-run g c = λ tells o adds.
       refusals = c.recover.ensures.refusals tells;
       stays = c.recover.ensures.refused_stays tells;
     } in
-    renew_refused c.args.word.now c.args.etypes.now clock o c.in-Err-Refused.refusal (λ d e. clock_gave moments stream d clock e c.now-moment.ensures.first) adds
+    renew_refused c.args.word.now c.args.etypes.now clock o c.in-Err-Refused.refusal
+    (λ d e. clock_gave moments stream d clock e c.now-moment.ensures.first) adds
     (subst (λ (r : Result Opened Stop). Answers found None clock r old mid) is answers)
-    (c.in-Ok-refuse.ensures.ok ∙ ap (λ (r : Refusal). after_told (g.K.Sink.taken c.args.sink.now) (refusal_line r)) c.in-Err-Refused.refusal-is) ((λ i. told_draws (c.now-moment.ensures.others i) stream) ∙ behind_clock moments stream)
+    (c.in-Ok-refuse.ensures.ok
+    ∙ ap (λ (r : Refusal). after_told (g.K.Sink.taken c.args.sink.now) (refusal_line r)) c.in-Err-Refused.refusal-is)
+    ((λ i. told_draws (c.now-moment.ensures.others i) stream) ∙ behind_clock moments stream)
 
 pub returns-in-Err-clause-run : goal.returns-in-Err-clause-run
 returns-in-Err-clause-run g c = λ tells o adds.
@@ -94,9 +102,13 @@ returns-in-Err-clause-run g c = λ tells o adds.
       refusals = c.recover.ensures.refusals tells;
       stays = c.recover.ensures.refused_stays tells;
     } in
-    let part : SaidPart (refusal_line c.in-Err-Refused.refusal) (g.K.Sink.taken c.args.sink.now) (g.K.Sink.taken c.refuse.new.sink) =
-    subst (λ (r : Refusal). SaidPart (refusal_line r) (g.K.Sink.taken c.args.sink.now) (g.K.Sink.taken c.refuse.new.sink)) c.in-Err-Refused.refusal-is c.in-Err.ensures.err in
-    renew_cut {before = told (g.K.Sink.taken c.args.sink.now) (g.S.Source.left c.args.source.now) (told_draws moments stream)} c.args.word.now c.args.etypes.now clock o c.in-Err-Refused.refusal _ (λ d e. clock_gave moments stream d clock e c.now-moment.ensures.first) adds
+    let part : SaidPart (refusal_line c.in-Err-Refused.refusal) (g.K.Sink.taken c.args.sink.now)
+    (g.K.Sink.taken c.refuse.new.sink) =
+    subst (λ (r : Refusal). SaidPart (refusal_line r) (g.K.Sink.taken c.args.sink.now)
+    (g.K.Sink.taken c.refuse.new.sink)) c.in-Err-Refused.refusal-is c.in-Err.ensures.err in
+    renew_cut {before = told (g.K.Sink.taken c.args.sink.now) (g.S.Source.left c.args.source.now)
+    (told_draws moments stream)} c.args.word.now c.args.etypes.now clock o c.in-Err-Refused.refusal _
+    (λ d e. clock_gave moments stream d clock e c.now-moment.ensures.first) adds
     (subst (λ (r : Result Opened Stop). Answers found None clock r old mid) is answers)
     part (λ spares. ap g.K.Sink.taken (c.in-Err.ensures.rests spares))
 
@@ -106,7 +118,8 @@ returns-in-Err-Halt-clause-run g c = λ tells o adds.
     let stream = g.E.Entropy.stream c.args.entropy.now in
     let found = found_in (g.D.Disk.view c.args.disk.now).seen in
     let clock = c.now-moment.result in
-    let answers : Answers found None clock c.recover.result (g.D.Disk.view c.args.disk.now) (g.D.Disk.view c.recover.new.disk) = record {
+    let answers : Answers found None clock c.recover.result (g.D.Disk.view c.args.disk.now)
+    (g.D.Disk.view c.recover.new.disk) = record {
       opens = c.recover.ensures.opens tells;
       only_refused = c.recover.ensures.only_refused tells;
       complete = c.recover.ensures.complete tells;
@@ -114,7 +127,8 @@ returns-in-Err-Halt-clause-run g c = λ tells o adds.
       refusals = c.recover.ensures.refusals tells;
       stays = c.recover.ensures.refused_stays tells;
     } in
-    renew_halted c.args.word.now c.args.etypes.now clock o c.recover.result _ (λ d e. clock_gave moments stream d clock e c.now-moment.ensures.first) adds answers refl
+    renew_halted c.args.word.now c.args.etypes.now clock o c.recover.result _
+    (λ d e. clock_gave moments stream d clock e c.now-moment.ensures.first) adds answers refl
 
 pub returns-in-Ok-clause-opening : goal.returns-in-Ok-clause-opening
 returns-in-Ok-clause-opening g c = λ tells draws is.
@@ -123,12 +137,18 @@ returns-in-Ok-clause-opening g c = λ tells draws is.
     let found = found_in (g.D.Disk.view c.args.disk.now).seen in
     let clock = c.now-moment.result in
     let opened = c.renew_opened.ensures.opened in
-    let gone = (λ i. told_draws (c.now-moment.ensures.others i) stream) ∙ behind_clock moments stream ∙ ap (behind AMoment) is in
-    on_ok_weaker c.renew_opened.result (λ has. subst (λ (d : Option Draws). HasAddingNew c.args.word.now c.args.etypes.now (g.S.Source.left c.args.source.now) found d) (sym is)
-    (good_renewing c.args.word.now c.args.etypes.now (g.S.Source.left c.args.source.now) found draws clock c.in-Ok.opened (clock_gave moments stream draws clock is c.now-moment.ensures.first) (c.in-Ok.ensures.opens tells) opened has))
+    let gone = (λ i. told_draws (c.now-moment.ensures.others i) stream) ∙ behind_clock moments stream
+    ∙ ap (behind AMoment) is in
+    on_ok_weaker c.renew_opened.result (λ has. subst (λ (d : Option Draws).
+    HasAddingNew c.args.word.now c.args.etypes.now (g.S.Source.left c.args.source.now) found d) (sym is)
+    (good_renewing c.args.word.now c.args.etypes.now (g.S.Source.left c.args.source.now)
+    found draws clock c.in-Ok.opened (clock_gave moments stream draws clock is c.now-moment.ensures.first)
+    (c.in-Ok.ensures.opens tells) opened has))
     (c.renew_opened.ensures.renewal opened.state (behind_moment draws) opened.has gone)
 
 pub returns-in-Ok-refuse-clause-opening : goal.returns-in-Ok-refuse-clause-opening
 returns-in-Ok-refuse-clause-opening g c = λ tells draws is.
-    refused_renewing c.args.word.now c.args.etypes.now (g.S.Source.left c.args.source.now) (found_in (g.D.Disk.view c.args.disk.now).seen) _ c.now-moment.result c.in-Err-Refused.refusal
-    (c.recover.ensures.refused tells c.in-Err-Refused.refusal (c.in-Err-Refused.is ∙ ap Err c.in-Err-Refused.field-0-is))
+    refused_renewing c.args.word.now c.args.etypes.now (g.S.Source.left c.args.source.now)
+    (found_in (g.D.Disk.view c.args.disk.now).seen) _ c.now-moment.result c.in-Err-Refused.refusal
+    (c.recover.ensures.refused tells c.in-Err-Refused.refusal
+    (c.in-Err-Refused.is ∙ ap Err c.in-Err-Refused.field-0-is))

@@ -14,24 +14,34 @@ pub returns-clause-course : goal.returns-clause-course
 returns-clause-course g c = λ tells s has.
     let draws = told_draws (g.C.Clock.moments c.args.clock.now) (g.E.Entropy.stream c.args.entropy.now) in
     let at = seen (place_of c.args.opened) s in
-    let its = course (g.K.Sink.taken c.args.sink.now) false (coming at.place.realm c.args.reader.now (g.S.Source.left c.args.source.now)) draws at in
+    let its = course (g.K.Sink.taken c.args.sink.now) false
+    (coming at.place.realm c.args.reader.now (g.S.Source.left c.args.source.now)) draws at in
     subst (λ (x : Course). HasCourse x (g.D.Disk.view c.args.disk.now) (g.D.Disk.view c.serve-answered.new.disk)
-    (told (g.K.Sink.taken c.serve-answered.new.sink) (g.S.Source.left c.serve-answered.new.source) (told_draws (g.C.Clock.moments c.serve-answered.new.clock) (g.E.Entropy.stream c.serve-answered.new.entropy))) c.serve-answered.result)
-    (fresh_course (g.K.Sink.taken c.args.sink.now) (g.S.Source.left c.args.source.now) draws c.args.reader.now (seen (place_of c.args.opened) s) c.requires.front)
+    (told (g.K.Sink.taken c.serve-answered.new.sink) (g.S.Source.left c.serve-answered.new.source)
+    (told_draws (g.C.Clock.moments c.serve-answered.new.clock) (g.E.Entropy.stream c.serve-answered.new.entropy)))
+    c.serve-answered.result)
+    (fresh_course (g.K.Sink.taken c.args.sink.now) (g.S.Source.left c.args.source.now) draws c.args.reader.now
+    (seen (place_of c.args.opened) s) c.requires.front)
     (course_run {c = its} c.serve-answered.new.primary c.serve-answered.result
     (λ end e. c.serve-answered.ensures.ended s end has e)
     (on_ok_weaker c.serve-answered.result (c.what_is_kept_is_recovered.ensures _) (c.serve-answered.ensures.on tells))
-    (c.serve-answered.ensures.stopped tells s has) (c.serve-answered.ensures.memory tells s has) (c.serve-answered.ensures.drawn tells s has)
-    (λ is. between_rests _ _ _ _ (c.serve-answered.ensures.read tells s has is)) (λ is. between_rests _ _ _ _ (c.serve-answered.ensures.at_limit tells s has is))
+    (c.serve-answered.ensures.stopped tells s has) (c.serve-answered.ensures.memory tells s has)
+    (c.serve-answered.ensures.drawn tells s has)
+    (λ is. between_rests _ _ _ _ (c.serve-answered.ensures.read tells s has is))
+    (λ is. between_rests _ _ _ _ (c.serve-answered.ensures.at_limit tells s has is))
     (c.serve-answered.ensures.moments tells s has))
 
 pub returns-clause-read : goal.returns-clause-read
 returns-clause-read g c =
-    read_whole c.serve-answered.result (g.S.Source.left c.args.source.now) _ _ (c.serve-answered.ensures.takes (g.S.Source.left c.args.source.now) (fresh_taken _ _ c.requires.front)) c.serve-answered.ensures.over
+    read_whole c.serve-answered.result (g.S.Source.left c.args.source.now) _ _
+    (c.serve-answered.ensures.takes (g.S.Source.left c.args.source.now) (fresh_taken _ _ c.requires.front))
+    c.serve-answered.ensures.over
 
 pub returns-clause-too_long : goal.returns-clause-too_long
 returns-clause-too_long g c = λ is.
-    were_taken 4294967296 (g.S.Source.left c.args.source.now) _ _ (c.serve-answered.ensures.takes (g.S.Source.left c.args.source.now) (fresh_taken _ _ c.requires.front)) (c.serve-answered.ensures.too_long is)
+    were_taken 4294967296 (g.S.Source.left c.args.source.now) _ _
+    (c.serve-answered.ensures.takes (g.S.Source.left c.args.source.now) (fresh_taken _ _ c.requires.front))
+    (c.serve-answered.ensures.too_long is)
 
 pub returns-clause-causes : goal.returns-clause-causes
 returns-clause-causes g c = record {

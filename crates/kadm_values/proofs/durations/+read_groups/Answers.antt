@@ -1,7 +1,8 @@
 use Rattle.std.proofs.Common.{◌≡◌, ℕ, ◌≤◌, List, Some, rules, sym, ap, subst, ◌∙◌, arith}
 use Rattle.kadm_values.specs.declared.durations.Unit.{Unit}
 use Rattle.kadm_values.specs.Numbers.{IsDigits}
-use Rattle.kadm_values.proofs.DurationLemmas.{units_split, no_units, first_unit, groups_of, groups_at, skip_spelled, led_spelled, end_spelled, end_only, behind_first, none_first}
+use Rattle.kadm_values.proofs.DurationLemmas.{units_split, no_units, first_unit, groups_of, groups_at, skip_spelled}
+use Rattle.kadm_values.proofs.DurationLemmas.{led_spelled, end_spelled, end_only, behind_first, none_first}
 use Rattle.kadm_values.proofs.durations.+read_groups.Goals as goal
 
 no_unit : Unit
@@ -18,7 +19,8 @@ read_groups-requires t c =
 
 pub returns-then-count-eq0-clause-spelled : goal.returns-then-count-eq0-clause-spelled
 returns-then-count-eq0-clause-spelled t c =
-    skip_spelled c.read_groups.result _ _ _ _ (units_split c.args.units.now no_unit c.in-len1-up.len_at_least) c.read_groups.ensures.spelled
+    skip_spelled c.read_groups.result _ _ _ _ (units_split c.args.units.now no_unit c.in-len1-up.len_at_least)
+    c.read_groups.ensures.spelled
 
 pub returns-then-count-eq0-clause-only : goal.returns-then-count-eq0-clause-only
 unfolding no_unit
@@ -26,7 +28,8 @@ returns-then-count-eq0-clause-only t c = λ secs s fits.
     let e = units_split c.args.units.now no_unit c.in-len1-up.len_at_least in
     c.read_groups.ensures.only secs
     (none_first _ _ c.args.text.now secs
-    (λ number behind digits split. sym c.if-count-eq0.true ∙ c.digits_before-count.ensures.only number behind digits split)
+    (λ number behind digits split. sym c.if-count-eq0.true
+    ∙ c.digits_before-count.ensures.only number behind digits split)
     (groups_of _ _ _ _ _ e s))
     fits
 
@@ -70,7 +73,8 @@ unfolding no_unit
 returns-in-Some-clause-only t c = λ secs s fits.
     let e = units_split c.args.units.now no_unit c.in-len1-up.len_at_least in
     let some : 1 ≤ c.digits_before-count.result = omega arith in
-    let left = behind_first _ _ _ _ c.args.text.now secs (rw e at c.requires) (c.digits_before-count.ensures.digits some)
+    let left =
+    behind_first _ _ _ _ c.args.text.now secs (rw e at c.requires) (c.digits_before-count.ensures.digits some)
     (c.digits_before-count.ensures.split some) (groups_of _ _ _ _ _ e s) in
     let front = c.before-in-Some.ensures in
     let more = left.more in
@@ -84,7 +88,8 @@ unfolding no_unit
 returns-in-None-clause-only t c = λ secs s fits.
     let e = units_split c.args.units.now no_unit c.in-len1-up.len_at_least in
     let some : 1 ≤ c.digits_before-count.result = omega arith in
-    let left = behind_first _ _ _ _ c.args.text.now secs (rw e at c.requires) (c.digits_before-count.ensures.digits some)
+    let left =
+    behind_first _ _ _ _ c.args.text.now secs (rw e at c.requires) (c.digits_before-count.ensures.digits some)
     (c.digits_before-count.ensures.split some) (groups_of _ _ _ _ _ e s) in
     let sum = left.secs_is in
     let found = c.in-None.ensures.only left.more (groups_at _ _ _ _ c.after.ensures left.rest) (omega arith) in

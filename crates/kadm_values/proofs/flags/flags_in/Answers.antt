@@ -9,4 +9,5 @@ unfolding set_flags
 returns c =
     ap (map row_of) c.in_ok-flags.ensures
     ∙ filter-map row_of (λ (row : FlagRow). not (nat_eq (bit_and c.args.attributes row.bit) 0)) c.known_flags.result.now
-    ∙ ap (λ (rows : List FlagRow). filter (λ row. not (nat_eq (bit_and c.args.attributes row.bit) 0)) rows) c.known_flags.ensures
+    ∙ ap (λ (rows : List FlagRow). filter (λ row. not (nat_eq (bit_and c.args.attributes row.bit) 0)) rows)
+    c.known_flags.ensures

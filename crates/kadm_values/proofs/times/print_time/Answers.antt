@@ -10,8 +10,10 @@ returns-clause-only c =
 
 pub returns-clause-time : goal.returns-clause-time
 unfolding SpellsTime
-returns-clause-time c = inr (inr (record { time = c.civil_at.result; at = c.civil_at.ensures; text_is = c.print_civil.ensures }))
+returns-clause-time c =
+    inr (inr (record { time = c.civil_at.result; at = c.civil_at.ensures; text_is = c.print_civil.ensures }))
 
 pub returns-clause-value : goal.returns-clause-value
 returns-clause-value c =
-    spells-civil_text_at _ c.args.secs (record { time = c.civil_at.result; at = c.civil_at.ensures; text_is = c.print_civil.ensures })
+    spells-civil_text_at _ c.args.secs
+    (record { time = c.civil_at.result; at = c.civil_at.ensures; text_is = c.print_civil.ensures })

@@ -13,4 +13,5 @@ returns-else-is_same-clause-only c = λ secs s.
     let found = c.in-Some.ensures secs s in
     let same : secs ≡ c.in-Some.secs = cc in
     let P : ℕ → Type 0 = λ n. SpellsCivil c.args.text.now n in
-    absurd (c.is_same.ensures.no c.if-is_same.false (c.as_slice.ensures ∙ sym (c.print_time.ensures.only _ (subst P same s))))
+    absurd
+    (c.is_same.ensures.no c.if-is_same.false (c.as_slice.ensures ∙ sym (c.print_time.ensures.only _ (subst P same s))))

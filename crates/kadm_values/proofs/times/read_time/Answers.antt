@@ -1,7 +1,8 @@
 use Rattle.std.proofs.Common.{ap, sym, ◌∙◌, inl, refl, Some}
 use Rattle.kadm_values.specs.Times.{SpellsTime}
 use Rattle.kadm_values.proofs.ReadingLemmas.{time_value}
-use Rattle.kadm_values.proofs.TimeLemmas.{never_is_zero, twenty_is_civil, else_number, civil_then_time, number_then_time}
+use Rattle.kadm_values.proofs.TimeLemmas.{never_is_zero, twenty_is_civil, else_number}
+use Rattle.kadm_values.proofs.TimeLemmas.{civil_then_time, number_then_time}
 use Rattle.kadm_values.proofs.times.read_time.Goals as goal
 
 pub returns-then-is_same-clause-spelled : goal.returns-then-is_same-clause-spelled
@@ -25,13 +26,16 @@ returns-clause-spelled c = number_then_time c.read_seconds.result _ c.read_secon
 pub returns-clause-only : goal.returns-clause-only
 returns-clause-only c = λ secs s.
     c.read_seconds.ensures.only secs
-    (else_number _ secs (λ e. c.is_same.ensures.no c.if-is_same.false (e ∙ sym c.as_slice.ensures)) c.if-text-eq20.false s)
+    (else_number _ secs (λ e. c.is_same.ensures.no c.if-is_same.false (e ∙ sym c.as_slice.ensures))
+    c.if-text-eq20.false s)
 
 pub returns-then-is_same-clause-value : goal.returns-then-is_same-clause-value
-returns-then-is_same-clause-value c = time_value _ _ (returns-then-is_same-clause-spelled c) (returns-then-is_same-clause-only c)
+returns-then-is_same-clause-value c =
+    time_value _ _ (returns-then-is_same-clause-spelled c) (returns-then-is_same-clause-only c)
 
 pub returns-then-text-eq20-clause-value : goal.returns-then-text-eq20-clause-value
-returns-then-text-eq20-clause-value c = time_value _ _ (returns-then-text-eq20-clause-spelled c) (returns-then-text-eq20-clause-only c)
+returns-then-text-eq20-clause-value c =
+    time_value _ _ (returns-then-text-eq20-clause-spelled c) (returns-then-text-eq20-clause-only c)
 
 pub returns-clause-value : goal.returns-clause-value
 returns-clause-value c = time_value _ _ (returns-clause-spelled c) (returns-clause-only c)

@@ -8,7 +8,8 @@ use Rattle.kadm_wire.proofs.lines.parse_line.Goals as goal
 
 pub returns-in-Ok-Skipped-clause-skipped_value : goal.returns-in-Ok-Skipped-clause-skipped_value
 returns-in-Ok-Skipped-clause-skipped_value c = λ _.
-    answered c.args.realm.now c.args.line.now c.in-Ok-Skipped.field-0 Skipped c.in-Ok-Skipped.ensures.read c.in-Ok-Skipped.field-0-is
+    answered c.args.realm.now c.args.line.now c.in-Ok-Skipped.field-0 Skipped c.in-Ok-Skipped.ensures.read
+    c.in-Ok-Skipped.field-0-is
 
 pub returns-in-Ok-Says-clause-valid : goal.returns-in-Ok-Says-clause-valid
 returns-in-Ok-Says-clause-valid c = λ command e.

@@ -13,5 +13,8 @@ returns-clause-found g c tells =
     let left = left_of c.args.reader.now (g.D.Disk.view c.args.disk.now).seen in
     let count = c.min-count.result in
     let is : count ≡ min size (length held) = grind (arith, nat_tests) in
-    let front = window_front size count held (drop c.fill.new.self.at ((g.D.Disk.view c.fill.new.disk).seen c.fill.new.self.file)) left _ (sym (c.fill.ensures.left tells)) is (c.in-Ok.ensures.enough tells) (ap (take count) c.held-2.ensures) in
-    ap (λ (n : ℕ). heading_of c.args.format (take n left)) (sym c.unit_size-size.ensures.value) ∙ ap (heading_of c.args.format) front ∙ c.in-Ok-read_first.ensures
+    let front =
+    window_front size count held (drop c.fill.new.self.at ((g.D.Disk.view c.fill.new.disk).seen c.fill.new.self.file))
+    left _ (sym (c.fill.ensures.left tells)) is (c.in-Ok.ensures.enough tells) (ap (take count) c.held-2.ensures) in
+    ap (λ (n : ℕ). heading_of c.args.format (take n left)) (sym c.unit_size-size.ensures.value)
+    ∙ ap (heading_of c.args.format) front ∙ c.in-Ok-read_first.ensures

@@ -9,8 +9,10 @@ pub returns-clause-index : goal.returns-clause-index
 unfolding unit_of
 returns-clause-index c =
     let ok = c.insert.ensures.succeeds (omega (arith, c.requires.spare)) in
-    let is = from_ok c.insert.result ok c.insert.ensures.entries ∙ insert_entry-new key_eq c.args.entries.now c.args.key c.args.next c.requires.new in
-    extended c.args.entries.now.entries c.insert.new.self.entries (heap_items c.args.free.now) c.args.next c.args.placed.now c.args.key is c.requires.few c.requires.near c.requires.other c.requires.index
+    let is = from_ok c.insert.result ok c.insert.ensures.entries
+    ∙ insert_entry-new key_eq c.args.entries.now c.args.key c.args.next c.requires.new in
+    extended c.args.entries.now.entries c.insert.new.self.entries (heap_items c.args.free.now) c.args.next
+    c.args.placed.now c.args.key is c.requires.few c.requires.near c.requires.other c.requires.index
 
 pub returns-clause-of : goal.returns-clause-of
 returns-clause-of c =
@@ -22,5 +24,6 @@ pub returns-clause-more : goal.returns-clause-more
 unfolding unit_of
 returns-clause-more c =
     let ok = c.insert.ensures.succeeds (omega (arith, c.requires.spare)) in
-    let is = from_ok c.insert.result ok c.insert.ensures.entries ∙ insert_entry-new key_eq c.args.entries.now c.args.key c.args.next c.requires.new in
+    let is = from_ok c.insert.result ok c.insert.ensures.entries
+    ∙ insert_entry-new key_eq c.args.entries.now c.args.key c.args.next c.requires.new in
     ap length is ∙ length-append c.args.entries.now.entries _

@@ -15,13 +15,17 @@ returns-in-Some-clause-new c = λ none. let both = c.in-Some.ensures.value ∙ n
 
 pub returns-in-Some-clause-low : goal.returns-in-Some-clause-low
 returns-in-Some-clause-low c =
-    let leads = led_place c.in-Some.unit.now c.in-Some.at c.in-Some.field-0-1.now c.args.entries.now.entries c.in-Some.ensures.entry in
-    (led_parts c.args.entries.now.entries (heap_items c.args.free.now) c.args.next c.in-Some.unit.now None c.requires.index leads).1.1.0
+    let leads = led_place c.in-Some.unit.now c.in-Some.at c.in-Some.field-0-1.now c.args.entries.now.entries
+    c.in-Some.ensures.entry in
+    (led_parts c.args.entries.now.entries (heap_items c.args.free.now) c.args.next c.in-Some.unit.now None
+    c.requires.index leads).1.1.0
 
 pub returns-in-Some-clause-high : goal.returns-in-Some-clause-high
 returns-in-Some-clause-high c =
-    let leads = led_place c.in-Some.unit.now c.in-Some.at c.in-Some.field-0-1.now c.args.entries.now.entries c.in-Some.ensures.entry in
-    let parts = led_parts c.args.entries.now.entries (heap_items c.args.free.now) c.args.next c.in-Some.unit.now None c.requires.index leads in
+    let leads = led_place c.in-Some.unit.now c.in-Some.at c.in-Some.field-0-1.now c.args.entries.now.entries
+    c.in-Some.ensures.entry in
+    let parts = led_parts c.args.entries.now.entries (heap_items c.args.free.now) c.args.next c.in-Some.unit.now None
+    c.requires.index leads in
     omega (arith, parts.1.1.1)
 
 pub returns-in-None-clause-own : goal.returns-in-None-clause-own

@@ -14,10 +14,12 @@ returns-in-Err-clause-refused g c = λ tells cells long is read realm named lt r
     let bytes = v.seen a.file in
     let left = left_of a.reader.now v.seen in
     let old = a.gathered.now in
-    let here = next_cell a.format a.torn bytes a.unit left (c.requires.torn tells) c.requires.first (c.requires.left tells)
+    let here =
+    next_cell a.format a.torn bytes a.unit left (c.requires.torn tells) c.requires.first (c.requires.left tells)
     ∙ ap (λ (b : Bool). cell_next a.format b (take (unit_size a.format) left)) (sym c.is_torn-skips.ensures.value) in
     let stop : c.in-Err.stop ≡ Refused r = cc in
-    none_damaged a.file a.format a.torn bytes (units old.index) (count old.index) old.princs.items old.policies.items cells realm a.unit r _ is read long named lt here c.in-Err.stop stop (c.in-Err.ensures.found tells)
+    none_damaged a.file a.format a.torn bytes (units old.index) (count old.index) old.princs.items old.policies.items
+    cells realm a.unit r _ is read long named lt here c.in-Err.stop stop (c.in-Err.ensures.found tells)
 
 pub returns-in-Ok-gather_cell-clause-gathered : goal.returns-in-Ok-gather_cell-clause-gathered
 returns-in-Ok-gather_cell-clause-gathered g c = λ cells long is read.
@@ -29,9 +31,12 @@ returns-in-Ok-gather_cell-clause-gathered g c = λ cells long is read.
       cell = c.in-Ok.cell;
       gathered = c.in-Ok-gather_cell.ensures.gathered cells is;
       read = λ tells.
-          let here = next_cell a.format a.torn bytes a.unit left (c.requires.torn tells) c.requires.first (c.requires.left tells)
-          ∙ ap (λ (b : Bool). cell_next a.format b (take (unit_size a.format) left)) (sym c.is_torn-skips.ensures.value) in
-          more_in a.format a.torn bytes a.unit cells c.in-Ok.cell long (read tells) (here ∙ c.in-Ok.ensures.found tells);
+          let here =
+          next_cell a.format a.torn bytes a.unit left (c.requires.torn tells) c.requires.first (c.requires.left tells)
+          ∙ ap (λ (b : Bool). cell_next a.format b (take (unit_size a.format) left))
+          (sym c.is_torn-skips.ensures.value) in
+          more_in a.format a.torn bytes a.unit cells c.in-Ok.cell long (read tells)
+          (here ∙ c.in-Ok.ensures.found tells);
     }
 
 pub returns-in-Err-Malformed-clause-refused : goal.returns-in-Err-Malformed-clause-refused
@@ -41,7 +46,9 @@ returns-in-Err-Malformed-clause-refused g c = λ tells cells long is read realm 
     let bytes = v.seen a.file in
     let left = left_of a.reader.now v.seen in
     let old = a.gathered.now in
-    let here = next_cell a.format a.torn bytes a.unit left (c.requires.torn tells) c.requires.first (c.requires.left tells)
+    let here =
+    next_cell a.format a.torn bytes a.unit left (c.requires.torn tells) c.requires.first (c.requires.left tells)
     ∙ ap (λ (b : Bool). cell_next a.format b (take (unit_size a.format) left)) (sym c.is_torn-skips.ensures.value) in
-    row_damaged a.file a.format a.torn bytes (units old.index) (count old.index) old.princs.items old.policies.items cells realm a.unit r c.in-Ok.cell is read long named lt (here ∙ c.in-Ok.ensures.found tells) c.in-Ok.ensures.stored
+    row_damaged a.file a.format a.torn bytes (units old.index) (count old.index) old.princs.items old.policies.items
+    cells realm a.unit r c.in-Ok.cell is read long named lt (here ∙ c.in-Ok.ensures.found tells) c.in-Ok.ensures.stored
     (c.gather_cell.ensures.refused cc) (same_damaged c.damaged.result _ r c.damaged.ensures.value same)

@@ -10,13 +10,15 @@ pub returns-clause-crash : goal.returns-clause-crash
 returns-clause-crash g c tells now next may =
     let ready = may.ready in
     torn_either c.args.at 1 ready.durable (c.open_gate.ensures.moments tells) (λ bytes few.
-    open_torn c.args.at now next bytes ((g.D.Disk.view c.args.disk.now).seen 0) c.requires.place may.known ready.long ready.gate ready.bytes ready.fits may.rest may.turn few)
+    open_torn c.args.at now next bytes ((g.D.Disk.view c.args.disk.now).seen 0) c.requires.place may.known ready.long
+    ready.gate ready.bytes ready.fits may.rest may.turn few)
 
 pub returns-clause-ok : goal.returns-clause-ok
 returns-clause-ok g c tells now next may =
     let ready = may.ready in
     on_ok_weaker c.open_gate.result (λ stands. record {
-      here = ap in_force (stands_here stands) ∙ opened c.args.at now next ((g.D.Disk.view c.args.disk.now).seen 0) c.requires.place may.known ready.long ready.bytes ready.fits may.rest may.turn;
+      here = ap in_force (stands_here stands) ∙ opened c.args.at now next ((g.D.Disk.view c.args.disk.now).seen 0)
+          c.requires.place may.known ready.long ready.bytes ready.fits may.rest may.turn;
       durable = stands.durable;
       others = λ h ne. stands_other h stands ne;
     }) (c.open_gate.ensures.ok tells)

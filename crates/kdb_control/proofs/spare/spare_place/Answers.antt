@@ -6,7 +6,8 @@ use Rattle.kdb_control.proofs.Effects.{spare_place, spare_without, spare_within}
 use Rattle.kdb_control.proofs.spare.spare_place.Goals as goal
 
 pub returns-in-Ok-clause-place : goal.returns-in-Ok-clause-place
-returns-in-Ok-clause-place g c = subst IsPlace (sym c.place_by.ensures.place) (spare_place c.in-Ok.first c.args.now.now.turn)
+returns-in-Ok-clause-place g c =
+    subst IsPlace (sym c.place_by.ensures.place) (spare_place c.in-Ok.first c.args.now.now.turn)
 
 pub returns-in-Ok-clause-spare : goal.returns-in-Ok-clause-spare
 returns-in-Ok-clause-spare g c tells =

@@ -6,5 +6,6 @@ pub returns-in-Some-clause-crash : goal.returns-in-Some-clause-crash
 returns-in-Some-clause-crash g c = record {
   told = λ tells.
       run_on (looked (images_have (c.requires.now tells)) (c.sync.ensures.looks tells))
-      (same_force (force_some (λ c. c.now) c.args.now c.in-Some.now c.in-Some.is) (c.switch_next.ensures.crash.told tells));
+      (same_force (force_some (λ c. c.now) c.args.now c.in-Some.now c.in-Some.is)
+      (c.switch_next.ensures.crash.told tells));
 }

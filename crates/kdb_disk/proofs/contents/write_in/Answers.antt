@@ -11,7 +11,8 @@ returns-clause-written c =
     let bytes = c.args.bytes.now in
     let from : c.min-from.result ≡ min c.args.at (length old) = grind (arith, nat_tests) in
     let over : c.min-over.result ≡ min (length bytes) (length old - c.min-from.result) = grind (arith, nat_tests) in
-    put_lent c.args.at c.min-from.result c.min-over.result c.extend_from_slice.new.self.len bytes _ old c.extend_from_slice.new.self.items c.overwrite.new.file
+    put_lent c.args.at c.min-from.result c.min-over.result c.extend_from_slice.new.self.len bytes _ old
+    c.extend_from_slice.new.self.items c.overwrite.new.file
     from over (take_rest bytes c.min-over.result) c.in_ok-extend_from_slice.ensures.items
     (c.overwrite.ensures.written ∙ ap (put c.min-from.result (take c.min-over.result bytes)) c.deref_mut.ensures.value)
     (sym c.deref_mut.ensures.len ∙ ap length c.deref_mut.ensures.value)

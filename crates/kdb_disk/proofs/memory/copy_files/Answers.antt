@@ -14,10 +14,12 @@ loop-file-preserved c =
     let v = c.in_ok-to_vec.field-0 in
     let copied : v.items ≡ c.file-item.result.items = search rules in
     let is = c.in_ok-push.ensures.items in
-    let here = contents_at files n c.file-item.result (omega arith) (c.file-item.is ∙ ap (λ (l : List (Vec ℕ Global)). get_or l n c.file-item.result) c.deref-file-items.ensures.value) in
+    let here = contents_at files n c.file-item.result (omega arith) (c.file-item.is
+    ∙ ap (λ (l : List (Vec ℕ Global)). get_or l n c.file-item.result) c.deref-file-items.ensures.value) in
     record {
       long = ap length is ∙ length_push before v ∙ ap (λ (k : ℕ). k + 1) c.loop-file.invariant.long;
-      same = each_file_more (λ f content. content ≡ contents files f) before c.push.new.self.items v n is c.loop-file.invariant.long c.loop-file.invariant.same (copied ∙ here);
+      same = each_file_more (λ f content. content ≡ contents files f) before c.push.new.self.items v n is
+          c.loop-file.invariant.long c.loop-file.invariant.same (copied ∙ here);
     }
 
 pub returns-clause-same : goal.returns-clause-same

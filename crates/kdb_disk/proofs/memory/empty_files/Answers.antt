@@ -10,7 +10,8 @@ loop-preserved c =
     let is = c.in_ok-push.ensures.items in
     record {
       long = ap length is ∙ length_push before c.new.result ∙ ap (λ (n : ℕ). n + 1) c.loop.invariant.long;
-      empty = each_file_more (λ f content. content ≡ []) before c.push.new.self.items c.new.result c.loop.counter is c.loop.invariant.long c.loop.invariant.empty c.new.ensures.items;
+      empty = each_file_more (λ f content. content ≡ []) before c.push.new.self.items c.new.result c.loop.counter is
+          c.loop.invariant.long c.loop.invariant.empty c.new.ensures.items;
     }
 
 pub returns-clause-empty : goal.returns-clause-empty

@@ -11,8 +11,10 @@ pub returns-clause-looks : goal.returns-clause-looks
 returns-clause-looks c start =
     let old = c.args.calls.now.items in
     either c.record.result c.record.ensures.call c.record.ensures.same
-    (λ is. subst (λ (calls : List Call). Looks (view_of start old) (view_of start calls)) (sym is) (look_looks start old))
-    (λ is. subst (λ (calls : List Call). Looks (view_of start old) (view_of start calls)) (sym is) (looks_same (view_of start old)))
+    (λ is. subst (λ (calls : List Call). Looks (view_of start old) (view_of start calls)) (sym is)
+    (look_looks start old))
+    (λ is. subst (λ (calls : List Call). Looks (view_of start old) (view_of start calls)) (sym is)
+    (looks_same (view_of start old)))
 
 pub returns-clause-kept : goal.returns-clause-kept
 returns-clause-kept c start files kept =
@@ -22,4 +24,5 @@ returns-clause-kept c start files kept =
     (λ is. subst (IsKept start files) (sym is) kept)
 
 pub returns-clause-at_most : goal.returns-clause-at_most
-returns-clause-at_most c = either c.record.result c.record.ensures.call c.record.ensures.same (λ is. inl is) (λ is. inr is)
+returns-clause-at_most c =
+    either c.record.result c.record.ensures.call c.record.ensures.same (λ is. inl is) (λ is. inr is)

@@ -8,5 +8,7 @@ returns-in-Ok-read-clause-bytes g c tells =
     let n = c.in-Ok-read.count in
     let few : n ≤ length c.read.new.into = search rules in
     let fits : c.len-start.result + n ≤ c.resize.new.self.len = search rules in
-    piece_read c.len-start.result n c.resize.new.self.len c.args.room old _ c.deref_mut.result.now c.read.new.into _ _ c.truncate.new.self.items _
-    (search rules) (c.deref_mut.ensures.value ∙ c.in-Ok.ensures.items) few fits c.truncate.ensures.items (c.in-Ok-read.ensures.bytes tells)
+    piece_read c.len-start.result n c.resize.new.self.len c.args.room old _ c.deref_mut.result.now c.read.new.into _ _
+    c.truncate.new.self.items _
+    (search rules) (c.deref_mut.ensures.value ∙ c.in-Ok.ensures.items) few fits c.truncate.ensures.items
+    (c.in-Ok-read.ensures.bytes tells)

@@ -9,7 +9,8 @@ unfolding file_after
 loop-done-init c starts is =
     let calls = c.args.calls.now.items in
     let none : drop (length calls - 0) calls ≡ [] = drop_all (length calls - 0) calls (omega arith) in
-    c.in_ok-replay.ensures ∙ ap settled_at (sym is) ∙ ap (λ (past : List Call). file_after starts past c.args.file) (sym none)
+    c.in_ok-replay.ensures ∙ ap settled_at (sym is)
+    ∙ ap (λ (past : List Call). file_after starts past c.args.file) (sym none)
 
 pub loop-done-preserved : goal.loop-done-preserved
 loop-done-preserved c starts is =
@@ -24,4 +25,5 @@ loop-done-preserved c starts is =
     ∙ drop_more calls at c.index.result.now (omega arith)
     ∙ ap (λ (call : Call). call ∷ drop (at + 1) calls) (sym here)
     ∙ ap (λ (n : ℕ). c.index.result.now ∷ drop n calls) one in
-    c.in_ok-step.ensures starts (drop (length calls - done) calls) (c.loop-done.invariant starts is) ∙ ap (λ (past : List Call). file_after starts past c.args.file) (sym more)
+    c.in_ok-step.ensures starts (drop (length calls - done) calls) (c.loop-done.invariant starts is)
+    ∙ ap (λ (past : List Call). file_after starts past c.args.file) (sym more)

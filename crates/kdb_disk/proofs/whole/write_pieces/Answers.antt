@@ -20,11 +20,13 @@ pub write_at-requires-clause-at : goal.write_at-requires-clause-at
 write_at-requires-clause-at g c tells =
     let v = g.D.Disk.view c.args.disk.now in
     let front = take c.loop-at.at c.args.content.now in
-    let long = long_after v.seen (g.D.Disk.view c.loop-at.disk).seen c.args.file 0 front (c.loop-at.invariant.seen tells) (omega arith) in
+    let long = long_after v.seen (g.D.Disk.view c.loop-at.disk).seen c.args.file 0 front
+    (c.loop-at.invariant.seen tells) (omega arith) in
     omega (arith, long, length-take c.loop-at.at c.args.content.now, c.loop-at.invariant.within)
 
 pub returns-in_err-write_at-clause-moments : goal.returns-in_err-write_at-clause-moments
-returns-in_err-write_at-clause-moments g c tells = wrote_more (c.loop-at.invariant.moments tells) (c.write_at.ensures.crash tells) (c.write_at.ensures.time tells)
+returns-in_err-write_at-clause-moments g c tells =
+    wrote_more (c.loop-at.invariant.moments tells) (c.write_at.ensures.crash tells) (c.write_at.ensures.time tells)
 
 pub loop-at-preserved : goal.loop-at-preserved
 loop-at-preserved g c =
@@ -34,9 +36,12 @@ loop-at-preserved g c =
     let n = c.min-count.result in
     let few : n ≤ length content - at = grind (arith, nat_tests) in
     record {
-      moments = λ tells. wrote_more (before.moments tells) (c.write_at.ensures.crash tells) (c.write_at.ensures.time tells);
-      seen = λ tells. piece_more c.args.file at n content _ (g.D.Disk.view c.args.disk.now).seen (g.D.Disk.view c.loop-at.disk).seen _ (c.requires.empty tells) (omega (arith, before.within))
-          (ap (λ (k : ℕ). take k (drop at content)) (omega arith)) (before.seen tells) (c.in_ok-write_at.ensures.seen tells);
+      moments =
+          λ tells. wrote_more (before.moments tells) (c.write_at.ensures.crash tells) (c.write_at.ensures.time tells);
+      seen = λ tells. piece_more c.args.file at n content _ (g.D.Disk.view c.args.disk.now).seen
+          (g.D.Disk.view c.loop-at.disk).seen _ (c.requires.empty tells) (omega (arith, before.within))
+          (ap (λ (k : ℕ). take k (drop at content)) (omega arith)) (before.seen tells)
+          (c.in_ok-write_at.ensures.seen tells);
       within = omega (arith, before.within);
       same = cc (before.same, c.write_at.ensures.same);
       faults = omega (arith, before.faults, c.write_at.ensures.cause.later);

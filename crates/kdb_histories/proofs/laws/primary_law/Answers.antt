@@ -6,7 +6,8 @@ use Rattle.kdb_histories.specs.Histories.{all_seen}
 use Rattle.kdb_histories.specs.Sites.{story_of}
 
 pub returns-clause-holds : goal.returns-clause-holds
-returns-clause-holds c = primary_holds (record { later = c.valid_later.ensures.later; point = c.valid_later.ensures.point })
+returns-clause-holds c =
+    primary_holds (record { later = c.valid_later.ensures.later; point = c.valid_later.ensures.point })
 
 pub returns-clause-states : goal.returns-clause-states
 returns-clause-states c = λ events s sent run.

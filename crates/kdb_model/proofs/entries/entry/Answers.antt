@@ -15,6 +15,10 @@ returns-then-not-changes_state c = λ versions.
 
 pub returns-in-Some : goal.returns-in-Some
 returns-in-Some c = λ versions.
-    let there : target (state_in c.args.asked.now) c.args.asked.now.command.now ≡ Some c.in-Some.princ.now = search rules in
-    let kvno = subst (λ (o : Option PlainPrinc). has_last_kvno c.args.asked.now.command.now o ≡ false) there versions.keys in
-    subst (λ (o : Option PlainOp). IfOk c.princ_change.result (λ op. op ≡ o)) (sym (at_target (state_in c.args.asked.now) (call_in c.args.asked.now) c.args.asked.now.command.now c.in-Some.princ.now there)) (c.princ_change.ensures kvno)
+    let there : target (state_in c.args.asked.now) c.args.asked.now.command.now ≡ Some c.in-Some.princ.now =
+    search rules in
+    let kvno =
+    subst (λ (o : Option PlainPrinc). has_last_kvno c.args.asked.now.command.now o ≡ false) there versions.keys in
+    subst (λ (o : Option PlainOp). IfOk c.princ_change.result (λ op. op ≡ o))
+    (sym (at_target (state_in c.args.asked.now) (call_in c.args.asked.now) c.args.asked.now.command.now
+    c.in-Some.princ.now there)) (c.princ_change.ensures kvno)

@@ -7,5 +7,6 @@ use Rattle.kdb_model.proofs.entries.masters_changed.Goals as goal
 
 pub returns : goal.returns
 returns c = λ few line.
-    let gone : princ_named (master_name (state_in c.args.asked.now).realm) (state_in c.args.asked.now).princs ≡ None = search rules in
+    let gone : princ_named (master_name (state_in c.args.asked.now).realm) (state_in c.args.asked.now).princs ≡ None =
+    search rules in
     sym (no_master (state_in c.args.asked.now) (call_in c.args.asked.now) c.args.asked.now.command.now line gone)

@@ -8,10 +8,12 @@ pub returns-clause-state : goal.returns-clause-state
 returns-clause-state c = λ s call op accepted e. rw (step_commits s call op accepted e) refl
 
 pub returns-clause-next : goal.returns-clause-next
-returns-clause-next c = λ s call op due accepted e. ap (λ (o : Outcome). o.state.point) (step_commits s call op accepted e) ∙ point_next s call due
+returns-clause-next c = λ s call op due accepted e.
+    ap (λ (o : Outcome). o.state.point) (step_commits s call op accepted e) ∙ point_next s call due
 
 pub returns-clause-anew : goal.returns-clause-anew
-returns-clause-anew c = λ s call op due accepted e. ap (λ (o : Outcome). o.state.point) (step_commits s call op accepted e) ∙ point_anew s call due
+returns-clause-anew c = λ s call op due accepted e.
+    ap (λ (o : Outcome). o.state.point) (step_commits s call op accepted e) ∙ point_anew s call due
 
 pub returns-clause-later : goal.returns-clause-later
 returns-clause-later c = step_later

@@ -1,4 +1,5 @@
-use Rattle.kdb_model.proofs.NewLogs.{ended_anew, entry_told, not_ended, reads_both, refused_both, reply_anew, state_anew}
+use Rattle.kdb_model.proofs.NewLogs.{ended_anew, entry_told, not_ended, reads_both}
+use Rattle.kdb_model.proofs.NewLogs.{refused_both, reply_anew, state_anew}
 use Rattle.kdb_model.proofs.laws.new_log_moves_the_point_alone.Goals as goal
 
 pub returns-clause-refused : goal.returns-clause-refused

@@ -5,4 +5,5 @@ use Rattle.kdb_model.proofs.masters.newest_master.Goals as goal
 
 pub returns-in-len1-up : goal.returns-in-len1-up
 returns-in-len1-up c =
-    sym (ap (last_or None) (sym c.as_slice.ensures.value) ∙ last_is c.as_slice.result.now c.newest-item.result c.in-len1-up.len_at_least c.newest-item.is)
+    sym (ap (last_or None) (sym c.as_slice.ensures.value)
+    ∙ last_is c.as_slice.result.now c.newest-item.result c.in-len1-up.len_at_least c.newest-item.is)

@@ -7,5 +7,7 @@ use Rattle.kdb_model.proofs.masters.serving_items.Goals as goal
 
 pub returns : goal.returns
 returns c =
-    let is = filter_same _ (λ (k : PlainItem). serves c.args.state.now c.args.secs k.kvno) _ (λ x b f' called. search rules) _ _ c.retain.ensures.filtered in
-    c.from_vec.ensures ∙ is ∙ ap (filter (λ (k : PlainItem). serves c.args.state.now c.args.secs k.kvno)) c.into_vec-items.ensures
+    let is = filter_same _ (λ (k : PlainItem). serves c.args.state.now c.args.secs k.kvno) _
+    (λ x b f' called. search rules) _ _ c.retain.ensures.filtered in
+    c.from_vec.ensures ∙ is
+    ∙ ap (filter (λ (k : PlainItem). serves c.args.state.now c.args.secs k.kvno)) c.into_vec-items.ensures

@@ -8,4 +8,6 @@ pub from_vec-requires : goal.from_vec-requires
 from_vec-requires c =
     let is : c.push.new.self.items ≡ c.args.masters.now ++ c.args.master.now ∷ [] = search rules in
     subst (λ (ms : List Master). AreRising (map (λ (m : Master). m.version) ms)) (sym is)
-    (master_rising c.args.masters.now c.args.master.now (subst (λ (ms : List Master). AreRising (map (λ (m : Master). m.version) ms)) c.as_slice.ensures.value c.as_slice.ensures.rising) c.requires)
+    (master_rising c.args.masters.now c.args.master.now
+    (subst (λ (ms : List Master). AreRising (map (λ (m : Master). m.version) ms)) c.as_slice.ensures.value
+    c.as_slice.ensures.rising) c.requires)

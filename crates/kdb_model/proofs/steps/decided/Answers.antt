@@ -15,20 +15,28 @@ performed-requires-clause-masters c = c.requires.decision.masters c.in-None.is
 
 pub returns-in-Some-clause-state : goal.returns-in-Some-clause-state
 returns-in-Some-clause-state c =
-    let is = does_refused (state_in c.args.asked.now) (call_in c.args.asked.now) c.args.change c.args.why c.in-Some.refusal c.requires.decision c.in-Some.is in
-    subst (λ (t : State). IfOk c.answered.result (λ r. r.0 ≡ t)) (sym (ap (λ (o : Outcome). o.state) is)) c.answered.ensures.state
+    let is = does_refused (state_in c.args.asked.now) (call_in c.args.asked.now) c.args.change c.args.why
+    c.in-Some.refusal c.requires.decision c.in-Some.is in
+    subst (λ (t : State). IfOk c.answered.result (λ r. r.0 ≡ t))
+    (sym (ap (λ (o : Outcome). o.state) is)) c.answered.ensures.state
 
 pub returns-in-Some-clause-reply : goal.returns-in-Some-clause-reply
 returns-in-Some-clause-reply c =
-    let is = does_refused (state_in c.args.asked.now) (call_in c.args.asked.now) c.args.change c.args.why c.in-Some.refusal c.requires.decision c.in-Some.is in
-    subst (λ (t : Reply). IfOk c.answered.result (λ r. r.1 ≡ t)) (sym (ap (λ (o : Outcome). o.reply) is)) c.answered.ensures.reply
+    let is = does_refused (state_in c.args.asked.now) (call_in c.args.asked.now) c.args.change c.args.why
+    c.in-Some.refusal c.requires.decision c.in-Some.is in
+    subst (λ (t : Reply). IfOk c.answered.result (λ r. r.1 ≡ t))
+    (sym (ap (λ (o : Outcome). o.reply) is)) c.answered.ensures.reply
 
 pub returns-in-None-clause-state : goal.returns-in-None-clause-state
 returns-in-None-clause-state c =
-    let is = does_performed (state_in c.args.asked.now) (call_in c.args.asked.now) c.args.change c.args.why c.requires.decision c.in-None.is in
-    subst (λ (t : State). IfOk c.performed.result (λ r. r.0 ≡ t)) (sym (ap (λ (o : Outcome). o.state) is)) c.performed.ensures.state
+    let is = does_performed (state_in c.args.asked.now) (call_in c.args.asked.now) c.args.change c.args.why
+    c.requires.decision c.in-None.is in
+    subst (λ (t : State). IfOk c.performed.result (λ r. r.0 ≡ t))
+    (sym (ap (λ (o : Outcome). o.state) is)) c.performed.ensures.state
 
 pub returns-in-None-clause-reply : goal.returns-in-None-clause-reply
 returns-in-None-clause-reply c =
-    let is = does_performed (state_in c.args.asked.now) (call_in c.args.asked.now) c.args.change c.args.why c.requires.decision c.in-None.is in
-    subst (λ (t : Reply). IfOk c.performed.result (λ r. r.1 ≡ t)) (sym (ap (λ (o : Outcome). o.reply) is)) c.performed.ensures.reply
+    let is = does_performed (state_in c.args.asked.now) (call_in c.args.asked.now) c.args.change c.args.why
+    c.requires.decision c.in-None.is in
+    subst (λ (t : Reply). IfOk c.performed.result (λ r. r.1 ≡ t))
+    (sym (ap (λ (o : Outcome). o.reply) is)) c.performed.ensures.reply

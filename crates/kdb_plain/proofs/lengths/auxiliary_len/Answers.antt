@@ -11,4 +11,5 @@ returns-in-len1-up c =
     let older = older_masters c.args.masters.now in
     c.aux_lens.ensures
     ∙ ap (λ (e : Etype). in_64_bits (sum_by (aux_len e) older)) c.etype.ensures
-    ∙ ap (λ (o : Option Master). in_64_bits (aux_lens o older)) (sym (last_is c.args.masters.now c.newest-item.result c.in-len1-up.len_at_least c.newest-item.is))
+    ∙ ap (λ (o : Option Master). in_64_bits (aux_lens o older))
+    (sym (last_is c.args.masters.now c.newest-item.result c.in-len1-up.len_at_least c.newest-item.is))

@@ -7,7 +7,8 @@ use Rattle.kdb_plain.specs.Strings.{key_of}
 use Rattle.kdb_plain.proofs.strings.without_string.Goals as goal
 
 pub from_vec-requires : goal.from_vec-requires
-from_vec-requires c = subst (λ list. AreInOrder (map key_of list)) (sym c.take_away.ensures) (drop_order key_of c.args.key.now c.into_vec-items.result.items c.into_vec-items.ensures.rising)
+from_vec-requires c = subst (λ list. AreInOrder (map key_of list)) (sym c.take_away.ensures)
+    (drop_order key_of c.args.key.now c.into_vec-items.result.items c.into_vec-items.ensures.rising)
 
 pub returns : goal.returns
 returns c = c.from_vec.ensures ∙ c.take_away.ensures ∙ ap (drop_by key_of c.args.key.now) c.into_vec-items.ensures.value

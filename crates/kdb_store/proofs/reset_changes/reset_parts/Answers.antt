@@ -6,13 +6,15 @@ use Rattle.kdb_store.proofs.reset_changes.reset_parts.Goals as goal
 pub returns-in-Ok-put_anew-clause-crash : goal.returns-in-Ok-put_anew-clause-crash
 returns-in-Ok-put_anew-clause-crash g c tells k op time behind =
     let next = c.reset_control-next in
-    own_parts (place_kept k) op time c.args.control.now next.result c.args.base c.args.size c.args.block next.ensures.value
+    own_parts (place_kept k) op time c.args.control.now next.result c.args.base c.args.size c.args.block
+    next.ensures.value
     (c.put_anew.ensures.crash tells k op time (behind_next c.args.control.now next.result next.ensures.value behind))
 
 pub returns-in-Ok-clause-crash : goal.returns-in-Ok-clause-crash
 returns-in-Ok-clause-crash g c tells k op time behind =
     let next = c.reset_control-next in
-    own_parts (place_kept k) op time c.args.control.now next.result c.args.base c.args.size c.args.block next.ensures.value
+    own_parts (place_kept k) op time c.args.control.now next.result c.args.base c.args.size c.args.block
+    next.ensures.value
     (c.put_anew.ensures.crash tells k op time (behind_next c.args.control.now next.result next.ensures.value behind))
 
 pub returns-in-Ok-put_anew-clause-on : goal.returns-in-Ok-put_anew-clause-on

@@ -15,7 +15,8 @@ value c =
     let is : c.reduce.result ≡ reduce later (filter (λ a. leb a.secs c.args.secs) c.args.list.now) =
     reduce_is later c.filter.result _ c.reduce.result c.reduce.ensures.ran (λ p a b r q called. search rules)
     (YieldsList-from_filter _ (λ (a : Activation). leb a.secs c.args.secs)
-    (YieldsList-at c.filter.ensures.source (YieldsList-from_copied (YieldsList-at c.copied.ensures.source (YieldsList-from_slice c.args.list.now (cc)))))
+    (YieldsList-at c.filter.ensures.source
+    (YieldsList-from_copied (YieldsList-at c.copied.ensures.source (YieldsList-from_slice c.args.list.now (cc)))))
     c.filter.ensures.closure (λ x r q called. search (rules, tests))) in
     let mapped : c.map.result ≡ option_map (λ (a : Activation). a.version) c.reduce.result = search (rules, tests) in
     mapped ∙ ap (option_map (λ (a : Activation). a.version)) is

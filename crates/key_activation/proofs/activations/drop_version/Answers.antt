@@ -10,13 +10,15 @@ use Rattle.key_activation.proofs.activations.drop_version.Goals as goal
 pub from_vec-requires : goal.from_vec-requires
 unfolding without_activation
 from_vec-requires c =
-    let is = filter_same _ (λ (a : Activation). not (eqb a.version c.args.version)) _ (λ x b f' called. search rules) _ _ c.retain.ensures.filtered in
+    let is = filter_same _ (λ (a : Activation). not (eqb a.version c.args.version)) _
+    (λ x b f' called. search rules) _ _ c.retain.ensures.filtered in
     rising_after_drop c.args.version c.take-items.result.items c.retain.new.self.items c.take-items.ensures.rising is
 
 kept : (c : goal.After-drop-list) → c.from_vec.result ≡ without_activation c.args.version c.args.list.now
 unfolding without_activation
 kept c =
-    let is = filter_same _ (λ (a : Activation). not (eqb a.version c.args.version)) _ (λ x b f' called. search rules) _ _ c.retain.ensures.filtered in
+    let is = filter_same _ (λ (a : Activation). not (eqb a.version c.args.version)) _
+    (λ x b f' called. search rules) _ _ c.retain.ensures.filtered in
     c.from_vec.ensures ∙ is ∙ ap (without_activation c.args.version) c.take-items.ensures.value
 
 pub returns-clause-is : goal.returns-clause-is

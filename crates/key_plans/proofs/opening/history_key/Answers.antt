@@ -13,7 +13,8 @@ returns-in-Some c =
     let g = c.args.given.now in
     let text_is : c.as_slice.result.now ≡ history_name g.realm.now = search rules in
     let there : record_named (history_name g.realm.now) g.rows.now.princs ≡ Some c.in-Some.princ.now =
-    ap (λ (n : List ℕ). record_named n g.rows.now.princs) (sym text_is) ∙ sym c.found.ensures.found ∙ ap (option_map (λ p. p.now)) c.in-Some.is in
+    ap (λ (n : List ℕ). record_named n g.rows.now.princs) (sym text_is) ∙ sym c.found.ensures.found
+    ∙ ap (option_map (λ p. p.now)) c.in-Some.is in
     ok_from (λ key. IsHistoryKey g key) c.first_opened.result (λ key is.
     history_found g c.in-Some.princ.now key there (λ master plain first named shown is_first.
     subst (λ r. IfOk r (λ (x : Key). x ≡ first)) is (c.first_opened.ensures master plain first named shown is_first)))

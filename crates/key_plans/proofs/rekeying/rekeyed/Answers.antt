@@ -18,8 +18,10 @@ returns-clause-princ c =
     let q = c.args.plain.now in
     let items_are : c.as_slice.result.now ≡ next_items keys q.keys = search rules in
     let again_are : c.as_slice-2.result.now ≡ next_items keys q.keys = search rules in
-    on_made c.rekeyed_head.result (λ p. p ≡ kept_with w g.random.now (by_given g) k keys q c.args.princ.now) _ c.rekeyed_head.ensures.head
-    (made_from w (by_given g) k keys q c.args.princ.now c.in_ok-made.made c.in_ok-keys.keys c.in_ok-old.old c.in_ok-made.ensures g.random.now
+    on_made c.rekeyed_head.result (λ p. p ≡ kept_with w g.random.now (by_given g) k keys q c.args.princ.now) _
+    c.rekeyed_head.ensures.head
+    (made_from w (by_given g) k keys q c.args.princ.now c.in_ok-made.made c.in_ok-keys.keys c.in_ok-old.old
+    c.in_ok-made.ensures g.random.now
     (c.in_ok-keys.ensures.keys keys items_are) (c.in_ok-old.ensures.sets keys again_are))
 
 pub returns-clause-shows : goal.returns-clause-shows
@@ -31,8 +33,12 @@ returns-clause-shows c =
     let q = c.args.plain.now in
     let f = c.requires.opened.shows in
     let items_are : c.as_slice.result.now ≡ next_items keys q.keys = search rules in
-    let old : AllZip (ShowsSet w.history) c.in_ok-made.made.old q.old = subst (λ (p : Princ). AllZip (ShowsSet w.history) p.old q.old) (sym c.in_ok-made.ensures) f.old in
-    on_made c.rekeyed_head.result (λ p. ShowsUnder w.active.key w.history p (plain_with w (by_given g) k keys q)) _ c.rekeyed_head.ensures.head
-    (made_shows w (by_given g) k keys q c.args.princ.now c.in_ok-made.made c.in_ok-keys.keys c.in_ok-old.old c.in_ok-made.ensures c.requires.opened.master f
-    (subst (λ (items : List PlainItem). AllZip (ShowsItem w.active.key) c.in_ok-keys.keys (items ++ kept_keys k.keep_old q.keys)) items_are c.in_ok-keys.ensures.shows)
+    let old : AllZip (ShowsSet w.history) c.in_ok-made.made.old q.old =
+    subst (λ (p : Princ). AllZip (ShowsSet w.history) p.old q.old) (sym c.in_ok-made.ensures) f.old in
+    on_made c.rekeyed_head.result (λ p. ShowsUnder w.active.key w.history p (plain_with w (by_given g) k keys q)) _
+    c.rekeyed_head.ensures.head
+    (made_shows w (by_given g) k keys q c.args.princ.now c.in_ok-made.made c.in_ok-keys.keys c.in_ok-old.old
+    c.in_ok-made.ensures c.requires.opened.master f
+    (subst (λ (items : List PlainItem). AllZip (ShowsItem w.active.key) c.in_ok-keys.keys
+    (items ++ kept_keys k.keep_old q.keys)) items_are c.in_ok-keys.ensures.shows)
     (c.in_ok-old.ensures.shows old))

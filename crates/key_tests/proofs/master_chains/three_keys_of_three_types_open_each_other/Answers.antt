@@ -5,4 +5,5 @@ use Rattle.key_tests.proofs.master_chains.three_keys_of_three_types_open_each_ot
 
 pub purge-requires-clause-newest : goal.purge-requires-clause-newest
 purge-requires-clause-newest g c =
-    not_alone 1 (last_version c.in_ok-entry-3.masters) (λ e. absurd (omega (arith, c.in_ok-entry.ensures.last, c.in_ok-entry-2.ensures.last, c.in_ok-entry-3.ensures.last)))
+    not_alone 1 (last_version c.in_ok-entry-3.masters) (λ e.
+    absurd (omega (arith, c.in_ok-entry.ensures.last, c.in_ok-entry-2.ensures.last, c.in_ok-entry-3.ensures.last)))

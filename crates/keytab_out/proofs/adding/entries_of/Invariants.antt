@@ -6,4 +6,5 @@ use Rattle.keytab_out.specs.Written.{entries_of}
 use Rattle.keytab_out.proofs.adding.entries_of.Given as goal
 
 abbrev pub invariant-loop-extract : goal.invariant-loop-extract
-invariant-loop-extract l = (map told l.entries.items ≡ entries_of l.name l.secs (take l.extract-index l.keys)) × All IsListed (map told l.entries.items)
+invariant-loop-extract l = (map told l.entries.items ≡ entries_of l.name l.secs (take l.extract-index l.keys))
+    × All IsListed (map told l.entries.items)

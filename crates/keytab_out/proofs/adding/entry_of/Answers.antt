@@ -4,7 +4,8 @@ use Rattle.keytab_out.proofs.adding.entry_of.Goals as goal
 
 pub returns-clause-listed : goal.returns-clause-listed
 returns-clause-listed c =
-    let kvno : c.args.extract.now.kvno < 2 ^ 32 = let fits : c.from.result < 2 ^ 32 = c.from.type_inv in omega (arith, fits, c.from.ensures) in
+    let kvno : c.args.extract.now.kvno < 2 ^ 32 = let fits : c.from.result < 2 ^ 32 =
+    c.from.type_inv in omega (arith, fits, c.from.ensures) in
     let len = ap (length {A = ℕ}) (sym c.as_slice.ensures.value) ∙ c.as_slice.ensures.length in
     rw (
       c.in_ok-realm.ensures,

@@ -5,10 +5,12 @@ use Rattle.keytab_out.proofs.Names.{parts_short, realm_short}
 use Rattle.keytab_out.proofs.adding.push_front.Goals as goal
 
 pub push_counted-requires : goal.push_counted-requires
-push_counted-requires c = let short = realm_short c.args.name.now c.realm.ensures.name in omega (arith, ap (length {A = ℕ}) c.realm.ensures.value)
+push_counted-requires c = let short =
+    realm_short c.args.name.now c.realm.ensures.name in omega (arith, ap (length {A = ℕ}) c.realm.ensures.value)
 
 pub push_parts-requires : goal.push_parts-requires
-push_parts-requires c = subst (All (λ (text : List ℕ). length text < 2 ^ 16)) (sym c.parts-2.ensures.value) (parts_short c.args.name.now c.parts-2.ensures.name)
+push_parts-requires c = subst (All (λ (text : List ℕ). length text < 2 ^ 16)) (sym c.parts-2.ensures.value)
+    (parts_short c.args.name.now c.parts-2.ensures.name)
 
 pub returns : goal.returns
 unfolding entry_text

@@ -4,4 +4,5 @@ use Rattle.keytab_out.specs.Removed.{greatest_of}
 use Rattle.keytab_out.proofs.removing.greatest_of.Given as goal
 
 abbrev pub invariant-loop-entry : goal.invariant-loop-entry
-invariant-loop-entry l = max l.greatest (greatest_of l.name (map told (drop l.entry-index l.entries))) ≡ greatest_of l.name (map told l.entries)
+invariant-loop-entry l = max l.greatest (greatest_of l.name (map told (drop l.entry-index l.entries)))
+    ≡ greatest_of l.name (map told l.entries)

@@ -7,4 +7,5 @@ use Rattle.keytab_out.specs.Removed.{goes}
 use Rattle.keytab_out.proofs.removing.keep_others.Goals as goal
 
 pub returns : goal.returns
-returns c = filter_same _ (λ (e : Entry). not (goes c.args.name.now c.args.which c.args.greatest (told e))) _ (λ x b f' called. search rules) _ _ c.retain.ensures.filtered
+returns c = filter_same _ (λ (e : Entry). not (goes c.args.name.now c.args.which c.args.greatest (told e))) _
+    (λ x b f' called. search rules) _ _ c.retain.ensures.filtered

@@ -6,4 +6,5 @@ use Rattle.keytab_out.proofs.writing.push_entries.Goals as goal
 
 pub push_sized-requires : goal.push_sized-requires
 push_sized-requires c =
-    listed_short (told c.entry-item.result) (at_item IsListed told c.args.entries.now c.loop-entry.entry-index c.entry-item.result c.loop-entry-test.true c.entry-item.is c.requires)
+    listed_short (told c.entry-item.result) (at_item IsListed told c.args.entries.now c.loop-entry.entry-index
+    c.entry-item.result c.loop-entry-test.true c.entry-item.is c.requires)

@@ -5,4 +5,5 @@ use Rattle.keytab_out.specs.Entries.{sized}
 use Rattle.keytab_out.proofs.writing.push_entries.Given as goal
 
 abbrev pub invariant-loop-entry : goal.invariant-loop-entry
-invariant-loop-entry l = l.out.items ++ flat_map sized (map told (drop l.entry-index l.entries)) ≡ l.fn.out.items ++ flat_map sized (map told l.entries)
+invariant-loop-entry l = l.out.items ++ flat_map sized (map told (drop l.entry-index l.entries))
+    ≡ l.fn.out.items ++ flat_map sized (map told l.entries)

@@ -13,4 +13,5 @@ pub returns-in-Ok : goal.returns-in-Ok
 returns-in-Ok c = name_given _ c.in-Ok.name c.in-Ok.ensures.value
 
 pub returns-in-Err-BadName : goal.returns-in-Err-BadName
-returns-in-Err-BadName c = fault_given _ c.in-Err-BadName.field-0 c.in-Err-BadName.offset c.in-Err-BadName.field-0-is c.in-Err-BadName.ensures.value
+returns-in-Err-BadName c = fault_given _ c.in-Err-BadName.field-0 c.in-Err-BadName.offset c.in-Err-BadName.field-0-is
+    c.in-Err-BadName.ensures.value

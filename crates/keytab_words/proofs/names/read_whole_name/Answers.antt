@@ -15,5 +15,6 @@ returns-in-Ok c = sym (name_read c.args.word.now c.in-Ok.name c.in-Ok.ensures.sp
 
 pub returns-in-Err-BadName : goal.returns-in-Err-BadName
 returns-in-Err-BadName c =
-    sym (fault_read c.args.word.now c.in-Err-BadName.offset (λ name h is. no_answer name c.in-Err-BadName.field-0 c.in-Err-BadName.offset c.in-Err-BadName.field-0-is (c.in-Err-BadName.ensures.only name h is))
+    sym (fault_read c.args.word.now c.in-Err-BadName.offset (λ name h is. no_answer name c.in-Err-BadName.field-0
+    c.in-Err-BadName.offset c.in-Err-BadName.field-0-is (c.in-Err-BadName.ensures.only name h is))
     (c.in-Err-BadName.ensures.place c.in-Err-BadName.offset (ap Err c.in-Err-BadName.field-0-is)))

@@ -7,11 +7,13 @@ use Rattle.kprop_rounds.proofs.dumps.install.Goals as goal
 
 pub returns-in-Ok-load-clause-some : goal.returns-in-Ok-load-clause-some
 returns-in-Ok-load-clause-some g c =
-    crash_some g.D.Disk c.args.disk.now c.load.new.disk c.args.replica.now.size (place_of c.args.replica.now) (Install (told_dump c.in-Ok.dump)) c.load.ensures.crash
+    crash_some g.D.Disk c.args.disk.now c.load.new.disk c.args.replica.now.size (place_of c.args.replica.now)
+    (Install (told_dump c.in-Ok.dump)) c.load.ensures.crash
 
 pub returns-in-Err-clause-some : goal.returns-in-Err-clause-some
 returns-in-Err-clause-some g c =
-    crash_some g.D.Disk c.args.disk.now c.load.new.disk c.args.replica.now.size (place_of c.args.replica.now) (Install (told_dump c.in-Ok.dump)) c.load.ensures.crash
+    crash_some g.D.Disk c.args.disk.now c.load.new.disk c.args.replica.now.size (place_of c.args.replica.now)
+    (Install (told_dump c.in-Ok.dump)) c.load.ensures.crash
 
 pub returns-in-Err-DumpBad-clause-crash : goal.returns-in-Err-DumpBad-clause-crash
 returns-in-Err-DumpBad-clause-crash g c =
@@ -19,7 +21,8 @@ returns-in-Err-DumpBad-clause-crash g c =
     (end_of_dump c.args.replica.now.size (place_of c.args.replica.now) (dump_judged c.args.text.now)).made c.requires.on
 
 pub returns-in-Err-DumpBad-clause-some : goal.returns-in-Err-DumpBad-clause-some
-returns-in-Err-DumpBad-clause-some g c = nothing_some g.D.Disk c.args.disk.now c.args.replica.now.size c.args.replica.now.database c.requires.on
+returns-in-Err-DumpBad-clause-some g c =
+    nothing_some g.D.Disk c.args.disk.now c.args.replica.now.size c.args.replica.now.database c.requires.on
 
 pub returns-in-Err-MemoryOut-clause-crash : goal.returns-in-Err-MemoryOut-clause-crash
 returns-in-Err-MemoryOut-clause-crash g c =
@@ -27,4 +30,5 @@ returns-in-Err-MemoryOut-clause-crash g c =
     (end_of_dump c.args.replica.now.size (place_of c.args.replica.now) (dump_judged c.args.text.now)).made c.requires.on
 
 pub returns-in-Err-MemoryOut-clause-some : goal.returns-in-Err-MemoryOut-clause-some
-returns-in-Err-MemoryOut-clause-some g c = nothing_some g.D.Disk c.args.disk.now c.args.replica.now.size c.args.replica.now.database c.requires.on
+returns-in-Err-MemoryOut-clause-some g c =
+    nothing_some g.D.Disk c.args.disk.now c.args.replica.now.size c.args.replica.now.database c.requires.on

@@ -1,7 +1,8 @@
 use Rattle.std.proofs.Common.{false, refl, ◌∙◌, arith}
 use Rattle.iprop_links.specs.Asking.{sent_in}
 use Rattle.kdb_ports.specs.Links.{Wire}
-use Rattle.kprop_runs.proofs.Going.{all_end, crash_on, goes_on, lead_on, long_here, none_ended, none_led, rounds_start, starts, stops_here, told_wire, untold_on, untold_start}
+use Rattle.kprop_runs.proofs.Going.{all_end, crash_on, goes_on, lead_on, long_here, none_ended, none_led}
+use Rattle.kprop_runs.proofs.Going.{rounds_start, starts, stops_here, told_wire, untold_on, untold_start}
 use Rattle.kprop_runs.proofs.Overlong.{long_behind}
 use Rattle.kprop_runs.specs.Stages.{Stage, stage_of}
 use Rattle.replica_core.specs.Opened.{place_of}
@@ -13,8 +14,10 @@ loop-done-init g c =
     let taken = g.K.Sink.taken c.args.sink.now in
     let view = g.D.Disk.view c.args.disk.now in
     record {
-      stands = λ w told. starts c.args.name.now size (g.L.Link.wire c.args.link.now) w taken (place_of c.args.replica.now) told;
-      crash = λ w told tells. rounds_start c.args.name.now size c.args.count w taken c.args.replica.now.database view (c.requires.on tells);
+      stands = λ w told.
+          starts c.args.name.now size (g.L.Link.wire c.args.link.now) w taken (place_of c.args.replica.now) told;
+      crash = λ w told tells.
+          rounds_start c.args.name.now size c.args.count w taken c.args.replica.now.database view (c.requires.on tells);
       leads = λ tells. none_led size (place_of c.args.replica.now);
       some = λ tells. untold_start size c.args.count c.args.replica.now.database view (c.requires.on tells);
       in_time = λ w told. none_ended c.args.name.now size (stage_of w taken (place_of c.args.replica.now) false);
@@ -42,22 +45,30 @@ loop-done-preserved g c =
       stands = λ w told.
           let at = inv.stands w told in
           let here = told_wire wire _ at.sent_is in
-          goes_on name size c.loop-done.done (first w) c.loop-done.replica.size inv.sized wire here.0 here.1 out place c.loop-done.refused at
-          (g.L.Link.wire c.turn.new.link) (g.K.Sink.taken c.turn.new.sink) (place_of c.turn.new.replica) c.in-Ok.bad c.either-refused.result
+          goes_on name size c.loop-done.done (first w) c.loop-done.replica.size inv.sized wire here.0 here.1 out place
+          c.loop-done.refused at
+          (g.L.Link.wire c.turn.new.link) (g.K.Sink.taken c.turn.new.sink)
+          (place_of c.turn.new.replica) c.in-Ok.bad c.either-refused.result
           (c.in-Ok.ensures.done here.0 c.loop-done.refused here.1) c.either-refused.ensures;
       crash = λ w told tells.
           let at = inv.stands w told in
           let here = told_wire wire _ at.sent_is in
-          crash_on name size c.loop-done.done (first w) c.loop-done.replica.size inv.sized wire here.0 here.1 out place c.loop-done.refused at c.args.count few
-          (g.D.Disk.view c.args.disk.now) (g.D.Disk.view c.loop-done.disk) (g.D.Disk.view c.turn.new.disk) (inv.crash w told tells) ((c.turn.ensures.crash here.0 here.1).told tells);
-      leads = λ tells. lead_on size c.loop-done.done (place_of c.args.replica.now) c.loop-done.replica.size inv.sized place (inv.leads tells) (place_of c.turn.new.replica) (c.in-Ok.ensures.comes tells);
+          crash_on name size c.loop-done.done (first w) c.loop-done.replica.size inv.sized wire here.0 here.1 out place
+          c.loop-done.refused at c.args.count few
+          (g.D.Disk.view c.args.disk.now) (g.D.Disk.view c.loop-done.disk) (g.D.Disk.view c.turn.new.disk)
+          (inv.crash w told tells) ((c.turn.ensures.crash here.0 here.1).told tells);
+      leads = λ tells. lead_on size c.loop-done.done (place_of c.args.replica.now) c.loop-done.replica.size inv.sized
+          place (inv.leads tells) (place_of c.turn.new.replica) (c.in-Ok.ensures.comes tells);
       some = λ tells.
-          untold_on size c.loop-done.done (place_of c.args.replica.now) c.loop-done.replica.size inv.sized place (inv.leads tells) c.args.count few
-          (g.D.Disk.view c.args.disk.now) (g.D.Disk.view c.loop-done.disk) (g.D.Disk.view c.turn.new.disk) (inv.some tells) (c.turn.ensures.some.told tells);
+          untold_on size c.loop-done.done (place_of c.args.replica.now) c.loop-done.replica.size inv.sized place
+          (inv.leads tells) c.args.count few
+          (g.D.Disk.view c.args.disk.now) (g.D.Disk.view c.loop-done.disk) (g.D.Disk.view c.turn.new.disk)
+          (inv.some tells) (c.turn.ensures.some.told tells);
       in_time = λ w told.
           let at = inv.stands w told in
           let here = told_wire wire _ at.sent_is in
-          all_end name size c.loop-done.done (first w) c.loop-done.replica.size inv.sized wire here.0 here.1 out place c.loop-done.refused at (inv.in_time w told) (c.in-Ok.ensures.in_time here.0 here.1);
+          all_end name size c.loop-done.done (first w) c.loop-done.replica.size inv.sized wire here.0 here.1 out place
+          c.loop-done.refused at (inv.in_time w told) (c.in-Ok.ensures.in_time here.0 here.1);
       on = λ tells. c.in-Ok.ensures.on tells;
       whole = c.in-Ok.ensures.whole;
       sized = c.turn.ensures.size ∙ inv.sized;
@@ -73,9 +84,12 @@ returns-in-Err-clause-stopped g c w told =
     let wire = g.L.Link.wire c.loop-done.link in
     let at = inv.stands w told in
     let here = told_wire wire _ at.sent_is in
-    stops_here c.args.name.now c.args.replica.now.size c.loop-done.done (stage_of w (g.K.Sink.taken c.args.sink.now) (place_of c.args.replica.now) false)
-    c.loop-done.replica.size inv.sized wire here.0 here.1 (g.K.Sink.taken c.loop-done.sink) (place_of c.loop-done.replica) c.loop-done.refused at
-    c.args.count c.loop-done-test.true (sent_in (g.L.Link.wire c.turn.new.link)) (g.K.Sink.taken c.turn.new.sink) (c.in-Err.ensures.stopped here.0 c.loop-done.refused here.1)
+    stops_here c.args.name.now c.args.replica.now.size c.loop-done.done
+    (stage_of w (g.K.Sink.taken c.args.sink.now) (place_of c.args.replica.now) false)
+    c.loop-done.replica.size inv.sized wire here.0 here.1 (g.K.Sink.taken c.loop-done.sink)
+    (place_of c.loop-done.replica) c.loop-done.refused at
+    c.args.count c.loop-done-test.true (sent_in (g.L.Link.wire c.turn.new.link)) (g.K.Sink.taken c.turn.new.sink)
+    (c.in-Err.ensures.stopped here.0 c.loop-done.refused here.1)
 
 pub returns-in-Err-clause-crash : goal.returns-in-Err-clause-crash
 returns-in-Err-clause-crash g c w told =
@@ -88,8 +102,11 @@ returns-in-Err-clause-crash g c w told =
     let here = told_wire wire _ at.sent_is in
     record {
       told = λ tells.
-          crash_on name size c.loop-done.done first c.loop-done.replica.size inv.sized wire here.0 here.1 (g.K.Sink.taken c.loop-done.sink) (place_of c.loop-done.replica) c.loop-done.refused at c.args.count c.loop-done-test.true
-          (g.D.Disk.view c.args.disk.now) (g.D.Disk.view c.loop-done.disk) (g.D.Disk.view c.turn.new.disk) (inv.crash w told tells) ((c.turn.ensures.crash here.0 here.1).told tells);
+          crash_on name size c.loop-done.done first c.loop-done.replica.size inv.sized wire here.0 here.1
+          (g.K.Sink.taken c.loop-done.sink) (place_of c.loop-done.replica) c.loop-done.refused at c.args.count
+          c.loop-done-test.true
+          (g.D.Disk.view c.args.disk.now) (g.D.Disk.view c.loop-done.disk) (g.D.Disk.view c.turn.new.disk)
+          (inv.crash w told tells) ((c.turn.ensures.crash here.0 here.1).told tells);
     }
 
 pub returns-in-Err-clause-too_long : goal.returns-in-Err-clause-too_long
@@ -97,7 +114,8 @@ returns-in-Err-clause-too_long g c w told long =
     let wire = g.L.Link.wire c.loop-done.link in
     let at = c.loop-done.invariant.stands w told in
     let here = told_wire wire _ at.sent_is in
-    long_behind c.args.name.now c.args.replica.now.size c.loop-done.done (stage_of w (g.K.Sink.taken c.args.sink.now) (place_of c.args.replica.now) false) wire here.0 here.1 at.later_is
+    long_behind c.args.name.now c.args.replica.now.size c.loop-done.done
+    (stage_of w (g.K.Sink.taken c.args.sink.now) (place_of c.args.replica.now) false) wire here.0 here.1 at.later_is
     (c.turn.ensures.too_long here.0 here.1 (c.in-Err.is ∙ long))
 
 pub returns-in-Err-clause-long : goal.returns-in-Err-clause-long
@@ -106,9 +124,12 @@ returns-in-Err-clause-long g c w told long =
     let wire = g.L.Link.wire c.loop-done.link in
     let at = inv.stands w told in
     let here = told_wire wire _ at.sent_is in
-    long_here c.args.name.now c.args.replica.now.size c.loop-done.done (stage_of w (g.K.Sink.taken c.args.sink.now) (place_of c.args.replica.now) false)
-    c.loop-done.replica.size inv.sized wire here.0 here.1 (g.K.Sink.taken c.loop-done.sink) (place_of c.loop-done.replica) c.loop-done.refused at
-    c.args.count c.loop-done-test.true (sent_in (g.L.Link.wire c.turn.new.link)) (c.turn.ensures.long here.0 c.loop-done.refused here.1 (c.in-Err.is ∙ long))
+    long_here c.args.name.now c.args.replica.now.size c.loop-done.done
+    (stage_of w (g.K.Sink.taken c.args.sink.now) (place_of c.args.replica.now) false)
+    c.loop-done.replica.size inv.sized wire here.0 here.1 (g.K.Sink.taken c.loop-done.sink)
+    (place_of c.loop-done.replica) c.loop-done.refused at
+    c.args.count c.loop-done-test.true (sent_in (g.L.Link.wire c.turn.new.link))
+    (c.turn.ensures.long here.0 c.loop-done.refused here.1 (c.in-Err.is ∙ long))
 
 pub returns-clause-in_time : goal.returns-clause-in_time
 returns-clause-in_time g c w told i few =

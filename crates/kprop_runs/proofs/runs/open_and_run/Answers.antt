@@ -1,7 +1,8 @@
 use Rattle.std.proofs.Common.{Err, ap, subst, ◌∙◌}
 use Rattle.iprop_links.specs.Asking.{sent_in}
 use Rattle.kdb_base.specs.declared.outcomes.Stop.{Stop}
-use Rattle.kprop_runs.proofs.Running.{halted_run, open_some, opened_end, opened_long, opened_run, opened_some, refused_end, refused_run}
+use Rattle.kprop_runs.proofs.Running.{halted_run, open_some, opened_end, opened_long}
+use Rattle.kprop_runs.proofs.Running.{opened_run, opened_some, refused_end, refused_run}
 use Rattle.replica_core.specs.Opened.{Opened}
 use Rattle.replica_core.specs.Opening.{AnswersOpened}
 use Rattle.std.specs.Prelude.{Result}
@@ -12,15 +13,20 @@ use Rattle.kprop_runs.proofs.runs.open_and_run.Goals as goal
 
 pub returns-in-Ok-clause-run : goal.returns-in-Ok-clause-run
 returns-in-Ok-clause-run g c tells w told =
-    opened_run c.args.asked.now (recovers (g.D.Disk.view c.args.disk.now).seen) (g.D.Disk.view c.args.disk.now) (g.D.Disk.view c.recover.new.disk) (c.recover.ensures.moments tells)
+    opened_run c.args.asked.now (recovers (g.D.Disk.view c.args.disk.now).seen) (g.D.Disk.view c.args.disk.now)
+    (g.D.Disk.view c.recover.new.disk) (c.recover.ensures.moments tells)
     c.in-Ok.opened (c.in-Ok.ensures.answer tells) (g.D.Disk.view c.run_rounds.new.disk)
-    w (g.K.Sink.taken c.args.sink.now) (g.L.Link.wire c.run_rounds.new.link) (g.K.Sink.taken c.run_rounds.new.sink) c.run_rounds.result
-    (c.run_rounds.ensures.rounds w told) (c.run_rounds.ensures.stands tells w told) ((c.run_rounds.ensures.crash w told).told tells)
+    w (g.K.Sink.taken c.args.sink.now) (g.L.Link.wire c.run_rounds.new.link)
+    (g.K.Sink.taken c.run_rounds.new.sink) c.run_rounds.result
+    (c.run_rounds.ensures.rounds w told) (c.run_rounds.ensures.stands tells w told)
+    ((c.run_rounds.ensures.crash w told).told tells)
 
 pub returns-in-Ok-clause-some : goal.returns-in-Ok-clause-some
 returns-in-Ok-clause-some g c tells =
-    opened_some c.args.asked.now (recovers (g.D.Disk.view c.args.disk.now).seen) (g.D.Disk.view c.args.disk.now) (g.D.Disk.view c.recover.new.disk) (c.recover.ensures.moments tells)
-    c.in-Ok.opened (c.in-Ok.ensures.answer tells) (g.D.Disk.view c.run_rounds.new.disk) (c.run_rounds.ensures.some.told tells)
+    opened_some c.args.asked.now (recovers (g.D.Disk.view c.args.disk.now).seen) (g.D.Disk.view c.args.disk.now)
+    (g.D.Disk.view c.recover.new.disk) (c.recover.ensures.moments tells)
+    c.in-Ok.opened (c.in-Ok.ensures.answer tells) (g.D.Disk.view c.run_rounds.new.disk)
+    (c.run_rounds.ensures.some.told tells)
 
 -- ---- it was refused
 
@@ -28,39 +34,49 @@ pub returns-in-Err-Refused-clause-run : goal.returns-in-Err-Refused-clause-run
 returns-in-Err-Refused-clause-run g c tells w told =
     let is = c.in-Err-Refused.is ∙ ap Err c.in-Err-Refused.field-0-is in
     let found = recovers (g.D.Disk.view c.args.disk.now).seen in
-    refused_run c.args.asked.now found (g.D.Disk.view c.args.disk.now) (g.D.Disk.view c.recover.new.disk) (c.recover.ensures.moments tells)
-    c.in-Err-Refused.refusal (subst (λ (r : Result Opened Stop). AnswersOpened c.args.asked.now.size r found) is (c.recover.ensures.answer tells)) (c.recover.ensures.refused_keeps tells c.in-Err-Refused.refusal is)
-    w (g.K.Sink.taken c.args.sink.now) (g.L.Link.wire c.args.link.now) (g.K.Sink.taken c.refuse.new.sink) c.refuse.result told
+    refused_run c.args.asked.now found (g.D.Disk.view c.args.disk.now) (g.D.Disk.view c.recover.new.disk)
+    (c.recover.ensures.moments tells)
+    c.in-Err-Refused.refusal (subst (λ (r : Result Opened Stop). AnswersOpened c.args.asked.now.size r found) is
+    (c.recover.ensures.answer tells)) (c.recover.ensures.refused_keeps tells c.in-Err-Refused.refusal is)
+    w (g.K.Sink.taken c.args.sink.now) (g.L.Link.wire c.args.link.now)
+    (g.K.Sink.taken c.refuse.new.sink) c.refuse.result told
     c.refuse.ensures.ok c.refuse.ensures.value c.refuse.ensures.err
 
 pub returns-in-Err-Refused-clause-some : goal.returns-in-Err-Refused-clause-some
 returns-in-Err-Refused-clause-some g c tells =
-    open_some c.args.asked.now (recovers (g.D.Disk.view c.args.disk.now).seen) (g.D.Disk.view c.args.disk.now) (g.D.Disk.view c.recover.new.disk) (c.recover.ensures.moments tells)
+    open_some c.args.asked.now (recovers (g.D.Disk.view c.args.disk.now).seen) (g.D.Disk.view c.args.disk.now)
+    (g.D.Disk.view c.recover.new.disk) (c.recover.ensures.moments tells)
 
 -- ---- it was stopped
 
 pub returns-in-Err-Halt-clause-run : goal.returns-in-Err-Halt-clause-run
 returns-in-Err-Halt-clause-run g c tells w told =
-    halted_run c.args.asked.now (recovers (g.D.Disk.view c.args.disk.now).seen) (g.D.Disk.view c.args.disk.now) (g.D.Disk.view c.recover.new.disk) (c.recover.ensures.moments tells)
+    halted_run c.args.asked.now (recovers (g.D.Disk.view c.args.disk.now).seen) (g.D.Disk.view c.args.disk.now)
+    (g.D.Disk.view c.recover.new.disk) (c.recover.ensures.moments tells)
     w (g.K.Sink.taken c.args.sink.now) (g.L.Link.wire c.args.link.now) c.from.result told
 
 pub returns-in-Err-Halt-clause-some : goal.returns-in-Err-Halt-clause-some
 returns-in-Err-Halt-clause-some g c tells =
-    open_some c.args.asked.now (recovers (g.D.Disk.view c.args.disk.now).seen) (g.D.Disk.view c.args.disk.now) (g.D.Disk.view c.recover.new.disk) (c.recover.ensures.moments tells)
+    open_some c.args.asked.now (recovers (g.D.Disk.view c.args.disk.now).seen) (g.D.Disk.view c.args.disk.now)
+    (g.D.Disk.view c.recover.new.disk) (c.recover.ensures.moments tells)
 
 pub returns-in-Ok-clause-long : goal.returns-in-Ok-clause-long
 returns-in-Ok-clause-long g c tells w told long =
-    opened_long c.args.asked.now c.in-Ok.opened (recovers (g.D.Disk.view c.args.disk.now).seen) (c.in-Ok.ensures.answer tells) w (g.K.Sink.taken c.args.sink.now)
+    opened_long c.args.asked.now c.in-Ok.opened (recovers (g.D.Disk.view c.args.disk.now).seen)
+    (c.in-Ok.ensures.answer tells) w (g.K.Sink.taken c.args.sink.now)
     (sent_in (g.L.Link.wire c.run_rounds.new.link)) (c.run_rounds.ensures.long w told long)
 
 pub returns-in-Ok-clause-in_time : goal.returns-in-Ok-clause-in_time
 returns-in-Ok-clause-in_time g c tells w told =
-    opened_end c.args.asked.now c.in-Ok.opened (recovers (g.D.Disk.view c.args.disk.now).seen) (c.in-Ok.ensures.answer tells) w (g.K.Sink.taken c.args.sink.now)
+    opened_end c.args.asked.now c.in-Ok.opened (recovers (g.D.Disk.view c.args.disk.now).seen)
+    (c.in-Ok.ensures.answer tells) w (g.K.Sink.taken c.args.sink.now)
     c.run_rounds.result (c.run_rounds.ensures.in_time w told)
 
 pub returns-in-Err-Refused-clause-in_time : goal.returns-in-Err-Refused-clause-in_time
 returns-in-Err-Refused-clause-in_time g c tells w told =
     let is = c.in-Err-Refused.is ∙ ap Err c.in-Err-Refused.field-0-is in
     let found = recovers (g.D.Disk.view c.args.disk.now).seen in
-    refused_end c.args.asked.now c.in-Err-Refused.refusal found (subst (λ (r : Result Opened Stop). AnswersOpened c.args.asked.now.size r found) is (c.recover.ensures.answer tells))
+    refused_end c.args.asked.now c.in-Err-Refused.refusal found
+    (subst (λ (r : Result Opened Stop). AnswersOpened c.args.asked.now.size r found) is
+    (c.recover.ensures.answer tells))
     w (g.K.Sink.taken c.args.sink.now) c.refuse.result

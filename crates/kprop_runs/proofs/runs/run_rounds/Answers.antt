@@ -13,57 +13,72 @@ use Rattle.kprop_runs.proofs.runs.run_rounds.Goals as goal
 
 pub returns-in-Ok-clause-rounds : goal.returns-in-Ok-clause-rounds
 returns-in-Ok-clause-rounds g c w told =
-    ran c.args.asked.now (first_stage w (g.K.Sink.taken c.args.sink.now) (place_of c.args.replica.now)) c.as_slice-name.result.now c.args.replica.now.size c.as_slice-name.ensures c.requires.size
-    (g.L.Link.wire c.all_rounds.new.link) (g.K.Sink.taken c.all_rounds.new.sink) (place_of c.all_rounds.new.replica) c.in-Ok.refused (c.in-Ok.ensures.done w told)
-    c.point.result c.point.ensures c.say_done.result (g.K.Sink.taken c.say_done.new.sink) c.say_done.ensures.ok c.say_done.ensures.value c.say_done.ensures.err
+    ran c.args.asked.now (first_stage w (g.K.Sink.taken c.args.sink.now) (place_of c.args.replica.now))
+    c.as_slice-name.result.now c.args.replica.now.size c.as_slice-name.ensures c.requires.size
+    (g.L.Link.wire c.all_rounds.new.link) (g.K.Sink.taken c.all_rounds.new.sink)
+    (place_of c.all_rounds.new.replica) c.in-Ok.refused (c.in-Ok.ensures.done w told)
+    c.point.result c.point.ensures c.say_done.result (g.K.Sink.taken c.say_done.new.sink) c.say_done.ensures.ok
+    c.say_done.ensures.value c.say_done.ensures.err
 
 pub returns-in-Ok-clause-stands : goal.returns-in-Ok-clause-stands
 returns-in-Ok-clause-stands g c tells w told =
     on_ok c.say_done.result
-    (stands c.args.asked.now (first_stage w (g.K.Sink.taken c.args.sink.now) (place_of c.args.replica.now)) c.as_slice-name.result.now c.args.replica.now.size c.as_slice-name.ensures c.requires.size
-    (g.L.Link.wire c.all_rounds.new.link) (g.K.Sink.taken c.all_rounds.new.sink) (place_of c.all_rounds.new.replica) c.in-Ok.refused (c.in-Ok.ensures.done w told)
+    (stands c.args.asked.now (first_stage w (g.K.Sink.taken c.args.sink.now) (place_of c.args.replica.now))
+    c.as_slice-name.result.now c.args.replica.now.size c.as_slice-name.ensures c.requires.size
+    (g.L.Link.wire c.all_rounds.new.link) (g.K.Sink.taken c.all_rounds.new.sink)
+    (place_of c.all_rounds.new.replica) c.in-Ok.refused (c.in-Ok.ensures.done w told)
     c.all_rounds.new.replica.database refl (g.D.Disk.view c.all_rounds.new.disk) (c.in-Ok.ensures.on tells))
 
 pub returns-in-Ok-clause-crash : goal.returns-in-Ok-clause-crash
 returns-in-Ok-clause-crash g c w told = record {
   told = λ tells. weaken ((c.all_rounds.ensures.crash w told).told tells)
-      (rounds_leave c.args.asked.now (first_stage w (g.K.Sink.taken c.args.sink.now) (place_of c.args.replica.now)) c.as_slice-name.result.now c.args.replica.now.size c.as_slice-name.ensures c.requires.size);
+      (rounds_leave c.args.asked.now (first_stage w (g.K.Sink.taken c.args.sink.now) (place_of c.args.replica.now))
+      c.as_slice-name.result.now c.args.replica.now.size c.as_slice-name.ensures c.requires.size);
 }
 
 pub returns-in-Ok-clause-some : goal.returns-in-Ok-clause-some
 returns-in-Ok-clause-some g c =
-    subst (λ (m : ℕ). IsCrashSafe g.D.Disk c.args.disk.now c.all_rounds.new.disk (LeavesUntold m c.args.asked.now.rounds (place_of c.args.replica.now))) c.requires.size c.all_rounds.ensures.some
+    subst (λ (m : ℕ). IsCrashSafe g.D.Disk c.args.disk.now c.all_rounds.new.disk
+    (LeavesUntold m c.args.asked.now.rounds (place_of c.args.replica.now))) c.requires.size c.all_rounds.ensures.some
 
 pub returns-in-Ok-clause-call : goal.returns-in-Ok-clause-call
-returns-in-Ok-clause-call g c = call_said g.D.Disk c.args.disk.now c.all_rounds.new.disk c.say_done.result c.all_rounds.ensures.call c.say_done.ensures.halt
+returns-in-Ok-clause-call g c = call_said g.D.Disk c.args.disk.now c.all_rounds.new.disk c.say_done.result
+    c.all_rounds.ensures.call c.say_done.ensures.halt
 
 pub returns-in-Ok-clause-links : goal.returns-in-Ok-clause-links
-returns-in-Ok-clause-links g c = links_said (g.L.Link.faults c.args.link.now) (g.L.Link.faults c.all_rounds.new.link) c.say_done.result c.all_rounds.ensures.links c.say_done.ensures.halt
+returns-in-Ok-clause-links g c = links_said (g.L.Link.faults c.args.link.now)
+    (g.L.Link.faults c.all_rounds.new.link) c.say_done.result c.all_rounds.ensures.links c.say_done.ensures.halt
 
 -- ---- one was stopped
 
 pub returns-in-Err-clause-rounds : goal.returns-in-Err-clause-rounds
 returns-in-Err-clause-rounds g c w told =
-    rounds_stopped c.args.asked.now (first_stage w (g.K.Sink.taken c.args.sink.now) (place_of c.args.replica.now)) c.as_slice-name.result.now c.args.replica.now.size c.as_slice-name.ensures c.requires.size
-    (g.L.Link.wire c.all_rounds.new.link) (g.K.Sink.taken c.all_rounds.new.sink) c.in-Err.halt (c.in-Err.ensures.stopped w told)
+    rounds_stopped c.args.asked.now (first_stage w (g.K.Sink.taken c.args.sink.now) (place_of c.args.replica.now))
+    c.as_slice-name.result.now c.args.replica.now.size c.as_slice-name.ensures c.requires.size
+    (g.L.Link.wire c.all_rounds.new.link) (g.K.Sink.taken c.all_rounds.new.sink) c.in-Err.halt
+    (c.in-Err.ensures.stopped w told)
 
 pub returns-in-Err-clause-crash : goal.returns-in-Err-clause-crash
 returns-in-Err-clause-crash g c w told = record {
   told = λ tells. weaken ((c.all_rounds.ensures.crash w told).told tells)
-      (rounds_leave c.args.asked.now (first_stage w (g.K.Sink.taken c.args.sink.now) (place_of c.args.replica.now)) c.as_slice-name.result.now c.args.replica.now.size c.as_slice-name.ensures c.requires.size);
+      (rounds_leave c.args.asked.now (first_stage w (g.K.Sink.taken c.args.sink.now) (place_of c.args.replica.now))
+      c.as_slice-name.result.now c.args.replica.now.size c.as_slice-name.ensures c.requires.size);
 }
 
 pub returns-in-Err-clause-some : goal.returns-in-Err-clause-some
 returns-in-Err-clause-some g c =
-    subst (λ (m : ℕ). IsCrashSafe g.D.Disk c.args.disk.now c.all_rounds.new.disk (LeavesUntold m c.args.asked.now.rounds (place_of c.args.replica.now))) c.requires.size c.all_rounds.ensures.some
+    subst (λ (m : ℕ). IsCrashSafe g.D.Disk c.args.disk.now c.all_rounds.new.disk
+    (LeavesUntold m c.args.asked.now.rounds (place_of c.args.replica.now))) c.requires.size c.all_rounds.ensures.some
 
 pub returns-in-Err-clause-long : goal.returns-in-Err-clause-long
 returns-in-Err-clause-long g c w told long =
-    rounds_long c.args.asked.now (first_stage w (g.K.Sink.taken c.args.sink.now) (place_of c.args.replica.now)) c.as_slice-name.result.now c.args.replica.now.size c.as_slice-name.ensures c.requires.size
+    rounds_long c.args.asked.now (first_stage w (g.K.Sink.taken c.args.sink.now) (place_of c.args.replica.now))
+    c.as_slice-name.result.now c.args.replica.now.size c.as_slice-name.ensures c.requires.size
     (sent_in (g.L.Link.wire c.all_rounds.new.link)) (c.all_rounds.ensures.long w told (c.in-Err.is ∙ long))
 
 pub returns-in-Ok-clause-in_time : goal.returns-in-Ok-clause-in_time
 returns-in-Ok-clause-in_time g c w told =
     on_ok c.say_done.result
-    (rounds_end c.args.asked.now (first_stage w (g.K.Sink.taken c.args.sink.now) (place_of c.args.replica.now)) c.as_slice-name.result.now c.args.replica.now.size c.as_slice-name.ensures c.requires.size
+    (rounds_end c.args.asked.now (first_stage w (g.K.Sink.taken c.args.sink.now) (place_of c.args.replica.now))
+    c.as_slice-name.result.now c.args.replica.now.size c.as_slice-name.ensures c.requires.size
     (c.in-Ok.ensures.in_time w told))

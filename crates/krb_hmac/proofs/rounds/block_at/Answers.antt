@@ -12,6 +12,8 @@ loop-preserved g c = λ password keyed.
 pub returns : goal.returns
 returns g c = λ password keyed.
     let mac = hmac_by g.H.BlockHash.hash g.H.BlockHash.block password in
-    let first = c.tag-last.ensures password keyed ∙ ap mac (sym (append_assoc c.args.prefix.now c.args.salt.now c.to_be_bytes.result)) in
-    last_round mac (c.args.prefix.now ++ c.args.salt.now) c.tag-last.result _ c.loop.last c.args.number c.args.count c.loop.counter c.requires c.loop-test.false
+    let first = c.tag-last.ensures password keyed
+    ∙ ap mac (sym (append_assoc c.args.prefix.now c.args.salt.now c.to_be_bytes.result)) in
+    last_round mac (c.args.prefix.now ++ c.args.salt.now) c.tag-last.result _ c.loop.last c.args.number c.args.count
+    c.loop.counter c.requires c.loop-test.false
     (rw c.to_be_bytes.ensures at first) (c.loop.invariant password keyed)

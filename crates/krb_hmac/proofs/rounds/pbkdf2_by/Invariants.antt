@@ -9,7 +9,8 @@ abbrev pub invariant-loop-start : goal.invariant-loop-start
 invariant-loop-start g l = (length l.into ≡ length l.fn.into) × (l.number ≤ l.start) × (l.start ≡ l.number * g.row.N)
     × (l.start < length l.into + g.row.N)
     × ((password : List ℕ) → IsKeyed g.H.BlockHash.holds g.H.BlockHash.hash g.H.BlockHash.block l.keyed password →
-    take l.start l.into ≡ take (length l.into) (blocks (hmac_by g.H.BlockHash.hash g.H.BlockHash.block password) (l.prefix ++ l.salt) l.count l.number))
+    take l.start l.into ≡ take (length l.into)
+    (blocks (hmac_by g.H.BlockHash.hash g.H.BlockHash.block password) (l.prefix ++ l.salt) l.count l.number))
 
 abbrev pub decreases-loop-start : goal.decreases-loop-start
 decreases-loop-start g l = length l.into - l.start

@@ -15,7 +15,10 @@ returns c =
     let key = c.args.key.now.bytes in
     let is_key : bytes_of c.new-cipher.result ≡ key = c.new-cipher.ensures ∙ c.as_slice.ensures.value in
     let folded = n_folded c.args.constant.now 16 in
-    let first : c.encrypt_block.new.block ≡ cipher key folded = rw (is_key, c.n_fold.ensures) at c.encrypt_block.ensures in
-    let second : c.encrypt_block-2.new.block ≡ cipher key (cipher key folded) = rw (is_key, first) at c.encrypt_block-2.ensures in
-    two_blocks c.copy_from_slice.new.self c.copy_from_slice-2.new.self (replicate 16 0) c.copy_from_slice.ensures.len refl
+    let first : c.encrypt_block.new.block ≡ cipher key folded =
+    rw (is_key, c.n_fold.ensures) at c.encrypt_block.ensures in
+    let second : c.encrypt_block-2.new.block ≡ cipher key (cipher key folded) =
+    rw (is_key, first) at c.encrypt_block-2.ensures in
+    two_blocks c.copy_from_slice.new.self c.copy_from_slice-2.new.self
+    (replicate 16 0) c.copy_from_slice.ensures.len refl
     ∙ rw (c.copy_from_slice.ensures.after, c.copy_from_slice-2.ensures.after, second, first) refl

@@ -12,5 +12,6 @@ returns c =
     let etype = c.args.etype in
     let fits : c.key_len.result ≤ 32 = rw c.key_len.ensures (key_fits etype) in
     let bytes : c.pbkdf2.new.into ≡ pbkdf2 c.args.password.now c.args.salt.now c.args.count (key_len etype) =
-    c.pbkdf2.ensures ∙ ap (λ (n : ℕ). pbkdf2 c.args.password.now c.args.salt.now c.args.count n) (length-take-le c.key_len.result _ fits ∙ c.key_len.ensures) in
+    c.pbkdf2.ensures ∙ ap (λ (n : ℕ). pbkdf2 c.args.password.now c.args.salt.now c.args.count n)
+    (length-take-le c.key_len.result _ fits ∙ c.key_len.ensures) in
     rw (c.derive.ensures, c.from_bytes.ensures, bytes) refl

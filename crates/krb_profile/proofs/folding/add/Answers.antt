@@ -4,7 +4,8 @@ use Rattle.krb_profile.proofs.Numbers.{one_more_added, nothing_added, all_added}
 use Rattle.krb_profile.proofs.folding.add.Goals as goal
 
 pub loop-i-init : goal.loop-i-init
-loop-i-init c = (nothing_added c.args.sum.now c.args.addend.now c.args.carried c.requires.same_length, refl, c.requires.carried)
+loop-i-init c =
+    (nothing_added c.args.sum.now c.args.addend.now c.args.carried c.requires.same_length, refl, c.requires.carried)
 
 pub loop-i-preserved : goal.loop-i-preserved
 loop-i-preserved c =
@@ -14,8 +15,10 @@ loop-i-preserved c =
     let x : c.from.result < 256 = rw c.from.ensures (search rules) in
     let y : c.from-in-loop-i.result < 256 = rw c.from-in-loop-i.ensures (search rules) in
     let small : c.loop-i.carry ≤ 1 = c.loop-i.invariant.2 in (
-      one_more_added c.loop-i.sum c.args.sum.now c.args.addend.now i c.from.result c.from-in-loop-i.result c.loop-i.carry c.args.carried
-          c.loop-i.auto.sum c.requires.same_length c.loop-i-test.true c.loop-i.auto.i c.from.ensures c.from-in-loop-i.ensures
+      one_more_added c.loop-i.sum c.args.sum.now c.args.addend.now i c.from.result c.from-in-loop-i.result
+          c.loop-i.carry c.args.carried
+          c.loop-i.auto.sum c.requires.same_length c.loop-i-test.true c.loop-i.auto.i c.from.ensures
+          c.from-in-loop-i.ensures
           c.loop-i.invariant.1 c.loop-i.invariant.0,
       take-set-le (i - 1) c.loop-i.sum (i - 1) (total % 256) (omega arith)
           ∙ sym (take-take (i - 1) i c.loop-i.sum before) ∙ ap (λ (xs : List ℕ). take (i - 1) xs) c.loop-i.invariant.1

@@ -20,8 +20,10 @@ loop-i-preserved c =
     let total = rw same at c.add-carry.ensures.total in
     let small : c.add-carry.result ≤ 1 = c.add-carry.ensures.carried in
     let bytes : (k : ℕ) → get_or c.add-carry.new.sum k 0 < 256 = search rules in (
-      one_more_piece c.args.text.now c.loop-i.into c.add-carry.new.sum (take n c.piece_at-piece.result) n c.loop-i.i c.loop-i.carry c.add-carry.result
-          c.requires.into_given (c.add-carry.auto.sum ∙ same) bytes c.piece_at-piece.ensures small c.loop-i.invariant.0 total,
+      one_more_piece c.args.text.now c.loop-i.into c.add-carry.new.sum
+          (take n c.piece_at-piece.result) n c.loop-i.i c.loop-i.carry c.add-carry.result
+          c.requires.into_given (c.add-carry.auto.sum ∙ same) bytes c.piece_at-piece.ensures small
+          c.loop-i.invariant.0 total,
       small,
     )
 
@@ -29,7 +31,8 @@ pub returns : goal.returns
 returns c =
     let n = length c.args.into.now in
     let same : length c.loop-i.into ≡ n = c.loop-i.auto.into ∙ c.fill.ensures.len in
-    let zeros : number (take n (replicate 64 0)) ≡ 0 = ap number (take-replicate n 64 0 c.requires.into_short) ∙ number-zeros n in
+    let zeros : number (take n (replicate 64 0)) ≡ 0 =
+    ap number (take-replicate n 64 0 c.requires.into_short) ∙ number-zeros n in
     let added : number c.add.new.sum + 2 ^ (8 * length c.loop-i.into) * c.add.result
     ≡ number c.loop-i.into + number (take n (replicate 64 0)) + c.loop-i.carry = c.add.ensures.total in
     let total = rw (same, zeros) at added in

@@ -11,4 +11,5 @@ returns-in-Ok-clause-answered g c = λ s draws has told.
     let taken = g.K.Sink.taken c.args.sink.now in
     let at = seen (place_of c.args.primary.now) s in
     answered_so taken _ c.args.asked.now draws at c.in-Ok.refused _ _
-    (c.in-Ok.ensures.ended s (end_with taken false (said (c.args.asked.now ∷ []) draws at)) has (ends_told taken c.args.asked.now _ draws at told))
+    (c.in-Ok.ensures.ended s (end_with taken false (said (c.args.asked.now ∷ []) draws at)) has
+    (ends_told taken c.args.asked.now _ draws at told))

@@ -16,7 +16,8 @@ loop-number-preserved g c =
     record {
       goes = λ s draws has told.
           let way = was.goes s draws has told in
-          goes_on _ _ _ _ _ _ _ _ _ _ _ (lines_more c.args.script.seed c.loop-number.number c.args.script.count c.loop-number-test.true) c.counted-tally.ensures.value way
+          goes_on _ _ _ _ _ _ _ _ _ _ _ (lines_more c.args.script.seed c.loop-number.number c.args.script.count
+          c.loop-number-test.true) c.counted-tally.ensures.value way
           (c.in_ok-refused.ensures.answered way.state way.draws way.shows way.told_is);
       on = λ tells. c.in_ok-refused.ensures.on tells;
       whole = c.in_ok-refused.ensures.whole;
@@ -25,4 +26,5 @@ loop-number-preserved g c =
 
 pub returns : goal.returns
 returns g c = λ s draws has told.
-    ends _ _ _ _ _ (lines_none c.args.script.seed c.loop-number.number c.args.script.count (omega (arith, c.loop-number-test.false))) (c.loop-number.invariant.goes s draws has told)
+    ends _ _ _ _ _ (lines_none c.args.script.seed c.loop-number.number c.args.script.count
+    (omega (arith, c.loop-number-test.false))) (c.loop-number.invariant.goes s draws has told)

@@ -12,8 +12,10 @@ use Rattle.made_scripts.proofs.plays.play.Given as goal
 -- What the lines to come come to is the end of the whole script, and the disk holds the place of the primary.
 abbrev pub invariant-loop-number : goal.invariant-loop-number
 invariant-loop-number g l = record {
-  goes : (s : State) (draws : Draws) → HasState l.fn.primary s → told_draws (g.C.Clock.moments l.fn.clock) (g.E.Entropy.stream l.fn.entropy) ≡ Some draws
-      → IsUnderWay (played (lines_of l.script) (progress (seen (place_of l.fn.primary) s) draws no_tally)) (lines_from l.script.seed l.number (l.script.count - l.number))
+  goes : (s : State) (draws : Draws) → HasState l.fn.primary s
+      → told_draws (g.C.Clock.moments l.fn.clock) (g.E.Entropy.stream l.fn.entropy) ≡ Some draws
+      → IsUnderWay (played (lines_of l.script) (progress (seen (place_of l.fn.primary) s) draws no_tally))
+      (lines_from l.script.seed l.number (l.script.count - l.number))
       l.primary (told_draws (g.C.Clock.moments l.clock) (g.E.Entropy.stream l.entropy)) l.tally;
   on : g.D.Disk.tells → IsOnDisk l.primary.kept (g.D.Disk.view l.disk);
   whole : l.primary.kept.broken ≡ false;

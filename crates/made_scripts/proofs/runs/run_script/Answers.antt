@@ -10,4 +10,5 @@ pub returns : goal.returns
 unfolding told_of
 returns c =
     let told = own_told _ _ (c.new-clock.ensures ∙ c.new-2.ensures) c.new-entropy.ensures.stream in
-    subst (λ (s : Summary). IfOk c.print_summary.result (λ text. text ≡ summary_text s)) (c.in_ok-summary.ensures own_draws told) c.print_summary.ensures
+    subst (λ (s : Summary). IfOk c.print_summary.result (λ text. text ≡ summary_text s))
+    (c.in_ok-summary.ensures own_draws told) c.print_summary.ensures

@@ -6,6 +6,7 @@ use Rattle.master_keys.proofs.adding.aux_keys.Given as goal
 
 abbrev pub invariant-loop-at : goal.invariant-loop-at
 invariant-loop-at l = record {
-  keys : l.list.items ++ aux_keys l.key l.random (l.place + l.at) (drop l.at l.masters) ≡ aux_keys l.key l.random l.place l.masters;
+  keys : l.list.items ++ aux_keys l.key l.random (l.place + l.at) (drop l.at l.masters)
+      ≡ aux_keys l.key l.random l.place l.masters;
   are : AllZip (IsAuxOf l.key) l.list.items (take l.at l.masters);
 }

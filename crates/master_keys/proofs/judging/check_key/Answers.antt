@@ -8,16 +8,19 @@ use Rattle.master_keys.proofs.judging.check_key.Goals as goal
 
 pub returns-in_err-opened-clause-only : goal.returns-in_err-opened-clause-only
 returns-in_err-opened-clause-only c a =
-    handed_on_err c.from_residual.result _ c.from_residual.ensures.1 (c.in_err-opened.ensures.only c.args.master.now.key (same_blob _ _ c.as_slice.ensures a.unwraps))
+    handed_on_err c.from_residual.result _ c.from_residual.ensures.1
+    (c.in_err-opened.ensures.only c.args.master.now.key (same_blob _ _ c.as_slice.ensures a.unwraps))
 
 pub returns-then-ne-clause-only : goal.returns-then-ne-clause-only
 returns-then-ne-clause-only c a =
-    absurd (not_same c.in_ok-opened.opened c.args.master.now.key c.ne.result c.ne.ensures c.if-ne.true (c.in_ok-opened.ensures.only c.args.master.now.key (same_blob _ _ c.as_slice.ensures a.unwraps)))
+    absurd (not_same c.in_ok-opened.opened c.args.master.now.key c.ne.result c.ne.ensures c.if-ne.true
+    (c.in_ok-opened.ensures.only c.args.master.now.key (same_blob _ _ c.as_slice.ensures a.unwraps)))
 
 pub returns-clause-ok : goal.returns-clause-ok
 returns-clause-ok c =
     let same = not_other c.in_ok-opened.opened c.args.master.now.key c.ne.result c.ne.ensures c.if-ne.false in
     record {
       version = c.if-item-master.false;
-      unwraps = subst (λ (k : Key). Unwraps c.args.newest.now c.args.item.now.etype c.args.item.now.wrapped k) same (same_blob _ _ (sym c.as_slice.ensures) c.in_ok-opened.ensures.ok);
+      unwraps = subst (λ (k : Key). Unwraps c.args.newest.now c.args.item.now.etype c.args.item.now.wrapped k) same
+          (same_blob _ _ (sym c.as_slice.ensures) c.in_ok-opened.ensures.ok);
     }

@@ -10,7 +10,8 @@ use Rattle.master_keys.proofs.opening.open_masters.Goals as goal
 pub returns-in_err-master-clause-only : goal.returns-in_err-master-clause-only
 returns-in_err-master-clause-only c all h =
     let lt : c.loop-item.item-index < length c.args.keys.now = omega arith in
-    let here = zip_at_item (IsKeyOf c.args.newest.now) c.args.keys.now all c.loop-item.item-index c.item-item.result no_master h lt c.item-item.is in
+    let here = zip_at_item (IsKeyOf c.args.newest.now) c.args.keys.now all c.loop-item.item-index c.item-item.result
+    no_master h lt c.item-item.is in
     handed_on c.from_residual.result _ _ c.from_residual.ensures.1 (c.in_err-master.ensures.only _ here)
 
 pub loop-item-preserved : goal.loop-item-preserved
@@ -18,9 +19,12 @@ loop-item-preserved c =
     let lt : c.loop-item.item-index < length c.args.keys.now = omega arith in
     let pushed = c.in_ok-push.ensures.items in
     record {
-      ok = rw pushed (zip_more (IsKeyOf c.args.newest.now) c.args.keys.now c.loop-item.masters.items c.loop-item.item-index c.item-item.result c.in_ok-master.master lt c.item-item.is c.loop-item.invariant.ok c.in_ok-master.ensures.ok);
+      ok = rw pushed (zip_more (IsKeyOf c.args.newest.now) c.args.keys.now c.loop-item.masters.items
+          c.loop-item.item-index c.item-item.result c.in_ok-master.master lt c.item-item.is c.loop-item.invariant.ok
+          c.in_ok-master.ensures.ok);
       only = λ all h.
-          let here = zip_at_item (IsKeyOf c.args.newest.now) c.args.keys.now all c.loop-item.item-index c.item-item.result no_master h lt c.item-item.is in
+          let here = zip_at_item (IsKeyOf c.args.newest.now) c.args.keys.now all c.loop-item.item-index
+          c.item-item.result no_master h lt c.item-item.is in
           let same = c.in_ok-master.ensures.only (get_or all c.loop-item.item-index no_master) here in
           let len = zip_length (IsKeyOf c.args.newest.now) c.args.keys.now all h in
           let before = c.loop-item.invariant.only all h in

@@ -8,10 +8,13 @@ use Rattle.master_keys.proofs.purging.live_activations.Goals as goal
 
 pub from_vec-requires : goal.from_vec-requires
 from_vec-requires c =
-    let is = filter_same _ (λ (a : Activation). is_live c.args.dead.now a.version) _ (λ x b f' called. search rules) _ _ c.retain.ensures.filtered in
+    let is = filter_same _ (λ (a : Activation). is_live c.args.dead.now a.version) _
+    (λ x b f' called. search rules) _ _ c.retain.ensures.filtered in
     rising_filter (λ (a : Activation). a.version) (is_live c.args.dead.now) _ _ c.into_vec-items.ensures.rising is
 
 pub returns : goal.returns
 returns c =
-    let is = filter_same _ (λ (a : Activation). is_live c.args.dead.now a.version) _ (λ x b f' called. search rules) _ _ c.retain.ensures.filtered in
-    c.from_vec.ensures ∙ is ∙ ap (λ (xs : List Activation). filter (λ (a : Activation). is_live c.args.dead.now a.version) xs) c.into_vec-items.ensures.value
+    let is = filter_same _ (λ (a : Activation). is_live c.args.dead.now a.version) _
+    (λ x b f' called. search rules) _ _ c.retain.ensures.filtered in
+    c.from_vec.ensures ∙ is ∙ ap (λ (xs : List Activation).
+    filter (λ (a : Activation). is_live c.args.dead.now a.version) xs) c.into_vec-items.ensures.value

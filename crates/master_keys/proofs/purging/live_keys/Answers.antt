@@ -7,5 +7,7 @@ use Rattle.master_keys.proofs.purging.live_keys.Goals as goal
 
 pub returns : goal.returns
 returns c =
-    let is = filter_same _ (λ (k : KeyItem). is_live c.args.dead.now k.kvno) _ (λ x b f' called. search rules) _ _ c.retain.ensures.filtered in
-    c.from_vec.ensures ∙ is ∙ ap (λ (xs : List KeyItem). filter (λ (k : KeyItem). is_live c.args.dead.now k.kvno) xs) c.into_vec-items.ensures
+    let is = filter_same _ (λ (k : KeyItem). is_live c.args.dead.now k.kvno) _
+    (λ x b f' called. search rules) _ _ c.retain.ensures.filtered in
+    c.from_vec.ensures ∙ is
+    ∙ ap (λ (xs : List KeyItem). filter (λ (k : KeyItem). is_live c.args.dead.now k.kvno) xs) c.into_vec-items.ensures

@@ -22,7 +22,12 @@ returns c =
     let etype = new_etype c.args.asked c.in-Some.newest in
     let etype_is : c.new_etype-etype.result ≡ etype = search rules in
     let newest_is : last_or None g.masters.now ≡ Some c.in-Some.newest = sym c.newest_master.ensures ∙ c.in-Some.is in
-    let key_is : c.from_bytes-key.result ≡ (new_master etype g.random.now g.masters.now).key = made_key g.random.now g.masters.now etype c.from_bytes-key.result (search rules) (search rules) in
+    let key_is : c.from_bytes-key.result ≡ (new_master etype g.random.now g.masters.now).key =
+    made_key g.random.now g.masters.now etype c.from_bytes-key.result (search rules) (search rules) in
     let bytes_are : c.confounders-confounders.result ≡ confounders etype g.random.now = search rules in
-    added_comes g c.args.asked p c.in-Some.newest newest_is c.requires.front c.requires.entry (c.in_ok-holds_chain.ensures.yes (search rules)) c.from_bytes-key.result c.confounders-confounders.result key_is bytes_are
-    c.in_ok-made.made c.in_ok-made.masters c.in_ok-made.ensures.entry c.in_ok-made.ensures.masters c.in_ok-made.ensures.chain (c.in_ok-made.ensures.spelled (entry_row g p c.requires.entry).fits) c.put.result c.put.ensures
+    added_comes g c.args.asked p c.in-Some.newest newest_is c.requires.front c.requires.entry
+    (c.in_ok-holds_chain.ensures.yes (search rules)) c.from_bytes-key.result c.confounders-confounders.result
+    key_is bytes_are
+    c.in_ok-made.made c.in_ok-made.masters c.in_ok-made.ensures.entry c.in_ok-made.ensures.masters
+    c.in_ok-made.ensures.chain (c.in_ok-made.ensures.spelled (entry_row g p c.requires.entry).fits)
+    c.put.result c.put.ensures

@@ -7,5 +7,6 @@ abbrev pub invariant-loop-at : goal.invariant-loop-at
 invariant-loop-at l = record {
   long : length l.counts ≡ length l.fn.counts;
   left : drop l.at l.counts ≡ drop l.at l.fn.counts;
-  whole : take l.at l.counts ++ noted l.version (drop l.at l.masters) (drop l.at l.counts) ≡ noted l.version l.masters l.fn.counts;
+  whole : take l.at l.counts ++ noted l.version (drop l.at l.masters) (drop l.at l.counts)
+      ≡ noted l.version l.masters l.fn.counts;
 }

@@ -10,6 +10,8 @@ pub returns-in-Ok : goal.returns-in-Ok
 returns-in-Ok c =
     let realm = c.args.realm.now in
     let is = master_is realm c.requires in
-    let text : printed (master_parts realm) ≡ c.as_slice.result.now = sym (master_prints realm c.requires) ∙ (let a = c.as_slice.ensures in let b = c.in_ok-text.ensures in cc) in
+    let text : printed (master_parts realm) ≡ c.as_slice.result.now =
+    sym (master_prints realm c.requires) ∙ (let a = c.as_slice.ensures in let b = c.in_ok-text.ensures in cc) in
     c.word_spells_one_name.ensures c.as_slice.result.now realm c.in-Ok.name (master_parts realm) c.in-Ok.ensures.spelled
-    (subst (λ t. Spells t realm (master_parts realm)) text (c.printed_form_spells_the_name.ensures (master_parts realm) realm is))
+    (subst (λ t. Spells t realm (master_parts realm)) text
+    (c.printed_form_spells_the_name.ensures (master_parts realm) realm is))

@@ -11,7 +11,8 @@ returns-then-is_empty c =
     let rows_are : c.in_ok-rows-in-None.rows ≡ versions_told (grounds_of g part.activations) = search rules in
     let dead_are : c.in_ok-dead-in-None.dead.items ≡ dead_told c.in_ok-rows-in-None.rows = search rules in
     let none : c.in_ok-dead-in-None.dead.items ≡ [] = empty_list c.in_ok-dead-in-None.dead.items (search rules) in
-    purge_answers g c.in_ok-why.field-0 c.in_ok-why.ensures c.in-None.is c.in_ok-entry-in-None.entry.now c.in_ok-entry-in-None.ensures c.in_ok-rows-in-None.rows c.in_ok-dead-in-None.dead.items
+    purge_answers g c.in_ok-why.field-0 c.in_ok-why.ensures c.in-None.is c.in_ok-entry-in-None.entry.now
+    c.in_ok-entry-in-None.ensures c.in_ok-rows-in-None.rows c.in_ok-dead-in-None.dead.items
     (record { part = part; part_is = c.in_ok-part-in-None.ensures; rows_are = rows_are; dead_are = dead_are }) none
 
 pub returns-in-Some : goal.returns-in-Some

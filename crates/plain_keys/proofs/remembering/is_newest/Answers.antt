@@ -10,4 +10,5 @@ unfolding newest_keys
 returns c =
     c.any_item.ensures
     ∙ ap (λ kvno. list_any (is_item kvno c.args.key.now) c.args.items.now) c.newest_kvno.ensures
-    ∙ any_kept (λ other. is_same_key other c.args.key.now) (λ k. k.key) (has_kvno (newest_kvno c.args.items.now)) c.args.items.now
+    ∙ any_kept (λ other. is_same_key other c.args.key.now) (λ k. k.key)
+    (has_kvno (newest_kvno c.args.items.now)) c.args.items.now

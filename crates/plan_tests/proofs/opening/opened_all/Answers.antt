@@ -13,6 +13,8 @@ returns-in-Some c =
     let is_b : b ≡ get_or xs 1 b = search rules in
     let is_d : d ≡ get_or xs 2 d = search rules in
     let three : length xs ≡ 3 = search rules in
-    let made : c.in-Some.princs ≡ c.in_ok-first.first ∷ c.in_ok-second.second ∷ c.in_ok-third.third ∷ [] = search rules in
-    three_alone c.args.masters.now xs c.in-Some.princs a b d c.in_ok-first.first c.in_ok-second.second c.in_ok-third.third (three_of xs a b d three is_a is_b is_d) made
+    let made : c.in-Some.princs ≡ c.in_ok-first.first ∷ c.in_ok-second.second ∷ c.in_ok-third.third ∷ [] =
+    search rules in
+    three_alone c.args.masters.now xs c.in-Some.princs a b d c.in_ok-first.first c.in_ok-second.second
+    c.in_ok-third.third (three_of xs a b d three is_a is_b is_d) made
     c.in_ok-first.ensures c.in_ok-second.ensures c.in_ok-third.ensures

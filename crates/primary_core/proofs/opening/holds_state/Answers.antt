@@ -13,4 +13,5 @@ returns c =
     let j = judged c.args.masters.now p.realm (point_of p).time.secs in
     shown_soundly p c.args.masters.now c.requires
     (c.sound_rows_show_one_state.ensures.shows j p.rows (point_of p)
-    (subst AreRows c.rows.ensures c.princs-princs.ensures.rows) (subst IsRealm (c.as_slice-realm.ensures.value ∙ c.realm.ensures) c.as_slice-realm.ensures.realm) c.requires.sound)
+    (subst AreRows c.rows.ensures c.princs-princs.ensures.rows)
+    (subst IsRealm (c.as_slice-realm.ensures.value ∙ c.realm.ensures) c.as_slice-realm.ensures.realm) c.requires.sound)

@@ -1,4 +1,5 @@
-use Rattle.primary_events.proofs.Returning.{ask_returns, call_returns, line_returns, load_returns, reset_returns, stash_returns}
+use Rattle.primary_events.proofs.Returning.{ask_returns, call_returns, line_returns}
+use Rattle.primary_events.proofs.Returning.{load_returns, reset_returns, stash_returns}
 use Rattle.primary_events.proofs.laws.calls_return.Goals as goal
 
 pub returns-clause-made : goal.returns-clause-made

@@ -17,7 +17,8 @@ pub returns-clause-read_stopped : goal.returns-clause-read_stopped
 returns-clause-read_stopped g c = λ tells s each. each _ (g.met.D.Disk.reads_as_image c.args.«_disk».now tells)
 
 pub returns-clause-kept : goal.returns-clause-kept
-returns-clause-kept g c = λ o s h on c_ image. images_kept (g.D.Disk.view c.args.«_disk».now) o s c_ h (c.what_is_kept_is_recovered.ensures o.kept on) image
+returns-clause-kept g c = λ o s h on c_ image.
+    images_kept (g.D.Disk.view c.args.«_disk».now) o s c_ h (c.what_is_kept_is_recovered.ensures o.kept on) image
 
 pub returns-clause-destroyed : goal.returns-clause-destroyed
 returns-clause-destroyed g c = images_end (g.D.Disk.view c.args.«_disk».now)
@@ -29,7 +30,9 @@ pub returns-clause-created : goal.returns-clause-created
 returns-clause-created g c = images_made (g.D.Disk.view c.args.«_disk».now)
 
 pub returns-clause-opened : goal.returns-clause-opened
-returns-clause-opened g c = λ s c_ h f size room clock each may leaves. images_opened IsQuiet stop_quiet (g.D.Disk.view c.args.«_disk».now) s _ c_ h f size room clock _ may.found each may leaves
+returns-clause-opened g c = λ s c_ h f size room clock each may leaves. images_opened IsQuiet stop_quiet
+    (g.D.Disk.view c.args.«_disk».now) s _ c_ h f size room clock _ may.found each may leaves
 
 pub returns-clause-opened_stopped : goal.returns-clause-opened_stopped
-returns-clause-opened_stopped g c = λ s c_ h f size room clock each may leaves. images_opened IsStop (λ event stop. stop) (g.D.Disk.view c.args.«_disk».now) s _ c_ h f size room clock _ may.found each may leaves
+returns-clause-opened_stopped g c = λ s c_ h f size room clock each may leaves. images_opened IsStop
+    (λ event stop. stop) (g.D.Disk.view c.args.«_disk».now) s _ c_ h f size room clock _ may.found each may leaves

@@ -15,14 +15,18 @@ returns-in-Ok-check_lines-clause-complete c masters taken = c.in-Ok.ensures.comp
 
 pub returns-in-Ok-check_lines-clause-only_refused : goal.returns-in-Ok-check_lines-clause-only_refused
 returns-in-Ok-check_lines-clause-only_refused c why cause =
-    sound_refuses (option_map (λ s. s.now) c.args.stash) c.args.file c.args.realm.now c.args.secs c.args.rows.now c.in-Ok.masters
-    (λ masters o. c.in-Ok.ensures.complete masters o) (λ w known. c.in-Ok.ensures.only_refused w known) why c.in-Ok-check_lines.ensures.sound cause
+    sound_refuses (option_map (λ s. s.now) c.args.stash) c.args.file c.args.realm.now c.args.secs c.args.rows.now
+    c.in-Ok.masters
+    (λ masters o. c.in-Ok.ensures.complete masters o) (λ w known. c.in-Ok.ensures.only_refused w known) why
+    c.in-Ok-check_lines.ensures.sound cause
 
 pub returns-in-Err-check_lines-clause-complete : goal.returns-in-Err-check_lines-clause-complete
 returns-in-Err-check_lines-clause-complete c masters taken =
-    unsound_gives (option_map (λ s. s.now) c.args.stash) c.args.file c.args.realm.now c.args.secs c.args.rows.now c.in-Ok.masters
+    unsound_gives (option_map (λ s. s.now) c.args.stash) c.args.file c.args.realm.now c.args.secs c.args.rows.now
+    c.in-Ok.masters
     (λ ms o. c.in-Ok.ensures.complete ms o) (λ w known. c.in-Ok.ensures.only_refused w known) c.in-Err-check_lines.stop
-    (λ w e. c.check_lines.ensures.refused w (c.in-Err-check_lines.is ∙ ap Err e)) (λ halt e. c.check_lines.ensures.halted halt (c.in-Err-check_lines.is ∙ ap Err e))
+    (λ w e. c.check_lines.ensures.refused w (c.in-Err-check_lines.is ∙ ap Err e))
+    (λ halt e. c.check_lines.ensures.halted halt (c.in-Err-check_lines.is ∙ ap Err e))
     masters taken
 
 pub returns-in-Err-check_lines-clause-refused : goal.returns-in-Err-check_lines-clause-refused
@@ -34,7 +38,9 @@ returns-in-Err-check_lines-clause-refused c why e = inr (record {
 
 pub returns-in-Err-check_lines-clause-only_refused : goal.returns-in-Err-check_lines-clause-only_refused
 returns-in-Err-check_lines-clause-only_refused c why cause =
-    unsound_refuses (option_map (λ s. s.now) c.args.stash) c.args.file c.args.realm.now c.args.secs c.args.rows.now c.in-Ok.masters
+    unsound_refuses (option_map (λ s. s.now) c.args.stash) c.args.file c.args.realm.now c.args.secs c.args.rows.now
+    c.in-Ok.masters
     (λ ms o. c.in-Ok.ensures.complete ms o) (λ w known. c.in-Ok.ensures.only_refused w known) c.in-Err-check_lines.stop
-    (λ w e. c.check_lines.ensures.refused w (c.in-Err-check_lines.is ∙ ap Err e)) (λ halt e. c.check_lines.ensures.halted halt (c.in-Err-check_lines.is ∙ ap Err e))
+    (λ w e. c.check_lines.ensures.refused w (c.in-Err-check_lines.is ∙ ap Err e))
+    (λ halt e. c.check_lines.ensures.halted halt (c.in-Err-check_lines.is ∙ ap Err e))
     why cause

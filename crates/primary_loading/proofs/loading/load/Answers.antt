@@ -9,23 +9,27 @@ use Rattle.primary_loading.proofs.loading.load.Goals as goal
 pub returns-in-Ok-clause-does : goal.returns-in-Ok-clause-does
 returns-in-Ok-clause-does g c s answer =
     if_does _ _ c.put_rows.result c.args.primary.now c.put_rows.new.primary c.args.dump.rows c.args.now s answer
-    (if_loads _ _ c.put_rows.result c.args.primary.now c.put_rows.new.primary c.args.dump.rows c.in-Ok.masters c.in-Ok.base c.args.now c.in-Ok.ensures.base
+    (if_loads _ _ c.put_rows.result c.args.primary.now c.put_rows.new.primary c.args.dump.rows c.in-Ok.masters
+    c.in-Ok.base c.args.now c.in-Ok.ensures.base
     c.in-Ok.ensures.may.left c.put_rows.ensures.filled)
 
 pub returns-in-Ok-clause-complete : goal.returns-in-Ok-clause-complete
 returns-in-Ok-clause-complete g c masters may =
-    filled_with c.put_rows.result c.args.primary.now c.put_rows.new.primary c.args.dump.rows c.in-Ok.masters c.in-Ok.base masters c.put_rows.ensures.filled
+    filled_with c.put_rows.result c.args.primary.now c.put_rows.new.primary c.args.dump.rows c.in-Ok.masters
+    c.in-Ok.base masters c.put_rows.ensures.filled
     c.put_rows.ensures.refused (c.in-Ok.ensures.complete masters may)
 
 pub returns-in-Ok-clause-crash : goal.returns-in-Ok-clause-crash
 returns-in-Ok-clause-crash g c s whole = record {
   told = λ t. weaken (c.put_rows.ensures.crash.told t)
-      (λ f l. load_leaves (place_of c.args.primary.now) c.args.dump.rows c.in-Ok.masters c.in-Ok.base c.args.now c.in-Ok.ensures.base c.in-Ok.ensures.may.left s f
+      (λ f l. load_leaves (place_of c.args.primary.now) c.args.dump.rows c.in-Ok.masters c.in-Ok.base c.args.now
+      c.in-Ok.ensures.base c.in-Ok.ensures.may.left s f
       c.put_rows.ensures.shown l);
 }
 
 pub returns-in-Err-clause-complete : goal.returns-in-Err-clause-complete
-returns-in-Err-clause-complete g c masters may = halt_loads (List Master) c.in-Err.stop c.args.primary.now.masters masters (c.in-Err.ensures.complete masters may)
+returns-in-Err-clause-complete g c masters may =
+    halt_loads (List Master) c.in-Err.stop c.args.primary.now.masters masters (c.in-Err.ensures.complete masters may)
 
 pub returns-in-Err-clause-crash : goal.returns-in-Err-clause-crash
 returns-in-Err-clause-crash g c s whole = record {

@@ -7,13 +7,18 @@ use Rattle.primary_rekeying.specs.Moving.{is_updated}
 use Rattle.rekey_work.specs.declared.works.Settled.TheVariants.{Gone}
 
 pub returns-in-Ok-clause-does : goal.returns-in-Ok-clause-does
-returns-in-Ok-clause-does g c = λ s who answer whole has named e. c.finish.ensures.does s (RekeyedNow who c.args.now c.args.random.now) answer refl has (c.in-Ok.ensures.found_out who named) e
+returns-in-Ok-clause-does g c = λ s who answer whole has named e. c.finish.ensures.does s
+    (RekeyedNow who c.args.now c.args.random.now) answer refl has (c.in-Ok.ensures.found_out who named) e
 
 pub returns-in-Ok-clause-state : goal.returns-in-Ok-clause-state
-returns-in-Ok-clause-state g c = λ s who answer whole has named e. c.finish.ensures.state s (RekeyedNow who c.args.now c.args.random.now) answer refl has (c.in-Ok.ensures.found_out who named) e
+returns-in-Ok-clause-state g c = λ s who answer whole has named e. c.finish.ensures.state s
+    (RekeyedNow who c.args.now c.args.random.now) answer refl has (c.in-Ok.ensures.found_out who named) e
 
 pub returns-in-Err-clause-crash : goal.returns-in-Err-clause-crash
-returns-in-Err-clause-crash g c = λ s who whole has named. record { told = λ t. started _ _ (λ f i. stays c.args.primary.now s (RekeyedNow who c.args.now c.args.random.now) f (c.what_is_kept_is_recovered.ensures _ (c.requires.on t whole) f i)) }
+returns-in-Err-clause-crash g c = λ s who whole has named. record {
+  told = λ t. started _ _ (λ f i. stays c.args.primary.now s (RekeyedNow who c.args.now c.args.random.now) f
+      (c.what_is_kept_is_recovered.ensures _ (c.requires.on t whole) f i));
+}
 
 pub returns-in-Ok-clause-absent : goal.returns-in-Ok-clause-absent
 returns-in-Ok-clause-absent g c = λ whole none more.

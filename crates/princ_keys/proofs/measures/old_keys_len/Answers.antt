@@ -6,4 +6,5 @@ pub measure_all-requires-clause-small : goal.measure_all-requires-clause-small
 measure_all-requires-clause-small c = omega (arith, old_keys_short c.args.keys.now c.requires.count c.requires.fit)
 
 pub returns-clause-small : goal.returns-clause-small
-returns-clause-small c = omega (arith, c.measure_all.ensures, old_keys_short c.args.keys.now c.requires.count c.requires.fit)
+returns-clause-small c =
+    omega (arith, c.measure_all.ensures, old_keys_short c.args.keys.now c.requires.count c.requires.fit)

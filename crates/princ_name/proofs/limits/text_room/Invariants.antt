@@ -4,4 +4,5 @@ use Rattle.princ_name.specs.Names.{printed_text}
 use Rattle.princ_name.proofs.limits.text_room.Given as goal
 
 abbrev pub invariant-loop-byte : goal.invariant-loop-byte
-invariant-loop-byte l = l.left + length (printed_text l.text) ≡ l.fn.room + length (printed_text (drop l.byte-index l.text))
+invariant-loop-byte l =
+    l.left + length (printed_text l.text) ≡ l.fn.room + length (printed_text (drop l.byte-index l.text))

@@ -12,16 +12,24 @@ loop-place-init c = found_none c.none-found.result c.none-found.ensures
 
 pub loop-place-preserved : goal.loop-place-preserved
 loop-place-preserved c = elim c.if-any.branch [
-  | then-any w ↦ subst (λ (f : Found). IsFound (wild_places 0 (take (c.loop-place.place + 1) c.args.parts.now)) f) (sym w.found-is)
-      (found_wild c.args.parts.now c.loop-place.place _ c.index-parts-place.result c.loop-place.found _ c.loop-place-test.true c.index-parts-place.is (sym c.is_any-any.ensures ∙ w.if-any.true) refl c.loop-place.invariant w.add.ensures)
-  | else-any w ↦ subst (λ (f : Found). IsFound (wild_places 0 (take (c.loop-place.place + 1) c.args.parts.now)) f) (sym w.found-is)
-      (found_plain c.args.parts.now c.loop-place.place c.index-parts-place.result c.loop-place.found c.loop-place-test.true c.index-parts-place.is (sym c.is_any-any.ensures ∙ w.if-any.false) c.loop-place.invariant)
+  | then-any w ↦
+      subst (λ (f : Found). IsFound (wild_places 0 (take (c.loop-place.place + 1) c.args.parts.now)) f) (sym w.found-is)
+      (found_wild c.args.parts.now
+      c.loop-place.place _ c.index-parts-place.result c.loop-place.found _ c.loop-place-test.true c.index-parts-place.is
+      (sym c.is_any-any.ensures ∙ w.if-any.true) refl c.loop-place.invariant w.add.ensures)
+  | else-any w ↦
+      subst (λ (f : Found). IsFound (wild_places 0 (take (c.loop-place.place + 1) c.args.parts.now)) f) (sym w.found-is)
+      (found_plain c.args.parts.now c.loop-place.place c.index-parts-place.result c.loop-place.found
+      c.loop-place-test.true c.index-parts-place.is (sym c.is_any-any.ensures ∙ w.if-any.false) c.loop-place.invariant)
 ]
 
 pub returns : goal.returns
 returns c = elim c.if-any_realm.branch [
   | then-any_realm w ↦ ap (λ (f : Found). f.at) w.found-is
-      ∙ (realm_wild c.args.parts.now c.loop-place.place _ c.args.realm.now c.loop-place.found _ c.loop-place-test.false (sym c.is_any-any_realm.ensures ∙ w.if-any_realm.true) refl c.loop-place.invariant w.add-then-any_realm.ensures).at_is
+      ∙ (realm_wild c.args.parts.now c.loop-place.place _ c.args.realm.now c.loop-place.found _ c.loop-place-test.false
+      (sym c.is_any-any_realm.ensures ∙ w.if-any_realm.true) refl c.loop-place.invariant
+      w.add-then-any_realm.ensures).at_is
   | else-any_realm w ↦ ap (λ (f : Found). f.at) w.found-is
-      ∙ (realm_plain c.args.parts.now c.loop-place.place c.args.realm.now c.loop-place.found c.loop-place-test.false (sym c.is_any-any_realm.ensures ∙ w.if-any_realm.false) c.loop-place.invariant).at_is
+      ∙ (realm_plain c.args.parts.now c.loop-place.place c.args.realm.now c.loop-place.found c.loop-place-test.false
+      (sym c.is_any-any_realm.ensures ∙ w.if-any_realm.false) c.loop-place.invariant).at_is
 ]

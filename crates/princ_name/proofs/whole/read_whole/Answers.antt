@@ -32,7 +32,8 @@ unfolding fault_place
 place_end word offset none same = rw none (sym same)
 
 pub returns-in-Err-clause-only : goal.returns-in-Err-clause-only
-returns-in-Err-clause-only c = λ parts realm h _. fault_only c.args.word.now (given_part c.args.given.now) realm parts c.in-Err.fault (λ offset is. c.in-Err.ensures.fault offset (ap Err is)) h
+returns-in-Err-clause-only c = λ parts realm h _. fault_only c.args.word.now
+    (given_part c.args.given.now) realm parts c.in-Err.fault (λ offset is. c.in-Err.ensures.fault offset (ap Err is)) h
 
 pub returns-in-Err-clause-place : goal.returns-in-Err-clause-place
 returns-in-Err-clause-place c = λ offset is.
@@ -46,25 +47,30 @@ returns-in-Err-with_realm-clause-only c = λ parts realm h _. tt
 pub printed_len-requires-clause-some : goal.printed_len-requires-clause-some
 printed_len-requires-clause-some c =
     let shape = c.in-Ok-with_realm.ensures c.args.word.now c.in-Ok.ensures.said in
-    subst (λ (ps : List Part). ps ≢ []) (sym c.deref.ensures.value) (shape_stands c.args.word.now c.args.given.now _ _ _ shape).0
+    subst (λ (ps : List Part). ps ≢ []) (sym c.deref.ensures.value)
+    (shape_stands c.args.word.now c.args.given.now _ _ _ shape).0
 
 pub printed_len-requires-clause-bytes : goal.printed_len-requires-clause-bytes
 printed_len-requires-clause-bytes c =
     let shape = c.in-Ok-with_realm.ensures c.args.word.now c.in-Ok.ensures.said in
-    subst (λ (ps : List Part). list_all (list_all can_stand) (map (λ p. p.text) ps) ≡ true) (sym c.deref.ensures.value) (shape_stands c.args.word.now c.args.given.now _ _ _ shape).1
+    subst (λ (ps : List Part). list_all (list_all can_stand) (map (λ p. p.text) ps) ≡ true) (sym c.deref.ensures.value)
+    (shape_stands c.args.word.now c.args.given.now _ _ _ shape).1
 
 pub returns-in-Some-clause-only : goal.returns-in-Some-clause-only
 unfolding AnswersParts
 returns-in-Some-clause-only c = λ parts realm h _.
     let shape = c.in-Ok-with_realm.ensures c.args.word.now c.in-Ok.ensures.said in
-    same_shape c.args.word.now (given_part c.args.given.now) _ realm _ parts (at_word c.args.word.now c.args.given.now _ _ _ shape) h
+    same_shape c.args.word.now (given_part c.args.given.now) _ realm _ parts
+    (at_word c.args.word.now c.args.given.now _ _ _ shape) h
 
 pub returns-in-None-clause-only : goal.returns-in-None-clause-only
 unfolding AnswersParts
 returns-in-None-clause-only c = λ parts realm h name.
     let shape = c.in-Ok-with_realm.ensures c.args.word.now c.in-Ok.ensures.said in
-    let same = same_shape c.args.word.now (given_part c.args.given.now) _ realm _ parts (at_word c.args.word.now c.args.given.now _ _ _ shape) h in
-    c.in-None.ensures.none refl (subst (λ (ps : List Part). IsName (name_of ps c.in-Ok-with_realm.shape.realm)) (sym same.0 ∙ sym c.deref.ensures.value)
+    let same = same_shape c.args.word.now (given_part c.args.given.now) _ realm _ parts
+    (at_word c.args.word.now c.args.given.now _ _ _ shape) h in
+    c.in-None.ensures.none refl (subst (λ (ps : List Part). IsName (name_of ps c.in-Ok-with_realm.shape.realm))
+    (sym same.0 ∙ sym c.deref.ensures.value)
     (subst (λ (r : Part). IsName (name_of parts r)) (sym same.1) name))
 
 pub returns-in-None-clause-place : goal.returns-in-None-clause-place

@@ -13,8 +13,10 @@ none_is None h = refl
 none_is (Some n) h = absurd (cc)
 
 pub returns-then-is_some : goal.returns-then-is_some
-returns-then-is_some c = λ word h. shape_own word c.args.given.now _ _ _ _ _ (some_not _ (sym c.is_some.ensures ∙ c.if-is_some.true)) refl refl h
+returns-then-is_some c = λ word h.
+    shape_own word c.args.given.now _ _ _ _ _ (some_not _ (sym c.is_some.ensures ∙ c.if-is_some.true)) refl refl h
 
 pub returns : goal.returns
-returns c = λ word h. shape_given word c.args.given.now _ _ _ _ _ (none_is _ (sym c.is_some.ensures ∙ c.if-is_some.false))
+returns c =
+    λ word h. shape_given word c.args.given.now _ _ _ _ _ (none_is _ (sym c.is_some.ensures ∙ c.if-is_some.false))
     c.in_ok-push.ensures.items (ap (λ (t : List ℕ). given_part t) c.in_ok-text.ensures) h

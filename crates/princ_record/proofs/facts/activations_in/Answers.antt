@@ -6,4 +6,5 @@ use Rattle.princ_record.proofs.facts.activations_in.Goals as goal
 pub from_vec-requires : goal.from_vec-requires
 from_vec-requires c =
     rising_is (map (λ (x : Activation). x.version) c.in_ok-items.items.items)
-    (ap (λ (xs : List Activation). rising_from 0 (map (λ (x : Activation). x.version) xs)) (sym c.deref.ensures.value) ∙ sym c.are_rising.ensures ∙ c.if-not-are_rising.false)
+    (ap (λ (xs : List Activation). rising_from 0 (map (λ (x : Activation). x.version) xs)) (sym c.deref.ensures.value)
+    ∙ sym c.are_rising.ensures ∙ c.if-not-are_rising.false)

@@ -8,8 +8,10 @@ use Rattle.princ_record.proofs.measures.encoded_len.Goals as goal
 
 pub returns : goal.returns
 returns c =
-    let keys : c.keys_len.result ≡ sum_by key_len c.args.value.now.keys = c.keys_len.ensures.value ∙ ap (λ (xs : List KeyItem). sum_by key_len xs) c.as_slice.ensures in
-    let sets : c.sets_len.result ≡ sum_by old_set_len c.args.value.now.old = c.sets_len.ensures.value ∙ ap (λ (xs : List OldSet). sum_by old_set_len xs) c.as_slice-2.ensures in
+    let keys : c.keys_len.result ≡ sum_by key_len c.args.value.now.keys =
+    c.keys_len.ensures.value ∙ ap (λ (xs : List KeyItem). sum_by key_len xs) c.as_slice.ensures in
+    let sets : c.sets_len.result ≡ sum_by old_set_len c.args.value.now.old =
+    c.sets_len.ensures.value ∙ ap (λ (xs : List OldSet). sum_by old_set_len xs) c.as_slice-2.ensures in
     omega (
       arith,
       length-princ c.args.value.now,

@@ -10,4 +10,5 @@ returns-clause-princs c = λ b r f. without_is_filter (λ (p : Princ). p.name) (
 
 pub returns-clause-policies : goal.returns-clause-policies
 unfolding finished
-returns-clause-policies c = λ b r f. without_is_filter (λ (p : Rules). p.name) (dropped_policy b) r.policies f.policy_order
+returns-clause-policies c =
+    λ b r f. without_is_filter (λ (p : Rules). p.name) (dropped_policy b) r.policies f.policy_order

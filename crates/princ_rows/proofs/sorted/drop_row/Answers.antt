@@ -5,8 +5,10 @@ use Rattle.princ_rows.proofs.sorted.drop_row.Goals as goal
 pub returns-in-Ok : goal.returns-in-Ok
 returns-in-Ok g c =
     c.remove.ensures.items
-    ∙ drop_found g.T.Keyed.key_of c.args.items.now.items c.deref.result.now c.args.key.now c.in-Ok.at c.deref.ensures.value c.requires (c.in-Ok.ensures.found c.in-Ok.at refl)
+    ∙ drop_found g.T.Keyed.key_of c.args.items.now.items c.deref.result.now c.args.key.now c.in-Ok.at
+    c.deref.ensures.value c.requires (c.in-Ok.ensures.found c.in-Ok.at refl)
 
 pub returns-in-Err : goal.returns-in-Err
 returns-in-Err g c =
-    drop_absent g.T.Keyed.key_of c.args.items.now.items c.deref.result.now c.args.key.now c.in-Err.field-0 c.deref.ensures.value (c.in-Err.ensures.absent c.in-Err.field-0 refl)
+    drop_absent g.T.Keyed.key_of c.args.items.now.items c.deref.result.now c.args.key.now c.in-Err.field-0
+    c.deref.ensures.value (c.in-Err.ensures.absent c.in-Err.field-0 refl)

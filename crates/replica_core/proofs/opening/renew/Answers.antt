@@ -6,5 +6,6 @@ use Rattle.replica_core.proofs.opening.renew.Goals as goal
 
 pub returns-then-is_same-clause-crash : goal.returns-then-is_same-clause-crash
 returns-then-is_same-clause-crash g c = record {
-  told = λ tells. nothing_leaves c.args.database.now (reopened c.args.size (Some (place_kept c.args.database.now))) (g.D.Disk.view c.args.disk.now) (c.requires.on tells);
+  told = λ tells. nothing_leaves c.args.database.now (reopened c.args.size (Some (place_kept c.args.database.now)))
+      (g.D.Disk.view c.args.disk.now) (c.requires.on tells);
 }

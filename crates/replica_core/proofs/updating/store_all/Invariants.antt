@@ -18,7 +18,8 @@ invariant-loop-update g l = record {
   sized : IsSized (place_kept l.fn.database) (place_kept l.database);
   whole : l.database.broken ≡ false;
   on : g.D.Disk.tells → IsOnDisk l.database (g.D.Disk.view l.disk);
-  crash : g.D.Disk.tells → LeavesOnly (g.D.Disk.view l.fn.disk) (g.D.Disk.view l.disk) (LeavesPart (place_kept l.fn.database) (all_updated (place_kept l.fn.database).size l.fn.updates (place_kept l.fn.database)));
+  crash : g.D.Disk.tells → LeavesOnly (g.D.Disk.view l.fn.disk) (g.D.Disk.view l.disk) (LeavesPart
+      (place_kept l.fn.database) (all_updated (place_kept l.fn.database).size l.fn.updates (place_kept l.fn.database)));
   same : g.D.Disk.loans l.disk ≡ g.D.Disk.loans l.fn.disk;
   faults : g.D.Disk.faults l.fn.disk ≤ g.D.Disk.faults l.disk;
 }

@@ -17,4 +17,5 @@ returns-clause-items c =
 
 pub returns-clause-shows : goal.returns-clause-shows
 returns-clause-shows c master plain h =
-    subst (λ (xs : List KeyItem). AllZip (ShowsItem master) xs (keys_from c.args.kvno plain)) (sym (returns-clause-items c)) (from_shows master c.args.kvno c.args.keys plain h)
+    subst (λ (xs : List KeyItem). AllZip (ShowsItem master) xs (keys_from c.args.kvno plain))
+    (sym (returns-clause-items c)) (from_shows master c.args.kvno c.args.keys plain h)

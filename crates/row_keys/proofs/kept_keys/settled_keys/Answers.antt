@@ -12,5 +12,7 @@ pub returns-clause-shows : goal.returns-clause-shows
 unfolding settled_keys
 returns-clause-shows c master plain h =
     let is : c.from_vec.result ≡ map (settled_kept c.args.name.now) c.args.items.now =
-    c.from_vec.ensures ∙ c.loop-item.invariant ∙ ap (λ (xs : List KeyItem). map (settled_kept c.args.name.now) xs) (take_all c.loop-item.item-index c.args.items.now (omega arith)) in
-    subst (λ (xs : List KeyItem). AllZip (ShowsItem master) xs (settled_items c.args.name.now plain)) (sym is) (settled_shows master c.args.name.now c.args.items.now plain h)
+    c.from_vec.ensures ∙ c.loop-item.invariant ∙ ap (λ (xs : List KeyItem). map (settled_kept c.args.name.now) xs)
+    (take_all c.loop-item.item-index c.args.items.now (omega arith)) in
+    subst (λ (xs : List KeyItem). AllZip (ShowsItem master) xs (settled_items c.args.name.now plain)) (sym is)
+    (settled_shows master c.args.name.now c.args.items.now plain h)

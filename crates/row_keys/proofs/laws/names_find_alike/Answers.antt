@@ -10,8 +10,10 @@ returns-clause-both c masters history princs plain name h = found_alike masters 
 
 pub returns-clause-found : goal.returns-clause-found
 returns-clause-found c masters history princs plain name p h e =
-    both_beside (ShowsPrinc masters history) (record_named name princs) (princ_named name plain) p (found_alike masters history princs plain h name) e
+    both_beside (ShowsPrinc masters history) (record_named name princs) (princ_named name plain) p
+    (found_alike masters history princs plain h name) e
 
 pub returns-clause-none : goal.returns-clause-none
 returns-clause-none c masters history princs plain name h e =
-    both_none (ShowsPrinc masters history) (record_named name princs) (princ_named name plain) (found_alike masters history princs plain h name) e
+    both_none (ShowsPrinc masters history) (record_named name princs) (princ_named name plain)
+    (found_alike masters history princs plain h name) e

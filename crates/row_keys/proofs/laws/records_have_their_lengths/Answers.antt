@@ -7,4 +7,5 @@ pub returns-clause-row : goal.returns-clause-row
 returns-clause-row c master history p q f none = omega (arith, row_long master history p q f, ap sizes.chain_len none)
 
 pub returns-clause-master : goal.returns-clause-master
-returns-clause-master c master history p q masters activations f chain = omega (arith, row_long master history p q f, chain_long masters activations p chain)
+returns-clause-master c master history p q masters activations f chain =
+    omega (arith, row_long master history p q f, chain_long masters activations p chain)

@@ -8,4 +8,5 @@ pub returns-clause-users : goal.returns-clause-users
 returns-clause-users c masters history princs plain name h = users_alike masters history princs plain h name
 
 pub returns-clause-protected : goal.returns-clause-protected
-returns-clause-protected c masters history princs plain realm version h = protected_alike masters history princs plain h realm version
+returns-clause-protected c masters history princs plain realm version h =
+    protected_alike masters history princs plain h realm version

@@ -8,4 +8,5 @@ pub returns-clause-shows : goal.returns-clause-shows
 unfolding remembered
 returns-clause-shows c plain h =
     rw (c.from_vec.ensures, c.truncate.ensures.items, c.from.ensures, c.saturating_sub.ensures)
-    (zip_take (ShowsSet c.args.history.now) (c.args.count - 1) c.in_ok-sets.sets.items (with_newest c.args.keys.now plain) (c.in_ok-sets.ensures.shows plain h))
+    (zip_take (ShowsSet c.args.history.now) (c.args.count - 1) c.in_ok-sets.sets.items
+    (with_newest c.args.keys.now plain) (c.in_ok-sets.ensures.shows plain h))

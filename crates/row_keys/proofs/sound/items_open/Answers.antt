@@ -14,7 +14,9 @@ pub loop-item-preserved : goal.loop-item-preserved
 loop-item-preserved c =
     let lt : c.loop-item.item-index < length c.args.items.now = omega arith in
     let h = c.in_ok-opened.ensures.yes (ap Ok c.if-not-opened.false) in
-    each_more (HoldsOne c.args.master.now) c.args.items.now c.loop-item.item-index c.item-item.result lt c.item-item.is (h.0, same_blob _ _ (sym c.as_slice.ensures) h.1) c.loop-item.invariant
+    each_more (HoldsOne c.args.master.now) c.args.items.now c.loop-item.item-index c.item-item.result lt c.item-item.is
+    (h.0, same_blob _ _ (sym c.as_slice.ensures) h.1) c.loop-item.invariant
 
 pub returns-clause-yes : goal.returns-clause-yes
-returns-clause-yes c e = each_all (HoldsOne c.args.master.now) c.args.items.now c.loop-item.item-index (omega arith) c.loop-item.invariant
+returns-clause-yes c e =
+    each_all (HoldsOne c.args.master.now) c.args.items.now c.loop-item.item-index (omega arith) c.loop-item.invariant

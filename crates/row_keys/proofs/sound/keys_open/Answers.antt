@@ -9,10 +9,12 @@ pub returns-in-Some-clause-yes : goal.returns-in-Some-clause-yes
 returns-in-Some-clause-yes c e = record {
   master = c.in-Some.master.now;
   named = sym c.in-Some.ensures;
-  keys = subst (λ (ks : List KeyItem). All (HoldsOne c.in-Some.master.now) ks) c.as_slice.ensures (c.items_open.ensures.yes e);
+  keys = subst (λ (ks : List KeyItem). All (HoldsOne c.in-Some.master.now) ks) c.as_slice.ensures
+      (c.items_open.ensures.yes e);
 }
 
 pub returns-in-Some-clause-no : goal.returns-in-Some-clause-no
 returns-in-Some-clause-no c e o =
     c.items_open.ensures.no e
-    (subst (λ (ks : List KeyItem). All (HoldsOne c.in-Some.master.now) ks) (sym c.as_slice.ensures) (keys_under c.args.ring.now c.args.princ.now c.in-Some.master.now (sym c.in-Some.ensures) o))
+    (subst (λ (ks : List KeyItem). All (HoldsOne c.in-Some.master.now) ks) (sym c.as_slice.ensures)
+    (keys_under c.args.ring.now c.args.princ.now c.in-Some.master.now (sym c.in-Some.ensures) o))

@@ -14,7 +14,9 @@ pub loop-key-preserved : goal.loop-key-preserved
 loop-key-preserved c =
     let lt : c.loop-key.key-index < length c.args.keys.now = omega arith in
     let h = c.in_ok-opened.ensures.yes (ap Ok c.if-not-opened.false) in
-    each_more (HoldsOldOne c.args.history.now) c.args.keys.now c.loop-key.key-index c.key-item.result lt c.key-item.is (h.0, same_blob _ _ (sym c.as_slice.ensures) h.1) c.loop-key.invariant
+    each_more (HoldsOldOne c.args.history.now) c.args.keys.now c.loop-key.key-index c.key-item.result lt c.key-item.is
+    (h.0, same_blob _ _ (sym c.as_slice.ensures) h.1) c.loop-key.invariant
 
 pub returns-clause-yes : goal.returns-clause-yes
-returns-clause-yes c e = each_all (HoldsOldOne c.args.history.now) c.args.keys.now c.loop-key.key-index (omega arith) c.loop-key.invariant
+returns-clause-yes c e =
+    each_all (HoldsOldOne c.args.history.now) c.args.keys.now c.loop-key.key-index (omega arith) c.loop-key.invariant

@@ -3,14 +3,19 @@ use Rattle.run_events.proofs.Ending.{on_end_down}
 use Rattle.run_events.proofs.laws.runs_are_events.Goals as goal
 
 pub returns-clause-moments : goal.returns-clause-moments
-returns-clause-moments g c = λ s words before after o result files b run left. c.runs_come.ensures.any s words before o files b (run.moments.each files left)
+returns-clause-moments g c = λ s words before after o result files b run left.
+    c.runs_come.ensures.any s words before o files b (run.moments.each files left)
 
 pub returns-clause-images : goal.returns-clause-images
-returns-clause-images g c = λ s words before after o result files b run image. c.runs_come.ensures.any s words before o files b (at_end run.moments files image)
+returns-clause-images g c = λ s words before after o result files b run image.
+    c.runs_come.ensures.any s words before o files b (at_end run.moments files image)
 
 pub returns-clause-rests : goal.returns-clause-rests
 returns-clause-rests g c = λ s words before after o result b run.
-    record { history = b.rests.history; each = λ files image. c.runs_come.ensures.any s words before o files b (at_end run.moments files image) }
+    record {
+      history = b.rests.history;
+      each = λ files image. c.runs_come.ensures.any s words before o files b (at_end run.moments files image);
+    }
 
 pub returns-clause-ended : goal.returns-clause-ended
 returns-clause-ended g c = λ tells s words before after o result end b run same is.

@@ -5,7 +5,8 @@ pub returns-clause-add : goal.returns-clause-add
 returns-clause-add c = λ time s entry m f there lt. add_valid time s entry f there m lt
 
 pub returns-clause-activate : goal.returns-clause-activate
-returns-clause-activate c = λ time s entry version secs f there is begun. use_valid time s entry f there version secs is begun
+returns-clause-activate c =
+    λ time s entry version secs f there is begun. use_valid time s entry f there version secs is begun
 
 pub returns-clause-purge : goal.returns-clause-purge
 returns-clause-purge c = purge_valid

@@ -11,4 +11,5 @@ returns c =
     let label = c.args.label.now in
     c.write.ensures c.args.etype key c.new.ensures
     ∙ ap₂ (λ (one end : List ℕ). take (length c.args.into.now) (hmac_of c.args.etype key (one ++ (label ++ 0 ∷ end))))
-    c.to_be_bytes-2.ensures (append-nil c.copy_from_slice.new.self ∙ c.copy_from_slice.ensures.after ∙ c.to_be_bytes.ensures)
+    c.to_be_bytes-2.ensures (append-nil c.copy_from_slice.new.self ∙ c.copy_from_slice.ensures.after
+    ∙ c.to_be_bytes.ensures)

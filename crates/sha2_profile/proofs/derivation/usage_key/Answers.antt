@@ -7,4 +7,11 @@ pub returns : goal.returns
 unfolding usage_key
 returns c =
     let label = set_at c.copy_from_slice.new.self 0 [] c.args.purpose 4 c.copy_from_slice.ensures.len in
-    rw (c.kdf.ensures, c.etype.ensures, c.as_slice.ensures.value, label, c.copy_from_slice.ensures.after, c.to_be_bytes.ensures) refl
+    rw (
+      c.kdf.ensures,
+      c.etype.ensures,
+      c.as_slice.ensures.value,
+      label,
+      c.copy_from_slice.ensures.after,
+      c.to_be_bytes.ensures,
+    ) refl

@@ -21,13 +21,17 @@ this_place text (BadStash at) bad place f = one_place has_key text at place (bad
 this_place text MemoryOut bad place f = tt
 
 pub returns-in-Ok-clause-only : goal.returns-in-Ok-clause-only
-returns-in-Ok-clause-only c = λ entries f. one_keytab c.args.bytes.now (map told c.in-Ok.entries.items) entries c.in-Ok.ensures.ok f
+returns-in-Ok-clause-only c =
+    λ entries f. one_keytab c.args.bytes.now (map told c.in-Ok.entries.items) entries c.in-Ok.ensures.ok f
 
 pub returns-in-Ok-clause-only_bad : goal.returns-in-Ok-clause-only_bad
-returns-in-Ok-clause-only_bad c = λ place f. no_bad_keytab c.args.bytes.now (map told c.in-Ok.entries.items) place c.in-Ok.ensures.ok f
+returns-in-Ok-clause-only_bad c =
+    λ place f. no_bad_keytab c.args.bytes.now (map told c.in-Ok.entries.items) place c.in-Ok.ensures.ok f
 
 pub returns-in-Err-clause-only : goal.returns-in-Err-clause-only
-returns-in-Err-clause-only c = no_keytab c.args.bytes.now c.in-Err.fault (λ place e. c.in-Err.ensures.bad place (ap Err e))
+returns-in-Err-clause-only c =
+    no_keytab c.args.bytes.now c.in-Err.fault (λ place e. c.in-Err.ensures.bad place (ap Err e))
 
 pub returns-in-Err-clause-only_bad : goal.returns-in-Err-clause-only_bad
-returns-in-Err-clause-only_bad c = this_place c.args.bytes.now c.in-Err.fault (λ place e. c.in-Err.ensures.bad place (ap Err e))
+returns-in-Err-clause-only_bad c =
+    this_place c.args.bytes.now c.in-Err.fault (λ place e. c.in-Err.ensures.bad place (ap Err e))

@@ -18,13 +18,16 @@ this_place text (BadStash at) bad place f = one_place has_master_key text at pla
 this_place text MemoryOut bad place f = tt
 
 pub returns-in-Ok-clause-only : goal.returns-in-Ok-clause-only
-returns-in-Ok-clause-only c = λ keys f. rw c.from_vec.ensures (one_list c.args.bytes.now c.in-Ok.keys.items keys c.in-Ok.ensures.ok f)
+returns-in-Ok-clause-only c =
+    λ keys f. rw c.from_vec.ensures (one_list c.args.bytes.now c.in-Ok.keys.items keys c.in-Ok.ensures.ok f)
 
 pub returns-in-Ok-clause-only_bad : goal.returns-in-Ok-clause-only_bad
 returns-in-Ok-clause-only_bad c = λ place f. not_bad c.args.bytes.now c.in-Ok.keys.items place c.in-Ok.ensures.ok f
 
 pub returns-in-Err-clause-only : goal.returns-in-Err-clause-only
-returns-in-Err-clause-only c = no_stash c.args.bytes.now c.in-Err.fault (λ place e. c.in-Err.ensures.bad place (ap Err e))
+returns-in-Err-clause-only c =
+    no_stash c.args.bytes.now c.in-Err.fault (λ place e. c.in-Err.ensures.bad place (ap Err e))
 
 pub returns-in-Err-clause-only_bad : goal.returns-in-Err-clause-only_bad
-returns-in-Err-clause-only_bad c = this_place c.args.bytes.now c.in-Err.fault (λ place e. c.in-Err.ensures.bad place (ap Err e))
+returns-in-Err-clause-only_bad c =
+    this_place c.args.bytes.now c.in-Err.fault (λ place e. c.in-Err.ensures.bad place (ap Err e))

@@ -7,11 +7,20 @@ pub returns-clause-text : goal.returns-clause-text
 unfolding piece_text
 returns-clause-text c =
     let len = written_length c.args.realm.now c.args.secs c.args.master.now in
-    rw (c.in_ok-push_u32-2.ensures.ok, c.in_ok-push_entry.ensures, c.in_ok-push_u32.ensures.ok, c.from.ensures, c.as_slice.ensures.value, len) (simp append_assoc)
+    rw (
+      c.in_ok-push_u32-2.ensures.ok,
+      c.in_ok-push_entry.ensures,
+      c.in_ok-push_u32.ensures.ok,
+      c.from.ensures,
+      c.as_slice.ensures.value,
+      len,
+    ) (simp append_assoc)
 
 pub returns-clause-fits : goal.returns-clause-fits
 returns-clause-fits c =
-    written_fits c.args.realm.now c.args.secs c.args.master.now c.requires c.ranges.secs.fits (ap (length {A = ℕ}) (sym c.as_slice.ensures.value) ∙ c.as_slice.ensures.length)
+    written_fits c.args.realm.now c.args.secs c.args.master.now c.requires c.ranges.secs.fits
+    (ap (length {A = ℕ}) (sym c.as_slice.ensures.value) ∙ c.as_slice.ensures.length)
 
 pub returns-clause-told : goal.returns-clause-told
-returns-clause-told c = written_key c.args.realm.now c.args.secs c.args.master.now (let fits : c.from.result < 2 ^ 32 = c.from.type_inv in omega (arith, fits, c.from.ensures))
+returns-clause-told c = written_key c.args.realm.now c.args.secs c.args.master.now
+    (let fits : c.from.result < 2 ^ 32 = c.from.type_inv in omega (arith, fits, c.from.ensures))

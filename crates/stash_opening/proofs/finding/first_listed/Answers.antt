@@ -15,7 +15,8 @@ returns-in-Some c =
 pub loop-key-preserved : goal.loop-key-preserved
 loop-key-preserved c =
     let lt : c.loop-key.key-index < length c.args.keys.now = omega arith in
-    passed_over c.args.items.now c.args.keys.now c.loop-key.key-index c.key-item.result lt c.key-item.is (c.version_of.ensures.none c.in-None.is)
+    passed_over c.args.items.now c.args.keys.now c.loop-key.key-index c.key-item.result lt c.key-item.is
+    (c.version_of.ensures.none c.in-None.is)
     c.loop-key.invariant
 
 pub returns : goal.returns

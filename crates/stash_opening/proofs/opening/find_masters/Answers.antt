@@ -13,7 +13,8 @@ returns-in-Err-clause-only_refused c why cause = elim cause [
 pub returns-then-not-sound-clause-complete : goal.returns-then-not-sound-clause-complete
 returns-then-not-sound-clause-complete c masters o sound =
     c.in-Ok-are_sound.ensures.no (ap Ok c.if-not-sound.true)
-    (subst (λ (ms : List Master). AreSound (judged ms c.args.realm.now c.args.secs) c.args.rows.now) (sym (c.in-Ok.ensures.complete masters o)) sound)
+    (subst (λ (ms : List Master). AreSound (judged ms c.args.realm.now c.args.secs) c.args.rows.now)
+    (sym (c.in-Ok.ensures.complete masters o)) sound)
 
 pub returns-then-not-sound-clause-only_refused : goal.returns-then-not-sound-clause-only_refused
 returns-then-not-sound-clause-only_refused c why cause = elim cause [

@@ -23,7 +23,8 @@ returns-in-Ok-plan_again-clause-looked g c =
     let s = c.in-Ok-read_cells.scanned in
     let old = (g.D.Disk.view c.args.disk.now).seen in
     let mid = (g.D.Disk.view c.read_log.new.disk).seen in
-    let fit = fitting_kept g.D.Disk.tells h.control last s old mid (λ tells. (c.read_log.ensures.keeps tells).seen) c.in-Ok-read_cells.ensures.cells in
+    let fit = fitting_kept g.D.Disk.tells h.control last s old mid
+    (λ tells. (c.read_log.ensures.keeps tells).seen) c.in-Ok-read_cells.ensures.cells in
     record {
       cells = fit.cells;
       again = c.in-Ok-plan_again.ensures.again fit.cells fit.fitting;
@@ -38,7 +39,8 @@ returns-in-Ok-plan_again-clause-looked g c =
 pub returns-in-Ok-plan_again-clause-log : goal.returns-in-Ok-plan_again-clause-log
 returns-in-Ok-plan_again-clause-log g c tells settled =
     subst (λ (j : Journal). HasLog j (g.D.Disk.view c.read_stash.new.disk)) (sym c.in-Ok-plan_again.ensures.log)
-    (log_kept c.in-Ok.headed.log (keeps_then (c.read_cells.ensures.keeps tells) (c.read_stash.ensures.keeps tells)) (c.in-Ok.ensures.log tells settled))
+    (log_kept c.in-Ok.headed.log (keeps_then (c.read_cells.ensures.keeps tells) (c.read_stash.ensures.keeps tells))
+    (c.in-Ok.ensures.log tells settled))
 
 pub returns-in-Err-read_cells-clause-refused : goal.returns-in-Err-read_cells-clause-refused
 returns-in-Err-read_cells-clause-refused g c tells r is =
@@ -46,19 +48,27 @@ returns-in-Err-read_cells-clause-refused g c tells r is =
     let keeps = c.read_log.ensures.keeps tells in
     let old = (g.D.Disk.view c.args.disk.now).seen in
     let mid = (g.D.Disk.view c.read_log.new.disk).seen in
-    subst (λ (files : Files). found_in files ≡ Err r) keeps.seen (c.in-Err-read_cells.ensures.refused tells (head_kept h.control h.log old mid keeps.seen (c.in-Ok.ensures.read tells)) r cc)
+    subst (λ (files : Files). found_in files ≡ Err r) keeps.seen (c.in-Err-read_cells.ensures.refused tells
+    (head_kept h.control h.log old mid keeps.seen (c.in-Ok.ensures.read tells)) r cc)
 
 pub returns-in-Err-read_cells-clause-stops : goal.returns-in-Err-read_cells-clause-stops
 returns-in-Err-read_cells-clause-stops g c = damage_stops c.in-Err-read_cells.stop c.in-Err-read_cells.ensures.damage
 
 pub returns-in-Err-read_cells-clause-keeps : goal.returns-in-Err-read_cells-clause-keeps
-returns-in-Err-read_cells-clause-keeps g c tells = keeps_then (c.read_log.ensures.keeps tells) (c.read_cells.ensures.keeps tells)
+returns-in-Err-read_cells-clause-keeps g c tells =
+    keeps_then (c.read_log.ensures.keeps tells) (c.read_cells.ensures.keeps tells)
 
 pub returns-in-Err-read_stash-clause-keeps : goal.returns-in-Err-read_stash-clause-keeps
-returns-in-Err-read_stash-clause-keeps g c tells = keeps_then (keeps_then (c.read_log.ensures.keeps tells) (c.read_cells.ensures.keeps tells)) (c.read_stash.ensures.keeps tells)
+returns-in-Err-read_stash-clause-keeps g c tells =
+    keeps_then (keeps_then (c.read_log.ensures.keeps tells) (c.read_cells.ensures.keeps tells))
+    (c.read_stash.ensures.keeps tells)
 
 pub returns-in-Ok-plan_again-clause-keeps : goal.returns-in-Ok-plan_again-clause-keeps
-returns-in-Ok-plan_again-clause-keeps g c tells = keeps_then (keeps_then (c.read_log.ensures.keeps tells) (c.read_cells.ensures.keeps tells)) (c.read_stash.ensures.keeps tells)
+returns-in-Ok-plan_again-clause-keeps g c tells =
+    keeps_then (keeps_then (c.read_log.ensures.keeps tells) (c.read_cells.ensures.keeps tells))
+    (c.read_stash.ensures.keeps tells)
 
 pub returns-in-Err-plan_again-clause-keeps : goal.returns-in-Err-plan_again-clause-keeps
-returns-in-Err-plan_again-clause-keeps g c tells = keeps_then (keeps_then (c.read_log.ensures.keeps tells) (c.read_cells.ensures.keeps tells)) (c.read_stash.ensures.keeps tells)
+returns-in-Err-plan_again-clause-keeps g c tells =
+    keeps_then (keeps_then (c.read_log.ensures.keeps tells) (c.read_cells.ensures.keeps tells))
+    (c.read_stash.ensures.keeps tells)

@@ -5,12 +5,14 @@ use Rattle.store_opening.proofs.Quiet.{quiet_run, quiet_none, stash_written, no_
 use Rattle.store_opening.proofs.putting.write_stash.Goals as goal
 
 pub returns-in-Some-clause-quiet : goal.returns-in-Some-clause-quiet
-returns-in-Some-clause-quiet g c tells = quiet_run 5 (omega arith) (c.requires tells) (c.replace_file.ensures.moments tells)
+returns-in-Some-clause-quiet g c tells =
+    quiet_run 5 (omega arith) (c.requires tells) (c.replace_file.ensures.moments tells)
 
 pub returns-in-Some-clause-stash : goal.returns-in-Some-clause-stash
 returns-in-Some-clause-stash g c tells choice is =
     on_ok_weaker c.replace_file.result
-    (stash_written choice (option_map (λ s. s.now) c.args.stash) c.in-Some.bytes.now (ap (option_map (λ s. s.now)) c.in-Some.is) is)
+    (stash_written choice (option_map (λ s. s.now) c.args.stash) c.in-Some.bytes.now
+    (ap (option_map (λ s. s.now)) c.in-Some.is) is)
     (c.replace_file.ensures.ok tells)
 
 pub returns-in-None-clause-quiet : goal.returns-in-None-clause-quiet
@@ -18,4 +20,5 @@ returns-in-None-clause-quiet g c tells = quiet_none (g.D.Disk.view c.args.disk.n
 
 pub returns-in-None-clause-stash : goal.returns-in-None-clause-stash
 returns-in-None-clause-stash g c tells choice is =
-    no_stash (g.D.Disk.view c.args.disk.now) choice (option_map (λ s. s.now) c.args.stash) (ap (option_map (λ s. s.now)) c.in-None.is) is
+    no_stash (g.D.Disk.view c.args.disk.now) choice (option_map (λ s. s.now) c.args.stash)
+    (ap (option_map (λ s. s.now)) c.in-None.is) is

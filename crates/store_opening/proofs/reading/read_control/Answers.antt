@@ -7,7 +7,8 @@ use Rattle.store_opening.proofs.reading.read_control.Goals as goal
 pub returns-in-Err-NotADatabase-clause-refused : goal.returns-in-Err-NotADatabase-clause-refused
 returns-in-Err-NotADatabase-clause-refused g c = λ tells r is.
     let e = c.in-Err-NotADatabase in
-    nothing_found (g.D.Disk.view c.args.disk.now).seen e.field-0 e.field-0-is (e.ensures.force tells) ∙ ap Err (same_refusal NotADatabase r is)
+    nothing_found (g.D.Disk.view c.args.disk.now).seen e.field-0 e.field-0-is (e.ensures.force tells)
+    ∙ ap Err (same_refusal NotADatabase r is)
 
 pub returns-in-Err-Damaged-clause-refused : goal.returns-in-Err-Damaged-clause-refused
 returns-in-Err-Damaged-clause-refused g c = λ tells r is.

@@ -10,19 +10,24 @@ use Rattle.store_opening.proofs.recovering.recover_parts.Goals as goal
 
 pub returns-in-Ok-clause-found : goal.returns-in-Ok-clause-found
 returns-in-Ok-clause-found g c tells =
-    subst (λ (files : Files). IfOk c.recover_settled.result (λ p. IsFoundOf (kept_of p) (found_in files))) (c.settle_all.ensures.keeps tells).seen (c.recover_settled.ensures.found tells)
+    subst (λ (files : Files). IfOk c.recover_settled.result (λ p. IsFoundOf (kept_of p) (found_in files)))
+    (c.settle_all.ensures.keeps tells).seen (c.recover_settled.ensures.found tells)
 
 pub returns-in-Ok-clause-refused : goal.returns-in-Ok-clause-refused
-returns-in-Ok-clause-refused g c tells r is = subst (λ (files : Files). found_in files ≡ Err r) (c.settle_all.ensures.keeps tells).seen (c.recover_settled.ensures.refused tells r is)
+returns-in-Ok-clause-refused g c tells r is = subst (λ (files : Files). found_in files ≡ Err r)
+    (c.settle_all.ensures.keeps tells).seen (c.recover_settled.ensures.refused tells r is)
 
 pub returns-in-Ok-clause-moments : goal.returns-in-Ok-clause-moments
-returns-in-Ok-clause-moments g c tells = like_first (c.settle_all.ensures.keeps tells) (c.recover_settled.ensures.moments tells)
+returns-in-Ok-clause-moments g c tells =
+    like_first (c.settle_all.ensures.keeps tells) (c.recover_settled.ensures.moments tells)
 
 pub returns-in-Ok-clause-refused_keeps : goal.returns-in-Ok-clause-refused_keeps
-returns-in-Ok-clause-refused_keeps g c tells r is = keeps_then (c.settle_all.ensures.keeps tells) (c.recover_settled.ensures.refused_keeps tells r is)
+returns-in-Ok-clause-refused_keeps g c tells r is =
+    keeps_then (c.settle_all.ensures.keeps tells) (c.recover_settled.ensures.refused_keeps tells r is)
 
 pub returns-in-Err-clause-moments : goal.returns-in-Err-clause-moments
 returns-in-Err-clause-moments g c tells = like_kept (c.settle_all.ensures.keeps tells)
 
 pub returns-in-Ok-clause-memory_keeps : goal.returns-in-Ok-clause-memory_keeps
-returns-in-Ok-clause-memory_keeps g c tells is = keeps_then (c.settle_all.ensures.keeps tells) (c.recover_settled.ensures.memory_keeps tells is)
+returns-in-Ok-clause-memory_keeps g c tells is =
+    keeps_then (c.settle_all.ensures.keeps tells) (c.recover_settled.ensures.memory_keeps tells is)

@@ -9,7 +9,8 @@ use Rattle.store_opening.proofs.recovering.recover_settled.Goals as goal
 
 pub write_again-requires : goal.write_again-requires
 write_again-requires g c = record {
-  looked = looked_kept g.D.Disk.tells c.in-Ok.again (g.D.Disk.view c.args.disk.now).seen (g.D.Disk.view c.look.new.disk).seen (λ tells. (c.look.ensures.keeps tells).seen) c.in-Ok.ensures.looked;
+  looked = looked_kept g.D.Disk.tells c.in-Ok.again (g.D.Disk.view c.args.disk.now).seen
+      (g.D.Disk.view c.look.new.disk).seen (λ tells. (c.look.ensures.keeps tells).seen) c.in-Ok.ensures.looked;
   log = λ tells. c.in-Ok.ensures.log tells (c.requires.settled tells);
   settled = λ tells. settled_keeps (c.requires.settled tells) (c.look.ensures.keeps tells);
 }
@@ -19,13 +20,17 @@ returns-in-Err-clause-moments g c tells = like_kept (c.look.ensures.keeps tells)
 
 pub returns-in-Ok-write_again-clause-found : goal.returns-in-Ok-write_again-clause-found
 returns-in-Ok-write_again-clause-found g c tells =
-    subst (λ (files : Files). IsFoundOf (kept_of c.in-Ok-write_again.parts) (found_in files)) (c.look.ensures.keeps tells).seen (c.in-Ok-write_again.ensures.found tells)
+    subst (λ (files : Files). IsFoundOf (kept_of c.in-Ok-write_again.parts) (found_in files))
+    (c.look.ensures.keeps tells).seen (c.in-Ok-write_again.ensures.found tells)
 
 pub returns-in-Ok-write_again-clause-moments : goal.returns-in-Ok-write_again-clause-moments
-returns-in-Ok-write_again-clause-moments g c tells = like_first (c.look.ensures.keeps tells) (c.write_again.ensures.moments tells)
+returns-in-Ok-write_again-clause-moments g c tells =
+    like_first (c.look.ensures.keeps tells) (c.write_again.ensures.moments tells)
 
 pub returns-in-Err-write_again-clause-moments : goal.returns-in-Err-write_again-clause-moments
-returns-in-Err-write_again-clause-moments g c tells = like_first (c.look.ensures.keeps tells) (c.write_again.ensures.moments tells)
+returns-in-Err-write_again-clause-moments g c tells =
+    like_first (c.look.ensures.keeps tells) (c.write_again.ensures.moments tells)
 
 pub returns-in-Err-clause-refused_settled : goal.returns-in-Err-clause-refused_settled
-returns-in-Err-clause-refused_settled g c tells r is = settled_keeps (c.requires.settled tells) (c.look.ensures.keeps tells)
+returns-in-Err-clause-refused_settled g c tells r is =
+    settled_keeps (c.requires.settled tells) (c.look.ensures.keeps tells)

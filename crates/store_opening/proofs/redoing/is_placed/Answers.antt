@@ -6,4 +6,5 @@ use Rattle.store_opening.proofs.redoing.is_placed.Goals as goal
 
 pub returns-in-Some : goal.returns-in-Some
 returns-in-Some c = λ format all are fits.
-    c.may_stand.ensures format all are (subst (λ (o : Option Op). IsCell format (left_by o)) c.in-Some.is fits) ∙ ap (λ (o : Option Op). is_placed c.args.unit (left_by o) all) (sym c.in-Some.is)
+    c.may_stand.ensures format all are (subst (λ (o : Option Op). IsCell format (left_by o)) c.in-Some.is fits)
+    ∙ ap (λ (o : Option Op). is_placed c.args.unit (left_by o) all) (sym c.in-Some.is)

@@ -7,5 +7,6 @@ returns-clause-none g c tells = on_ok_weaker c.erase.result nothing_recovers (c.
 
 pub returns-clause-crash : goal.returns-clause-crash
 returns-clause-crash g c = record {
-  told = λ tells. erased_all c.args.control.now c.holds_files.ensures.image c.holds_files.ensures.log (c.requires tells) (c.erase.ensures.crash.told tells);
+  told = λ tells. erased_all c.args.control.now c.holds_files.ensures.image c.holds_files.ensures.log (c.requires tells)
+      (c.erase.ensures.crash.told tells);
 }

@@ -1,22 +1,26 @@
 use Rattle.std.proofs.Common.{ap}
 use Rattle.std.proofs.lemmas.Result.{on_ok_weaker}
 use Rattle.kdb_control.specs.Choice.{Choice}
-use Rattle.store_switches.proofs.Renewed.{IsToRenew, image_begins, image_stays, log_begins, renewal_force, renewal_leaves, renewal_on}
+use Rattle.store_switches.proofs.Renewed.{IsToRenew, image_begins, image_stays, log_begins}
+use Rattle.store_switches.proofs.Renewed.{renewal_force, renewal_leaves, renewal_on}
 use Rattle.store_switches.proofs.renewing.renew_files.Goals as goal
 
 pub returns-in_err-write-clause-crash : goal.returns-in_err-write-clause-crash
 returns-in_err-write-clause-crash g c tells k realm rows under rows_in =
-    let to : IsToRenew c.args.now.now c.args.next.now c.args.image.now c.args.log.now = record { renewal = c.requires.next; file_is = c.requires.image; log_is = c.requires.log } in
+    let to : IsToRenew c.args.now.now c.args.next.now c.args.image.now c.args.log.now =
+    record { renewal = c.requires.next; file_is = c.requires.image; log_is = c.requires.log } in
     image_begins k realm rows under to (c.write.ensures.moments tells)
 
 pub returns-in_err-write-2-clause-crash : goal.returns-in_err-write-2-clause-crash
 returns-in_err-write-2-clause-crash g c tells k realm rows under rows_in =
-    let to : IsToRenew c.args.now.now c.args.next.now c.args.image.now c.args.log.now = record { renewal = c.requires.next; file_is = c.requires.image; log_is = c.requires.log } in
+    let to : IsToRenew c.args.now.now c.args.next.now c.args.image.now c.args.log.now =
+    record { renewal = c.requires.next; file_is = c.requires.image; log_is = c.requires.log } in
     log_begins k realm rows under to (c.write.ensures.moments tells) (c.write-2.ensures.crash.told tells)
 
 pub switch-requires-clause-now : goal.switch-requires-clause-now
 switch-requires-clause-now g c tells =
-    let to : IsToRenew c.args.now.now c.args.next.now c.args.image.now c.args.log.now = record { renewal = c.requires.next; file_is = c.requires.image; log_is = c.requires.log } in
+    let to : IsToRenew c.args.now.now c.args.next.now c.args.image.now c.args.log.now =
+    record { renewal = c.requires.next; file_is = c.requires.image; log_is = c.requires.log } in
     renewal_force to (c.requires.force tells) (c.write.ensures.moments tells) (c.write-2.ensures.crash.told tells)
 
 pub switch-requires-clause-turn : goal.switch-requires-clause-turn
@@ -24,7 +28,8 @@ switch-requires-clause-turn g c = ap (λ (x : Choice). x.turn) c.requires.next.n
 
 pub returns-clause-crash : goal.returns-clause-crash
 returns-clause-crash g c tells k realm rows under rows_in =
-    let to : IsToRenew c.args.now.now c.args.next.now c.args.image.now c.args.log.now = record { renewal = c.requires.next; file_is = c.requires.image; log_is = c.requires.log } in
+    let to : IsToRenew c.args.now.now c.args.next.now c.args.image.now c.args.log.now =
+    record { renewal = c.requires.next; file_is = c.requires.image; log_is = c.requires.log } in
     renewal_leaves k realm rows under rows_in (record {
       to = to;
       image_run = c.write.ensures.moments tells;
@@ -36,7 +41,8 @@ returns-clause-crash g c tells k realm rows under rows_in =
 
 pub returns-clause-on : goal.returns-clause-on
 returns-clause-on g c tells k realm rows under rows_in =
-    let to : IsToRenew c.args.now.now c.args.next.now c.args.image.now c.args.log.now = record { renewal = c.requires.next; file_is = c.requires.image; log_is = c.requires.log } in
+    let to : IsToRenew c.args.now.now c.args.next.now c.args.image.now c.args.log.now =
+    record { renewal = c.requires.next; file_is = c.requires.image; log_is = c.requires.log } in
     on_ok_weaker c.switch.result
     (λ set. renewal_on k realm rows under rows_in (record {
       to = to;
@@ -50,5 +56,8 @@ returns-clause-on g c tells k realm rows under rows_in =
 
 pub returns-clause-written : goal.returns-clause-written
 returns-clause-written g c tells =
-    let to : IsToRenew c.args.now.now c.args.next.now c.args.image.now c.args.log.now = record { renewal = c.requires.next; file_is = c.requires.image; log_is = c.requires.log } in
-    on_ok_weaker c.switch.result (λ set. image_stays to (c.in_ok-write.ensures.ok tells) (c.in_ok-write-2.ensures.others tells) set) (c.switch.ensures.ok tells)
+    let to : IsToRenew c.args.now.now c.args.next.now c.args.image.now c.args.log.now =
+    record { renewal = c.requires.next; file_is = c.requires.image; log_is = c.requires.log } in
+    on_ok_weaker c.switch.result
+    (λ set. image_stays to (c.in_ok-write.ensures.ok tells) (c.in_ok-write-2.ensures.others tells) set)
+    (c.switch.ensures.ok tells)

@@ -10,14 +10,16 @@ returns-in_err-replace_file-clause-crash g c tells k under =
     let old = g.D.Disk.view c.args.disk.now in
     let mid = g.D.Disk.view c.replace_file.new.disk in
     stash_begins c.args.next.now.stash c.args.bytes.now k under c.requires.spare
-    (subst (λ (f : ℕ). LeavesOnly old mid (IsAfter (Differs f) old)) c.stash_file.ensures (c.replace_file.ensures.moments tells))
+    (subst (λ (f : ℕ). LeavesOnly old mid (IsAfter (Differs f) old)) c.stash_file.ensures
+    (c.replace_file.ensures.moments tells))
 
 pub switch-requires-clause-now : goal.switch-requires-clause-now
 switch-requires-clause-now g c tells =
     let old = g.D.Disk.view c.args.disk.now in
     let mid = g.D.Disk.view c.replace_file.new.disk in
     force_kept c.args.now.now c.args.next.now.stash c.requires.spare.control (c.requires.force tells)
-    (subst (λ (f : ℕ). LeavesOnly old mid (IsAfter (Differs f) old)) c.stash_file.ensures (c.replace_file.ensures.moments tells))
+    (subst (λ (f : ℕ). LeavesOnly old mid (IsAfter (Differs f) old)) c.stash_file.ensures
+    (c.replace_file.ensures.moments tells))
 
 pub returns-clause-crash : goal.returns-clause-crash
 returns-clause-crash g c tells k under =
@@ -26,8 +28,10 @@ returns-clause-crash g c tells k under =
     stash_leaves k under (record {
       next_is = c.requires.next;
       spare = c.requires.spare;
-      run = subst (λ (f : ℕ). LeavesOnly old mid (IsAfter (Differs f) old)) c.stash_file.ensures (c.replace_file.ensures.moments tells);
-      replaced = subst (λ (f : ℕ). Replaced f c.args.bytes.now old mid) c.stash_file.ensures (c.in_ok-replace_file.ensures.ok tells);
+      run = subst (λ (f : ℕ). LeavesOnly old mid (IsAfter (Differs f) old)) c.stash_file.ensures
+          (c.replace_file.ensures.moments tells);
+      replaced = subst (λ (f : ℕ). Replaced f c.args.bytes.now old mid) c.stash_file.ensures
+          (c.in_ok-replace_file.ensures.ok tells);
       switch = c.switch.ensures.crash.told tells;
     })
 
@@ -39,8 +43,10 @@ returns-clause-on g c tells k under =
     (λ set. stash_on k under (record {
       next_is = c.requires.next;
       spare = c.requires.spare;
-      run = subst (λ (f : ℕ). LeavesOnly old mid (IsAfter (Differs f) old)) c.stash_file.ensures (c.replace_file.ensures.moments tells);
-      replaced = subst (λ (f : ℕ). Replaced f c.args.bytes.now old mid) c.stash_file.ensures (c.in_ok-replace_file.ensures.ok tells);
+      run = subst (λ (f : ℕ). LeavesOnly old mid (IsAfter (Differs f) old)) c.stash_file.ensures
+          (c.replace_file.ensures.moments tells);
+      replaced = subst (λ (f : ℕ). Replaced f c.args.bytes.now old mid) c.stash_file.ensures
+          (c.in_ok-replace_file.ensures.ok tells);
       switch = c.switch.ensures.crash.told tells;
     }) set)
     (c.switch.ensures.ok tells)

@@ -8,11 +8,13 @@ use Rattle.tab_reports.proofs.counting.place_of.Goals as goal
 pub returns-clause-found : goal.returns-clause-found
 returns-clause-found c = λ at is.
     let facts = c.binary_search_by.ensures in
-    let by_key = facts.position (λ (q : Rules). key_cmp q.name c.args.name.now) (always_returns_same _ _ _ (λ a r f' called. (search rules, search rules))) in
+    let by_key = facts.position (λ (q : Rules). key_cmp q.name c.args.name.now)
+    (always_returns_same _ _ _ (λ a r f' called. (search rules, search rules))) in
     found_at (λ (q : Rules). q.name) c.args.policies.now c.args.name.now at _ is facts.bound by_key
 
 pub returns-clause-absent : goal.returns-clause-absent
 returns-clause-absent c = λ at is.
     let facts = c.binary_search_by.ensures in
-    let by_key = facts.position (λ (q : Rules). key_cmp q.name c.args.name.now) (always_returns_same _ _ _ (λ a r f' called. (search rules, search rules))) in
+    let by_key = facts.position (λ (q : Rules). key_cmp q.name c.args.name.now)
+    (always_returns_same _ _ _ (λ a r f' called. (search rules, search rules))) in
     gap_at (λ (q : Rules). q.name) c.args.policies.now c.args.name.now at _ is c.requires facts.bound by_key

@@ -4,4 +4,5 @@ use Rattle.tab_reports.specs.Keys.{keys_text, princ_keys}
 use Rattle.tab_reports.proofs.keys.push_all_keys.Given as goal
 
 abbrev pub invariant-loop-row : goal.invariant-loop-row
-invariant-loop-row l = l.out.items ++ flat_map princ_keys (drop l.row-index l.princs) ≡ l.fn.out.items ++ keys_text l.princs
+invariant-loop-row l =
+    l.out.items ++ flat_map princ_keys (drop l.row-index l.princs) ≡ l.fn.out.items ++ keys_text l.princs

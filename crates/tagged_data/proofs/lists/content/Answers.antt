@@ -11,7 +11,8 @@ pub returns-in-Some-clause-bytes : goal.returns-in-Some-clause-bytes
 returns-in-Some-clause-bytes c =
     let same = ap (λ (items : List TagItem). find (λ i. nat_eq i.kind c.args.kind) items) c.as_slice.ensures.value in
     let here = content_there c.args.kind c.args.list.now c.in-Some.item.now (c.in-Some.ensures ∙ same) in
-    bytes_there (content c.args.kind c.args.list.now) c.in-Some.item.now.bytes here (subst IsBytes (c.new.ensures ∙ c.as_slice-bytes.ensures) c.holds_bytes.ensures)
+    bytes_there (content c.args.kind c.args.list.now) c.in-Some.item.now.bytes here
+    (subst IsBytes (c.new.ensures ∙ c.as_slice-bytes.ensures) c.holds_bytes.ensures)
 
 pub returns-in-None-clause-bytes : goal.returns-in-None-clause-bytes
 returns-in-None-clause-bytes c = λ bytes e.

@@ -5,4 +5,8 @@ use Rattle.tagged_data.specs.declared.items.TagItem.{TagItem}
 use Rattle.tagged_data.proofs.lists.push_tagged.Goals as goal
 
 pub write_list_u16-requires-clause-count : goal.write_list_u16-requires-clause-count
-write_list_u16-requires-clause-count c = omega (arith, few c.args.list.now c.as_slice.ensures.tagged, ap (λ (items : List TagItem). length items) c.as_slice.ensures.value)
+write_list_u16-requires-clause-count c = omega (
+  arith,
+  few c.args.list.now c.as_slice.ensures.tagged,
+  ap (λ (items : List TagItem). length items) c.as_slice.ensures.value,
+)

@@ -9,4 +9,5 @@ returns-in-Some c =
     ∙ ap (λ (r : List ℕ). let x : List ℕ × List ℕ = (take c.in-Some.end rest, r) in Some x) (sym c.new.ensures)
 
 pub returns-in-None : goal.returns-in-None
-returns-in-None c = ap ended_at (sym c.rest-rest.ensures) ∙ not_ended c.rest-rest.result.now (sym c.first_zero.ensures.value ∙ c.in-None.is)
+returns-in-None c = ap ended_at (sym c.rest-rest.ensures)
+    ∙ not_ended c.rest-rest.result.now (sym c.first_zero.ensures.value ∙ c.in-None.is)

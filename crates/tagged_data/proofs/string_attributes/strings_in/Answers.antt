@@ -9,4 +9,5 @@ pub from_vec-requires : goal.from_vec-requires
 from_vec-requires c =
     let items = c.in_ok-items.items.items in
     in_order (keys_of items)
-    (strings_rise items (ap (λ (xs : List StringAttribute). are_strings xs) (sym c.deref.ensures.value) ∙ sym c.are_strings.ensures ∙ c.if-not-are_strings.false)).1.1
+    (strings_rise items (ap (λ (xs : List StringAttribute). are_strings xs) (sym c.deref.ensures.value)
+    ∙ sym c.are_strings.ensures ∙ c.if-not-are_strings.false)).1.1

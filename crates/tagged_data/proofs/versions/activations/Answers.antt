@@ -8,7 +8,9 @@ use Rattle.tagged_data.proofs.versions.activations.Goals as goal
 pub returns-in-Some-clause-found : goal.returns-in-Some-clause-found
 returns-in-Some-clause-found c =
     let there : content ACTIVATIONS c.args.list.now ≡ Some c.in-Some.bytes.now = sym c.in-Some.ensures.value in
-    list_found activations_content (content ACTIVATIONS c.args.list.now) c.in-Some.bytes.now there (c.in-Some.ensures.bytes c.in-Some.bytes.now there) c.read_activations.result c.read_activations.ensures
+    list_found activations_content (content ACTIVATIONS c.args.list.now) c.in-Some.bytes.now there
+    (c.in-Some.ensures.bytes c.in-Some.bytes.now there) c.read_activations.result c.read_activations.ensures
 
 pub returns-in-Some-clause-only : goal.returns-in-Some-clause-only
-returns-in-Some-clause-only c = list_only activations_content (content ACTIVATIONS c.args.list.now) c.in-Some.bytes.now (sym c.in-Some.ensures.value) c.read_activations.result c.read_activations.ensures
+returns-in-Some-clause-only c = list_only activations_content (content ACTIVATIONS c.args.list.now) c.in-Some.bytes.now
+    (sym c.in-Some.ensures.value) c.read_activations.result c.read_activations.ensures

@@ -5,7 +5,8 @@ use Rattle.tcp_links.proofs.streams.write_whole.Goals as goal
 
 pub returns-in_err-at-clause-part : goal.returns-in_err-at-clause-part
 returns-in_err-at-clause-part g c =
-    on_err c.from_residual.result _ (front_rest _ _ _ c.args.bytes.now c.loop-at.at c.loop-at.invariant.1 c.in_err-at.ensures.part)
+    on_err c.from_residual.result _
+    (front_rest _ _ _ c.args.bytes.now c.loop-at.at c.loop-at.invariant.1 c.in_err-at.ensures.part)
 
 pub loop-at-preserved : goal.loop-at-preserved
 loop-at-preserved g c = (

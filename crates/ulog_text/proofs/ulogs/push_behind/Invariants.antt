@@ -7,5 +7,7 @@ use Rattle.update_log.specs.Logs.{entry_of}
 
 -- the lines so far
 abbrev pub invariant-loop-behind : goal.invariant-loop-behind
-invariant-loop-behind l = (begin end : Point) → AreHeld begin end (map entry_of l.log.held) → begin.sno ≡ l.first → end.sno ≡ l.last
-    → l.out.items ≡ l.fn.out.items ++ entries_text (take (l.behind - begin.sno) (drop (begin.sno + 1 - begin.sno) (map entry_of l.log.held)))
+invariant-loop-behind l = (begin end : Point) → AreHeld begin end (map entry_of l.log.held) → begin.sno ≡ l.first
+    → end.sno ≡ l.last
+    → l.out.items ≡ l.fn.out.items
+    ++ entries_text (take (l.behind - begin.sno) (drop (begin.sno + 1 - begin.sno) (map entry_of l.log.held)))

@@ -10,7 +10,8 @@ pub returns-then-is_left-clause-first : goal.returns-then-is_left-clause-first
 returns-then-is_left-clause-first c =
     let run = c.args.run.now in
     let slots = c.args.slots.now in
-    sym (first_found (λ k. is_left run.last run.len (read_at slots k)) 0 (c.args.control.now.size + 1) c.loop-slot.slot (omega arith) (omega (arith, c.requires, c.loop-slot-test.true))
+    sym (first_found (λ k. is_left run.last run.len (read_at slots k)) 0 (c.args.control.now.size + 1) c.loop-slot.slot
+    (omega arith) (omega (arith, c.requires, c.loop-slot-test.true))
     (ap (is_left run.last run.len) (sym c.read_at.ensures) ∙ sym c.is_left.ensures ∙ c.if-is_left.true)
     (λ k ge lt. c.loop-slot.invariant k lt))
 

@@ -27,4 +27,5 @@ pub returns : goal.returns
 returns c =
     let slots = c.args.slots.now in
     let size = c.args.control.now.size in
-    c.loop-slot.invariant ∙ sym (last_past slots c.loop-slot.slot ((size + 1) - c.loop-slot.slot) (size + 1) (omega (arith, c.loop-slot-test.false)) (omega (arith, c.requires, c.loop-slot.auto)))
+    c.loop-slot.invariant ∙ sym (last_past slots c.loop-slot.slot ((size + 1) - c.loop-slot.slot) (size + 1)
+    (omega (arith, c.loop-slot-test.false)) (omega (arith, c.requires, c.loop-slot.auto)))

@@ -16,5 +16,9 @@ returns-clause-found g c tells =
     let count = c.min-count.result in
     let same : block ≡ choice.block = ap (λ (ch : Choice). ch.block) c.control.view_is in
     let is : count ≡ min block (length held) = grind (arith, nat_tests) in
-    let front = window_front block count held (drop c.fill.new.self.at ((g.D.Disk.view c.fill.new.disk).seen c.fill.new.self.file)) left _ (sym (c.fill.ensures.left tells)) is (c.in-Ok.ensures.enough tells) (ap (take count) c.held-2.ensures) in
-    ap (λ (n : ℕ). slot_in choice.format choice.base choice.size choice.block c.args.slot (take n left)) (sym same) ∙ ap (slot_in choice.format choice.base choice.size choice.block c.args.slot) front ∙ c.in-Ok-read_slot.ensures.found
+    let front =
+    window_front block count held (drop c.fill.new.self.at ((g.D.Disk.view c.fill.new.disk).seen c.fill.new.self.file))
+    left _ (sym (c.fill.ensures.left tells)) is (c.in-Ok.ensures.enough tells) (ap (take count) c.held-2.ensures) in
+    ap (λ (n : ℕ). slot_in choice.format choice.base choice.size choice.block c.args.slot (take n left)) (sym same)
+    ∙ ap (slot_in choice.format choice.base choice.size choice.block c.args.slot) front
+    ∙ c.in-Ok-read_slot.ensures.found

@@ -4,8 +4,10 @@ use Rattle.update_log.proofs.writes.close_slot.Goals as goal
 
 pub returns-clause-moments : goal.returns-clause-moments
 returns-clause-moments g c tells block slot two is =
-    begun_moments c.args.file c.args.at block slot two is (c.requires.end tells) (c.requires.durable tells) (c.close_gate.ensures.moments tells)
+    begun_moments c.args.file c.args.at block slot two is (c.requires.end tells) (c.requires.durable tells)
+    (c.close_gate.ensures.moments tells)
 
 pub returns-clause-ok : goal.returns-clause-ok
 returns-clause-ok g c tells block slot two is =
-    on_ok_weaker c.close_gate.result (λ stands. begun_shut c.args.file c.args.at block slot two is (c.requires.end tells) stands) (c.close_gate.ensures.ok tells)
+    on_ok_weaker c.close_gate.result (λ stands.
+    begun_shut c.args.file c.args.at block slot two is (c.requires.end tells) stands) (c.close_gate.ensures.ok tells)

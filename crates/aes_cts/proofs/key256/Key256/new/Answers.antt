@@ -9,5 +9,6 @@ returns c =
     ap schedule_bytes c.expand.ensures.key
     ∙ ap (λ (l : List ℕ). block_of c.load.result ++ l) (append-nil (block_of c.load-2.result))
     ∙ ap₂ (λ (x y : List ℕ). x ++ y) c.load.ensures c.load-2.ensures
-    ∙ ap (λ (l : List ℕ). take 16 c.args.bytes.now ++ l) (take_all 16 (drop 16 c.args.bytes.now) (omega (arith, length-drop 16 c.args.bytes.now)))
+    ∙ ap (λ (l : List ℕ). take 16 c.args.bytes.now ++ l)
+    (take_all 16 (drop 16 c.args.bytes.now) (omega (arith, length-drop 16 c.args.bytes.now)))
     ∙ take-append-drop 16 c.args.bytes.now

@@ -6,7 +6,8 @@ use Rattle.iprop_links.proofs.inbox.Inbox.next.Given as goal
 -- what was to come is still to come of what is left, and no more was read than was needed
 abbrev pub invariant-loop-arrival : goal.invariant-loop-arrival
 invariant-loop-arrival g l = record {
-  steps : Steps l.fn.self.state (coming l.fn.self.pending (g.L.Link.wire l.fn.link)) l.self.state (coming l.self.pending (g.L.Link.wire l.link));
+  steps : Steps l.fn.self.state (coming l.fn.self.pending (g.L.Link.wire l.fn.link)) l.self.state
+      (coming l.self.pending (g.L.Link.wire l.link));
   gave : HasGiven (g.L.Link.wire l.fn.link) (g.L.Link.wire l.link);
   same : in_all l.fn.self.received (g.L.Link.wire l.fn.link) ≡ in_all l.self.received (g.L.Link.wire l.link);
   faults : g.L.Link.faults l.fn.link ≤ g.L.Link.faults l.link;

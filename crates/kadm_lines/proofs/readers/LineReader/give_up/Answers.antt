@@ -5,14 +5,20 @@ use Rattle.kadm_lines.specs.Windows.{lacks_feed}
 use Rattle.kadm_lines.proofs.Ranges.{lacks-none}
 use Rattle.kadm_lines.proofs.Steps.{keeps-given-up}
 use Rattle.kadm_lines.proofs.readers.LineReader.give_up.Goals as goal
-use Rattle.kadm_lines.proofs.readers.LineReader.give_up.Goals.{then-self-via-then-self, then-self-via-else-self+then-pending_len-gt-MAX_LINE_LEN}
+use Rattle.kadm_lines.proofs.readers.LineReader.give_up.Goals.{then-self-via-then-self}
+use Rattle.kadm_lines.proofs.readers.LineReader.give_up.Goals.{then-self-via-else-self+then-pending_len-gt-MAX_LINE_LEN}
 
 pub returns-then-self-clause-same : goal.returns-then-self-clause-same
 returns-then-self-clause-same c =
     let why : (c.args.self.now.skipping ≡ true) ⊎ (longest_line < length c.args.self.now.pending) =
     elim c.then-self.branch [
       | then-self-via-then-self w ↦ inl (sym (ap (λ s. s.skipping) c.self.view_is) ∙ w.if-self.true)
-      | then-self-via-else-self+then-pending_len-gt-MAX_LINE_LEN w ↦ inr (omega (arith, ap (λ s. length s.pending) c.self.view_is, w.pending_len.ensures, w.if-pending_len-gt-MAX_LINE_LEN.true))
+      | then-self-via-else-self+then-pending_len-gt-MAX_LINE_LEN w ↦ inr (omega (
+        arith,
+        ap (λ s. length s.pending) c.self.view_is,
+        w.pending_len.ensures,
+        w.if-pending_len-gt-MAX_LINE_LEN.true,
+      ))
     ] in
     keeps-given-up _ _ c.requires.lacks why refl c.discard.ensures.pending (ap (λ s. s.over) c.self.view_is)
 

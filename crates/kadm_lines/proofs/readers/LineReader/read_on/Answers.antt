@@ -11,4 +11,5 @@ returns-in-Ok-clause-same g c =
     let pending : c.read.new.self.pending ≡ c.args.self.now.pending ++ piece =
     sym (take-append-drop (length c.self.inside.window.pending) c.read.new.self.pending)
     ∙ ap (λ t. t ++ piece) (c.in-Ok.ensures.kept ∙ ap (λ s. s.pending) c.self.view_is) in
-    keeps-read _ _ piece _ _ c.in-Ok.ensures.bytes pending (ap (λ s. s.skipping) c.self.view_is) c.requires.going (λ is. c.in-Ok.ensures.end (eqb-true _ _ is))
+    keeps-read _ _ piece _ _ c.in-Ok.ensures.bytes pending (ap (λ s. s.skipping) c.self.view_is) c.requires.going
+    (λ is. c.in-Ok.ensures.end (eqb-true _ _ is))

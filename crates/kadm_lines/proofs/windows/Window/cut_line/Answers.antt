@@ -18,11 +18,18 @@ invariant_of-self-in-None c =
 
 pub returns-in-Some-clause-cut : goal.returns-in-Some-clause-cut
 returns-in-Some-clause-cut c = λ _.
-    let was : slice_range c.self.inside.bytes.items c.self.inside.start c.self.inside.end ≡ c.args.self.now.pending = ap (λ s. s.pending) c.self.view_is in
-    let lt = place-within _ c.deref.result.now _ _ _ _ _ _ c.self.invariant c.deref.ensures.value c.in-Some.ensures.within in
-    let parts = subst (λ (t : List ℕ). Parts (slice_range t c.self.inside.clear c.self.inside.end) (take c.in-Some.place (slice_range t c.self.inside.clear c.self.inside.end)) (drop (c.in-Some.place + 1) (slice_range t c.self.inside.clear c.self.inside.end))) c.deref.ensures.value c.in-Some.ensures.feed in
-    subst (λ (t : List ℕ). Parts t (slice_range c.self.inside.bytes.items c.self.inside.start (c.self.inside.clear + c.in-Some.place)) (slice_range c.self.inside.bytes.items (c.self.inside.clear + c.in-Some.place + 1) c.self.inside.end)) was
-    (cut-line c.self.inside.bytes.items c.self.inside.start c.self.inside.clear c.self.inside.end c.in-Some.place c.self.invariant.start_order c.self.invariant.clear_order lt c.self.invariant.lacks parts)
+    let was : slice_range c.self.inside.bytes.items c.self.inside.start c.self.inside.end ≡ c.args.self.now.pending =
+    ap (λ s. s.pending) c.self.view_is in
+    let lt =
+    place-within _ c.deref.result.now _ _ _ _ _ _ c.self.invariant c.deref.ensures.value c.in-Some.ensures.within in
+    let parts = subst (λ (t : List ℕ). Parts (slice_range t c.self.inside.clear c.self.inside.end)
+    (take c.in-Some.place (slice_range t c.self.inside.clear c.self.inside.end)) (drop (c.in-Some.place + 1)
+    (slice_range t c.self.inside.clear c.self.inside.end))) c.deref.ensures.value c.in-Some.ensures.feed in
+    subst (λ (t : List ℕ).
+    Parts t (slice_range c.self.inside.bytes.items c.self.inside.start (c.self.inside.clear + c.in-Some.place))
+    (slice_range c.self.inside.bytes.items (c.self.inside.clear + c.in-Some.place + 1) c.self.inside.end)) was
+    (cut-line c.self.inside.bytes.items c.self.inside.start c.self.inside.clear c.self.inside.end c.in-Some.place
+    c.self.invariant.start_order c.self.invariant.clear_order lt c.self.invariant.lacks parts)
 
 pub returns-in-None-clause-clear : goal.returns-in-None-clause-clear
 returns-in-None-clause-clear c = λ _.

@@ -9,4 +9,5 @@ pub returns-in-InQuoted : goal.returns-in-InQuoted
 returns-in-InQuoted c = sym (end_quoted c.args.self c.in-InQuoted.is)
 
 pub returns-in_ok-end_word-in-InPlain : goal.returns-in_ok-end_word-in-InPlain
-returns-in_ok-end_word-in-InPlain c = end_in_word c.args.self _ c.in-InPlain.is c.in_ok-end_word-in-InPlain.ensures.words
+returns-in_ok-end_word-in-InPlain c =
+    end_in_word c.args.self _ c.in-InPlain.is c.in_ok-end_word-in-InPlain.ensures.words

@@ -6,13 +6,17 @@ use Rattle.kadm_words.proofs.words.Splitter.take_behind_quote.Goals as goal
 
 pub returns-in_ok-end_word-in-Gap : goal.returns-in_ok-end_word-in-Gap
 returns-in_ok-end_word-in-Gap c =
-    takes_close c.args.byte c.args.self.now _ c.requires (sym c.in-Gap.ensures) c.in_ok-end_word-in-Gap.ensures.words c.in_ok-end_word-in-Gap.ensures.place
+    takes_close c.args.byte c.args.self.now _ c.requires (sym c.in-Gap.ensures) c.in_ok-end_word-in-Gap.ensures.words
+    c.in_ok-end_word-in-Gap.ensures.place
 
 pub returns-in_ok-push-in-Quote : goal.returns-in_ok-push-in-Quote
-returns-in_ok-push-in-Quote c = takes_second c.args.byte c.args.self.now _ c.requires (sym c.in-Quote.ensures) refl c.in_ok-push-in-Quote.ensures.items refl
+returns-in_ok-push-in-Quote c = takes_second c.args.byte c.args.self.now _ c.requires
+    (sym c.in-Quote.ensures) refl c.in_ok-push-in-Quote.ensures.items refl
 
 pub returns-in-Control : goal.returns-in-Control
-returns-in-Control c = refuses c.args.byte c.args.self.now BehindQuote c.requires (λ rest. from_behind c.args.byte rest Control (sym c.in-Control.ensures))
+returns-in-Control c = refuses c.args.byte c.args.self.now BehindQuote c.requires
+    (λ rest. from_behind c.args.byte rest Control (sym c.in-Control.ensures))
 
 pub returns-in-Plain : goal.returns-in-Plain
-returns-in-Plain c = refuses c.args.byte c.args.self.now BehindQuote c.requires (λ rest. from_behind c.args.byte rest Plain (sym c.in-Plain.ensures))
+returns-in-Plain c = refuses c.args.byte c.args.self.now BehindQuote c.requires
+    (λ rest. from_behind c.args.byte rest Plain (sym c.in-Plain.ensures))

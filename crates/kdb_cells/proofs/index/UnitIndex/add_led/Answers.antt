@@ -10,7 +10,11 @@ returns-clause-units c =
     let i = c.self.inside in
     let e = c.extend-self-inside.ensures in
     let old : Index = record { entries = i.entries.entries; next = i.next; placed = unit_given i.placed } in
-    let new : Index = record { entries = c.extend-self-inside.new.entries.entries; next = c.extend-self-inside.result; placed = unit_given i.placed } in
+    let new : Index = record {
+      entries = c.extend-self-inside.new.entries.entries;
+      next = c.extend-self-inside.result;
+      placed = unit_given i.placed;
+    } in
     let same = c.in_ok-reserve.ensures.entries in
     subst (λ (x : Index). units new ≡ more_led c.args.key (units x)) c.self.view_is
     (more_led_units old new c.args.key

@@ -12,12 +12,19 @@ returns-in-Some-clause-units c =
     let unit = c.args.unit in
     let mid = c.detach-self-inside.new.entries.entries in
     let d = c.detach-self-inside.ensures in
-    let mine : c.in-Some.placed.unit ≡ unit = same_Some c.in-Some.placed.unit unit (ap unit_given c.in-Some.ensures.value ∙ ap (λ (x : Index). x.placed) c.self.view_is ∙ c.requires.ready) in
+    let mine : c.in-Some.placed.unit ≡ unit = same_Some c.in-Some.placed.unit unit
+    (ap unit_given c.in-Some.ensures.value ∙ ap (λ (x : Index). x.placed) c.self.view_is ∙ c.requires.ready) in
     let old : Index = record { entries = i.entries.entries; next = i.next; placed = unit_given i.placed } in
-    let new : Index = record { entries = c.attach.new.entries.entries; next = c.detach-self-inside.result; placed = unit_given c.take.new.self } in
-    let out : (k : List ℕ) → unit_of mid k ≡ unless unit (unit_of old.entries k) = λ k. d.of k ∙ ap (λ (u : ℕ). unless u (unit_of old.entries k)) mine in
+    let new : Index = record {
+      entries = c.attach.new.entries.entries;
+      next = c.detach-self-inside.result;
+      placed = unit_given c.take.new.self;
+    } in
+    let out : (k : List ℕ) → unit_of mid k ≡ unless unit (unit_of old.entries k) =
+    λ k. d.of k ∙ ap (λ (u : ℕ). unless u (unit_of old.entries k)) mine in
     let key = c.into_vec.ensures in
-    let put : (k : List ℕ) → unit_of new.entries k ≡ cond (bytes_eq c.args.key k) (Some unit) (unit_of mid k) = λ k. c.attach.ensures.of k ∙ ap (λ (b : List ℕ). cond (bytes_eq b k) (Some unit) (unit_of mid k)) key in
+    let put : (k : List ℕ) → unit_of new.entries k ≡ cond (bytes_eq c.args.key k) (Some unit) (unit_of mid k) =
+    λ k. c.attach.ensures.of k ∙ ap (λ (b : List ℕ). cond (bytes_eq b k) (Some unit) (unit_of mid k)) key in
     let next : new.next ≡ max old.next (unit + 1) = d.next ∙ ap (λ (u : ℕ). max old.next (u + 1)) mine in
     subst (λ (x : Index). units new ≡ leading c.args.key unit (units x)) c.self.view_is
     (leading_units old new mid unit c.args.key out put next (ap unit_given c.take.ensures.after))

@@ -4,7 +4,11 @@ use Rattle.kdb_cells.proofs.Indexing.{begun_index}
 use Rattle.kdb_cells.proofs.index.UnitIndex.new.Goals as goal
 
 pub invariant_of-result : goal.invariant_of-result
-invariant_of-result c = (begun_index c.new.result.entries (heap_items c.new-2.result) c.new.ensures.empty c.new-2.ensures.items c.new-2.ensures.heap_order, tt)
+invariant_of-result c = (
+  begun_index c.new.result.entries (heap_items c.new-2.result) c.new.ensures.empty c.new-2.ensures.items
+      c.new-2.ensures.heap_order,
+  tt,
+)
 
 pub returns-clause-units : goal.returns-clause-units
 unfolding unit_of

@@ -6,7 +6,8 @@ use Rattle.kdb_disk.proofs.Picks.{unsynced_here, unsynced_other}
 use Rattle.kdb_disk.proofs.memory.MemoryDisk.count_inside.Goals as goal
 
 -- the call, and those before it
-one : (calls : List Call) (k at : ℕ) (call : Call) → k < length calls → at ≡ length calls - 1 - k → call ≡ get_or calls at call → drop (length calls - (k + 1)) calls ≡ call ∷ drop (length calls - k) calls
+one : (calls : List Call) (k at : ℕ) (call : Call) → k < length calls → at ≡ length calls - 1 - k
+    → call ≡ get_or calls at call → drop (length calls - (k + 1)) calls ≡ call ∷ drop (length calls - k) calls
 one calls k at call lt is here =
     ap (λ (n : ℕ). drop n calls) (omega arith)
     ∙ drop_more calls at call (omega arith)
@@ -20,7 +21,8 @@ returns-in-Synced-clause-calls c =
     let at = c.len.result - 1 - c.args.call in
     let long : c.len.result ≡ length calls = search rules in
     let here = one calls c.args.call at c.index.result.now c.requires (omega arith) c.index.ensures in
-    sym (ap unsynced here ∙ unsynced_here c.index.result.now c.in-Synced.file (drop (length calls - c.args.call) calls) c.in-Synced.is)
+    sym (ap unsynced here
+    ∙ unsynced_here c.index.result.now c.in-Synced.file (drop (length calls - c.args.call) calls) c.in-Synced.is)
 
 pub returns-in_default : goal.returns-in_default
 unfolding calls_inside

@@ -10,11 +10,13 @@ invariant_of-result c =
     let files = c.args.files.items in
     record {
       kept = subst (IsKept start files) (sym c.new.ensures.items)
-          (kept_first files start (c.in_ok-start.ensures.long ∙ c.requires) c.requires (λ f. sym (c.in_ok-start.ensures.same f)));
+          (kept_first files start (c.in_ok-start.ensures.long ∙ c.requires) c.requires
+          (λ f. sym (c.in_ok-start.ensures.same f)));
     }
 
 pub returns-clause-seen : goal.returns-clause-seen
-returns-clause-seen c f = first_seen (contents c.in_ok-start.start.items) c.new.result.items f c.new.ensures.items ∙ c.in_ok-start.ensures.same f
+returns-clause-seen c f = first_seen (contents c.in_ok-start.start.items) c.new.result.items f c.new.ensures.items
+    ∙ c.in_ok-start.ensures.same f
 
 pub returns-clause-settled : goal.returns-clause-settled
 returns-clause-settled c = first_settled (contents c.in_ok-start.start.items) c.new.result.items c.new.ensures.items

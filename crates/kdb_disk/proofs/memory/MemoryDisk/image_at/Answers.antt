@@ -20,7 +20,8 @@ image-requires-clause-least c =
     let disk = c.args.self.now in
     let s = contents disk.start.items in
     let past = drop (length disk.calls.items - c.count_inside-count.result) disk.calls.items in
-    let shape = subst IsShaped (sym (c.in_ok-redone.ensures s (sym c.file_at.ensures))) (shaped s past c.loop-file.file) in
+    let shape =
+    subst IsShaped (sym (c.in_ok-redone.ensures s (sym c.file_at.ensures))) (shaped s past c.loop-file.file) in
     shape.low
 
 pub image-requires-clause-greatest : goal.image-requires-clause-greatest
@@ -28,7 +29,8 @@ image-requires-clause-greatest c =
     let disk = c.args.self.now in
     let s = contents disk.start.items in
     let past = drop (length disk.calls.items - c.count_inside-count.result) disk.calls.items in
-    let shape = subst IsShaped (sym (c.in_ok-redone.ensures s (sym c.file_at.ensures))) (shaped s past c.loop-file.file) in
+    let shape =
+    subst IsShaped (sym (c.in_ok-redone.ensures s (sym c.file_at.ensures))) (shaped s past c.loop-file.file) in
     shape.high
 
 pub loop-file-preserved : goal.loop-file-preserved
@@ -40,10 +42,12 @@ loop-file-preserved c =
     let v = c.in_ok-image.field-0 in
     let is = c.in_ok-push.ensures.items in
     let here : IsPicked c.args.pick (file_after s past c.loop-file.file) v.items =
-    subst (λ (p : Pending). IsPicked c.args.pick p v.items) (c.in_ok-redone.ensures s (sym c.file_at.ensures)) c.in_ok-image.ensures in
+    subst (λ (p : Pending). IsPicked c.args.pick p v.items) (c.in_ok-redone.ensures s (sym c.file_at.ensures))
+    c.in_ok-image.ensures in
     record {
       long = ap length is ∙ length_push before v ∙ ap (λ (n : ℕ). n + 1) c.loop-file.invariant.long;
-      picked = each_file_more (λ f content. IsPicked c.args.pick (file_after s past f) content) before c.push.new.self.items v c.loop-file.file is c.loop-file.invariant.long c.loop-file.invariant.picked here;
+      picked = each_file_more (λ f content. IsPicked c.args.pick (file_after s past f) content) before
+          c.push.new.self.items v c.loop-file.file is c.loop-file.invariant.long c.loop-file.invariant.picked here;
     }
 
 -- what the files hold in the end
@@ -54,9 +58,13 @@ returns-clause-inside c =
     let s = contents disk.start.items in
     let past = drop (length disk.calls.items - c.count_inside-count.result) disk.calls.items in
     let files = c.loop-file.files.items in
-    let are = picked_images disk.start.items files past c.args.pick disk.kept.first (omega (arith, c.loop-file.invariant.long)) (Fits-drop s (length disk.calls.items - c.count_inside-count.result) disk.calls.items disk.kept.fits)
+    let are =
+    picked_images disk.start.items files past c.args.pick disk.kept.first (omega (arith, c.loop-file.invariant.long))
+    (Fits-drop s (length disk.calls.items - c.count_inside-count.result) disk.calls.items disk.kept.fits)
     (λ f lt. c.loop-file.invariant.picked f (omega (arith, lt))) in
-    IfOk-weaker c.holding.result _ _ (λ d same. subst (λ (calls : List Call). AreImages s calls (view_of (contents d.start.items) d.calls.items).seen) c.count_inside-count.ensures.calls
+    IfOk-weaker c.holding.result _ _
+    (λ d same. subst (λ (calls : List Call). AreImages s calls (view_of (contents d.start.items) d.calls.items).seen)
+    c.count_inside-count.ensures.calls
     (subst (AreImages s past) (sym (same_files _ (contents files) same)) are)) c.holding.ensures.seen
 
 pub returns-clause-left : goal.returns-clause-left
@@ -66,10 +74,18 @@ returns-clause-left c =
     let s = contents disk.start.items in
     let n = length disk.calls.items - c.count_inside-count.result in
     let files = c.loop-file.files.items in
-    let are = picked_images disk.start.items files (drop n disk.calls.items) c.args.pick disk.kept.first (omega (arith, c.loop-file.invariant.long)) (Fits-drop s n disk.calls.items disk.kept.fits)
+    let are = picked_images disk.start.items files (drop n disk.calls.items) c.args.pick disk.kept.first
+    (omega (arith, c.loop-file.invariant.long)) (Fits-drop s n disk.calls.items disk.kept.fits)
     (λ f lt. c.loop-file.invariant.picked f (omega (arith, lt))) in
-    let long : c.args.call ≤ length (drop n disk.calls.items) = omega (arith, length-drop n disk.calls.items, c.count_inside-count.ensures.at_least, c.count_inside-count.ensures.count) in
-    IfOk-weaker c.holding.result _ _ (λ d same. left_at s n c.args.call disk.calls.items _ (subst (AreImages s (drop n disk.calls.items)) (sym (same_files _ (contents files) same)) are) long) c.holding.ensures.seen
+    let long : c.args.call ≤ length (drop n disk.calls.items) = omega (
+      arith,
+      length-drop n disk.calls.items,
+      c.count_inside-count.ensures.at_least,
+      c.count_inside-count.ensures.count,
+    ) in
+    IfOk-weaker c.holding.result _ _ (λ d same. left_at s n c.args.call disk.calls.items _
+    (subst (AreImages s (drop n disk.calls.items)) (sym (same_files _ (contents files) same)) are) long)
+    c.holding.ensures.seen
 
 pub returns-clause-picked : goal.returns-clause-picked
 unfolding pending_inside view_of
@@ -78,5 +94,8 @@ returns-clause-picked c =
     let s = contents disk.start.items in
     let files = c.loop-file.files.items in
     IfOk-weaker c.holding.result _ _ (λ d same f lt.
-    subst (λ (calls : List Call). IsPicked c.args.pick (file_after s calls f) ((view_of (contents d.start.items) d.calls.items).seen f)) c.count_inside-count.ensures.calls
-    (subst (λ (l : List ℕ). IsPicked c.args.pick (file_after s (drop (length disk.calls.items - c.count_inside-count.result) disk.calls.items) f) l) (sym (same f)) (c.loop-file.invariant.picked f (omega (arith, lt))))) c.holding.ensures.seen
+    subst (λ (calls : List Call). IsPicked c.args.pick (file_after s calls f)
+    ((view_of (contents d.start.items) d.calls.items).seen f)) c.count_inside-count.ensures.calls
+    (subst (λ (l : List ℕ). IsPicked c.args.pick
+    (file_after s (drop (length disk.calls.items - c.count_inside-count.result) disk.calls.items) f) l) (sym (same f))
+    (c.loop-file.invariant.picked f (omega (arith, lt))))) c.holding.ensures.seen

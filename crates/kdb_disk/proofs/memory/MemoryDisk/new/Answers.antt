@@ -10,11 +10,13 @@ invariant_of-result c =
     let files = c.in_ok-files.files.items in
     record {
       kept = subst (IsKept start files) (sym c.new.ensures.items)
-          (kept_first files start c.in_ok-start.ensures.seven c.in_ok-files.ensures.seven (λ f. c.in_ok-files.ensures.empty f ∙ sym (c.in_ok-start.ensures.empty f)));
+          (kept_first files start c.in_ok-start.ensures.seven c.in_ok-files.ensures.seven
+          (λ f. c.in_ok-files.ensures.empty f ∙ sym (c.in_ok-start.ensures.empty f)));
     }
 
 pub returns-clause-empty : goal.returns-clause-empty
-returns-clause-empty c f = first_seen (contents c.in_ok-start.start.items) c.new.result.items f c.new.ensures.items ∙ c.in_ok-start.ensures.empty f
+returns-clause-empty c f = first_seen (contents c.in_ok-start.start.items) c.new.result.items f c.new.ensures.items
+    ∙ c.in_ok-start.ensures.empty f
 
 pub returns-clause-settled : goal.returns-clause-settled
 returns-clause-settled c = first_settled (contents c.in_ok-start.start.items) c.new.result.items c.new.ensures.items

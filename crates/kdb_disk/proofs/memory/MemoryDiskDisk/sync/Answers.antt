@@ -11,7 +11,8 @@ invariant_of-self c =
     let disk = c.args.self.now in
     record {
       kept = either c.record.result c.record.ensures.call c.record.ensures.same
-          (λ is. subst (IsKept disk.start.items disk.files.items) (sym is) (kept_synced disk.start.items disk.files.items disk.calls.items c.args.file disk.kept c.requires))
+          (λ is. subst (IsKept disk.start.items disk.files.items) (sym is)
+          (kept_synced disk.start.items disk.files.items disk.calls.items c.args.file disk.kept c.requires))
           (λ is. subst (IsKept disk.start.items disk.files.items) (sym is) disk.kept);
     }
 
@@ -20,10 +21,12 @@ unfolding view_of
 returns-clause-durable c files now =
     let disk = c.args.self.now in
     let s = contents disk.start.items in
-    synced_alone s disk.calls.items c.args.file c.requires files (subst (λ (calls : List Call). (view_of s calls).images files) c.in-Ok.ensures.call now)
+    synced_alone s disk.calls.items c.args.file c.requires files
+    (subst (λ (calls : List Call). (view_of s calls).images files) c.in-Ok.ensures.call now)
 
 pub returns-clause-looks : goal.returns-clause-looks
 returns-clause-looks c =
     let disk = c.args.self.now in
     let s = contents disk.start.items in
-    subst (λ (calls : List Call). Looks (view_of s disk.calls.items) (view_of s calls)) (sym c.in-Ok.ensures.call) (synced_looks s disk.calls.items c.args.file c.requires disk.kept.image)
+    subst (λ (calls : List Call). Looks (view_of s disk.calls.items) (view_of s calls)) (sym c.in-Ok.ensures.call)
+    (synced_looks s disk.calls.items c.args.file c.requires disk.kept.image)

@@ -9,4 +9,5 @@ returns-in-Ok-clause-left g c tells =
     let n = c.in-Ok.count in
     let look = c.read_piece.ensures.looks tells in
     ap (λ (files : Files). drop r.from c.read_piece.new.buffer.items ++ drop (r.at + n) (files r.file)) look.seen
-    ∙ same_left r.from r.at n r.buffer.items ((g.D.Disk.view c.args.disk.now).seen r.file) c.read_piece.new.buffer.items r.taken (c.in-Ok.ensures.bytes tells)
+    ∙ same_left r.from r.at n r.buffer.items ((g.D.Disk.view c.args.disk.now).seen r.file) c.read_piece.new.buffer.items
+    r.taken (c.in-Ok.ensures.bytes tells)

@@ -5,7 +5,8 @@ use Rattle.kdb_disk.specs.Memory.{IsApart}
 use Rattle.kdb_disk.proofs.replay.Replay.noise.Goals as goal
 
 -- what holds at each place holds at each of one more
-each_more : (P : ℕ → ℕ → Type 0) (xs ys : List ℕ) (y n : ℕ) → ys ≡ xs ++ y ∷ [] → length xs ≡ n → ((i : ℕ) → i < n → P i (get_or xs i 0)) → P n y → (i : ℕ) → i < n + 1 → P i (get_or ys i 0)
+each_more : (P : ℕ → ℕ → Type 0) (xs ys : List ℕ) (y n : ℕ) → ys ≡ xs ++ y ∷ [] → length xs ≡ n
+    → ((i : ℕ) → i < n → P i (get_or xs i 0)) → P n y → (i : ℕ) → i < n + 1 → P i (get_or ys i 0)
 each_more P xs ys y n is long each here i lt =
     let same : (k : ℕ) → get_or ys k 0 ≡ get_or (xs ++ y ∷ []) k 0 = λ k. ap (λ (l : List ℕ). get_or l k 0) is in
     ⊎_elim
@@ -28,8 +29,11 @@ loop-place-preserved c =
     let ranges = c.deref-in-loop-place.ensures.value in
     record {
       long = ap length is ∙ length_push xs y ∙ ap (λ (k : ℕ). k + 1) before.long;
-      stays = each_more (λ i v. i < disk.least → IsApart i disk.ranges.items → v ≡ get_or disk.base.items i 0) xs ys y n is before.long before.stays
-          (λ lt apart. c.noise_at.ensures.stays lt (subst (IsApart n) (sym ranges) apart) ∙ ap (λ (l : List ℕ). get_or l n 0) base);
-      free = each_more (λ i v. (i < disk.least → IsApart i disk.ranges.items → ⊥) → v ≡ 165) xs ys y n is before.long before.free
+      stays = each_more (λ i v. i < disk.least → IsApart i disk.ranges.items → v ≡ get_or disk.base.items i 0) xs ys y n
+          is before.long before.stays
+          (λ lt apart. c.noise_at.ensures.stays lt (subst (IsApart n) (sym ranges) apart)
+          ∙ ap (λ (l : List ℕ). get_or l n 0) base);
+      free = each_more (λ i v. (i < disk.least → IsApart i disk.ranges.items → ⊥) → v ≡ 165) xs ys y n is
+          before.long before.free
           (λ none. c.noise_at.ensures.free (λ lt apart. none lt (subst (IsApart n) ranges apart)));
     }

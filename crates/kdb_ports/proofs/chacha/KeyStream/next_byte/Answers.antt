@@ -9,7 +9,8 @@ returns-clause-byte c =
     let at = c.self.invariant in
     elim c.if-self-eq4.branch [
       | then-self-eq4 w ↦ rw (← c.self.view_is, w.self-inside-is, w.if-self-eq4.true)
-          (first_of_word old.words w.next_word.new.self w.next_word.result w.to_le_bytes-self-inside.result at.zero_nonce at.below w.next_word.ensures w.to_le_bytes-self-inside.ensures)
+          (first_of_word old.words w.next_word.new.self w.next_word.result w.to_le_bytes-self-inside.result
+          at.zero_nonce at.below w.next_word.ensures w.to_le_bytes-self-inside.ensures)
       | else-self-eq4 w ↦
           let within = at.within in
           let more : old.given < 4 = omega (arith, w.if-self-eq4.false) in

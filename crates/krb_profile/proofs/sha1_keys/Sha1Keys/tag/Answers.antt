@@ -12,5 +12,6 @@ returns c =
     let key_is : k.key ≡ c.args.self.now.key = ap (λ (u : KeyUse). u.key) c.self.view_is in
     let usage_is : k.usage ≡ c.args.self.now.usage = ap (λ (u : KeyUse). u.usage) c.self.view_is in
     let made : c.tag.result ≡ hmac (integrity_key k.key k.usage) c.args.text.now =
-    c.tag.ensures (integrity_key k.key k.usage) c.self.invariant.tags ∙ ap (hmac (integrity_key k.key k.usage)) (append-nil c.args.text.now) in
+    c.tag.ensures (integrity_key k.key k.usage) c.self.invariant.tags
+    ∙ ap (hmac (integrity_key k.key k.usage)) (append-nil c.args.text.now) in
     rw (← key_is, ← usage_is, made) refl

@@ -11,9 +11,12 @@ returns-then-not-has_tag-clause-after_seal c = λ plain s.
     let blob = c.args.blob.now in
     let other = c.tag_len-tag_len.ensures.kind in
     let len = c.tag_len-tag_len.ensures.exact in
-    let front : c.split_at.result.0.now ≡ take (length blob - tag_len u.key.etype) blob = rw len at c.split_at.ensures.front in
-    let end : c.split_at.result.1.now ≡ drop (length blob - tag_len u.key.etype) blob = rw len at c.split_at.ensures.back in
-    let same = c.in-Ok.ensures.only (s.confounder ++ plain) s.bytes (sealed_holds u.key u.usage blob plain other s ∙ sym front) in
+    let front : c.split_at.result.0.now ≡ take (length blob - tag_len u.key.etype) blob =
+    rw len at c.split_at.ensures.front in
+    let end : c.split_at.result.1.now ≡ drop (length blob - tag_len u.key.etype) blob =
+    rw len at c.split_at.ensures.back in
+    let same =
+    c.in-Ok.ensures.only (s.confounder ++ plain) s.bytes (sealed_holds u.key u.usage blob plain other s ∙ sym front) in
     let tagged : tag u.key u.usage c.deref.result.now ≡ c.split_at.result.1.now =
     rw (c.deref.ensures.value, ← same, end) (sealed_tag u.key u.usage blob plain other s) in
     let found : c.has_tag.result ≡ true = c.has_tag.ensures.1 tagged in
@@ -26,14 +29,20 @@ returns-in-Ok-from_bytes-clause-ok c =
     let text = c.in-Ok.text.items in
     let other = c.tag_len-tag_len.ensures.kind in
     let len = c.tag_len-tag_len.ensures.exact in
-    let front : c.split_at.result.0.now ≡ take (length blob - tag_len u.key.etype) blob = rw len at c.split_at.ensures.front in
-    let end : c.split_at.result.1.now ≡ drop (length blob - tag_len u.key.etype) blob = rw len at c.split_at.ensures.back in
+    let front : c.split_at.result.0.now ≡ take (length blob - tag_len u.key.etype) blob =
+    rw len at c.split_at.ensures.front in
+    let end : c.split_at.result.1.now ≡ drop (length blob - tag_len u.key.etype) blob =
+    rw len at c.split_at.ensures.back in
     let long : 16 + tag_len u.key.etype ≤ length blob = omega (arith, len, c.if-blob-tag_len.false) in
-    let front_len : length text ≡ length blob - tag_len u.key.etype = c.in-Ok.ensures.len ∙ rw len at c.split_at.ensures.front_len in
+    let front_len : length text ≡ length blob - tag_len u.key.etype =
+    c.in-Ok.ensures.len ∙ rw len at c.split_at.ensures.front_len in
     let rest : c.in-Ok-from_bytes.plain ≡ drop 16 text =
-    c.in-Ok-from_bytes.ensures ∙ take_rest c.deref-2.result.now 16 ∙ ap (λ (xs : List ℕ). drop 16 xs) c.deref-2.ensures.value in
-    let found : tag u.key u.usage text ≡ c.split_at.result.1.now = rw c.deref.ensures.value at (c.has_tag.ensures.0 c.if-not-has_tag.false) in
-    rw rest (sealed_told u.key u.usage blob text other long c.in-Ok.ensures.bytes front_len (c.in-Ok.ensures.holds ∙ front) (found ∙ end))
+    c.in-Ok-from_bytes.ensures ∙ take_rest c.deref-2.result.now 16
+    ∙ ap (λ (xs : List ℕ). drop 16 xs) c.deref-2.ensures.value in
+    let found : tag u.key u.usage text ≡ c.split_at.result.1.now =
+    rw c.deref.ensures.value at (c.has_tag.ensures.0 c.if-not-has_tag.false) in
+    rw rest (sealed_told u.key u.usage blob text other long c.in-Ok.ensures.bytes front_len
+    (c.in-Ok.ensures.holds ∙ front) (found ∙ end))
 
 pub returns-in-Ok-from_bytes-clause-after_seal : goal.returns-in-Ok-from_bytes-clause-after_seal
 returns-in-Ok-from_bytes-clause-after_seal c = λ plain s.
@@ -41,7 +50,10 @@ returns-in-Ok-from_bytes-clause-after_seal c = λ plain s.
     let blob = c.args.blob.now in
     let other = c.tag_len-tag_len.ensures.kind in
     let len = c.tag_len-tag_len.ensures.exact in
-    let front : c.split_at.result.0.now ≡ take (length blob - tag_len u.key.etype) blob = rw len at c.split_at.ensures.front in
-    let same = c.in-Ok.ensures.only (s.confounder ++ plain) s.bytes (sealed_holds u.key u.usage blob plain other s ∙ sym front) in
-    c.in-Ok-from_bytes.ensures ∙ take_rest c.deref-2.result.now 16 ∙ ap (λ (xs : List ℕ). drop 16 xs) (c.deref-2.ensures.value ∙ sym same)
+    let front : c.split_at.result.0.now ≡ take (length blob - tag_len u.key.etype) blob =
+    rw len at c.split_at.ensures.front in
+    let same =
+    c.in-Ok.ensures.only (s.confounder ++ plain) s.bytes (sealed_holds u.key u.usage blob plain other s ∙ sym front) in
+    c.in-Ok-from_bytes.ensures ∙ take_rest c.deref-2.result.now 16
+    ∙ ap (λ (xs : List ℕ). drop 16 xs) (c.deref-2.ensures.value ∙ sym same)
     ∙ drop_at s.confounder plain 16 s.whole

@@ -8,8 +8,10 @@ use Rattle.master_keys.proofs.wrapping.MasterKey.unwrap.Goals as goal
 
 pub returns-in-Some-clause-only : goal.returns-in-Some-clause-only
 returns-in-Some-clause-only c key u =
-    let same : u.text ≡ c.in-Some.text.now = append_cancel_left (little 2 (key_len c.args.etype)) u.text c.in-Some.text.now (sym u.blob_is ∙ c.in-Some.ensures.some) in
-    c.unsealed.ensures.only key u.of_type u.long (subst (λ (t : List ℕ). IsSealed c.args.self.now 0 t key.bytes) same u.sealed)
+    let same : u.text ≡ c.in-Some.text.now = append_cancel_left (little 2 (key_len c.args.etype)) u.text
+    c.in-Some.text.now (sym u.blob_is ∙ c.in-Some.ensures.some) in
+    c.unsealed.ensures.only key u.of_type u.long
+    (subst (λ (t : List ℕ). IsSealed c.args.self.now 0 t key.bytes) same u.sealed)
 
 pub returns-in-Some-clause-wrong : goal.returns-in-Some-clause-wrong
 returns-in-Some-clause-wrong c e key u =

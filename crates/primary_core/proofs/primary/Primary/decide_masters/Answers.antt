@@ -10,9 +10,21 @@ masters_decided-requires c = λ change e. c.judge_masters.ensures.applies change
 
 pub returns-in-Ok-clause-decided : goal.returns-in-Ok-clause-decided
 returns-in-Ok-clause-decided c =
-    masters_decided c.args.self.now c.args.client.now (option_map (λ acl. acl.now) c.args.acl) c.args.command.now c.args.now c.args.random.now
-    (record { opened = c.holds_opened.ensures; command = c.requires.command; random_is = c.requires.random; clock_is = c.holds_moment.ensures; point_is = subst IsPoint c.point.ensures c.holds_point.ensures })
-    (record { answers = c.master_plans_are_performed.ensures.answers; changes = c.master_plans_are_performed.ensures.changes; late = c.master_changes_end_with_time.ensures; masters = c.master_plans_are_performed.ensures.masters })
+    masters_decided c.args.self.now c.args.client.now (option_map (λ acl. acl.now) c.args.acl) c.args.command.now
+    c.args.now c.args.random.now
+    (record {
+      opened = c.holds_opened.ensures;
+      command = c.requires.command;
+      random_is = c.requires.random;
+      clock_is = c.holds_moment.ensures;
+      point_is = subst IsPoint c.point.ensures c.holds_point.ensures;
+    })
+    (record {
+      answers = c.master_plans_are_performed.ensures.answers;
+      changes = c.master_plans_are_performed.ensures.changes;
+      late = c.master_changes_end_with_time.ensures;
+      masters = c.master_plans_are_performed.ensures.masters;
+    })
     c.requires.masters c.in-Ok.planned (record {
       answer = λ s reply has e. c.judge_masters.ensures.answer s reply has (c.in-Ok.is ∙ ap Ok e);
       change = λ s change has e. c.judge_masters.ensures.change s change has (c.in-Ok.is ∙ ap Ok e);
@@ -21,11 +33,14 @@ returns-in-Ok-clause-decided c =
 
 pub returns-in-Err-clause-decided : goal.returns-in-Err-clause-decided
 returns-in-Err-clause-decided c =
-    stopped c.args.self.now c.args.client.now (option_map (λ acl. acl.now) c.args.acl) c.args.command.now c.args.now c.args.random.now
+    stopped c.args.self.now c.args.client.now (option_map (λ acl. acl.now) c.args.acl) c.args.command.now c.args.now
+    c.args.random.now
     c.in-Err.stop c.answered.result c.answered.ensures.refused c.answered.ensures.halted
-    (λ s why has e. c.plans_are_performed.ensures.refused (place_of c.args.self.now) s c.args.client.now (option_map (λ acl. acl.now) c.args.acl) c.args.command.now c.args.now c.args.random.now why
+    (λ s why has e. c.plans_are_performed.ensures.refused (place_of c.args.self.now) s c.args.client.now
+    (option_map (λ acl. acl.now) c.args.acl) c.args.command.now c.args.now c.args.random.now why
     (c.judge_masters.ensures.refused s why has (c.in-Err.is ∙ ap Err e)))
 
 pub returns-in-Err-clause-halted : goal.returns-in-Err-clause-halted
 returns-in-Err-clause-halted c =
-    err_halted c.in-Err.stop c.answered.result c.answered.ensures.refused c.answered.ensures.halted (λ halt e. c.judge_masters.ensures.halted halt (c.in-Err.is ∙ ap Err e))
+    err_halted c.in-Err.stop c.answered.result c.answered.ensures.refused c.answered.ensures.halted
+    (λ halt e. c.judge_masters.ensures.halted halt (c.in-Err.is ∙ ap Err e))

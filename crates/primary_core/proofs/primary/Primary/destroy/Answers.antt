@@ -5,10 +5,12 @@ use Rattle.primary_core.specs.Opened.{place_of}
 
 pub returns-clause-crash : goal.returns-clause-crash
 returns-clause-crash g c = λ whole. record {
-  told = λ t. weaken (c.destroy_files.ensures.crash.told t) (λ f l. may_end _ (place_of c.args.self) f (c.what_is_kept_is_recovered.ensures _ (c.requires.on t whole)) l);
+  told = λ t. weaken (c.destroy_files.ensures.crash.told t)
+      (λ f l. may_end _ (place_of c.args.self) f (c.what_is_kept_is_recovered.ensures _ (c.requires.on t whole)) l);
 }
 
 pub returns-clause-refused : goal.returns-clause-refused
 returns-clause-refused g c = λ t whole why e.
     never_refused _ _ (place_of c.args.self) c.destroy_files.result why
-    (c.what_is_kept_is_recovered.ensures _ (c.requires.on t whole) _ (g.met.D.Disk.reads_as_image c.args.disk.now t)) (c.destroy_files.ensures.answer t) e
+    (c.what_is_kept_is_recovered.ensures _ (c.requires.on t whole) _ (g.met.D.Disk.reads_as_image c.args.disk.now t))
+    (c.destroy_files.ensures.answer t) e

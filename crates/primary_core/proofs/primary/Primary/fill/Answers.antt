@@ -5,4 +5,7 @@ use Rattle.store_files.specs.Recovery.{LeavesPart}
 
 pub returns-in-Err-clause-crash : goal.returns-in-Err-clause-crash
 unfolding LeavesPart
-returns-in-Err-clause-crash g c = record { told = λ told. started _ _ (λ files image. inl (c.what_is_kept_is_recovered.ensures _ (c.requires.on told) files image)) }
+returns-in-Err-clause-crash g c = record {
+  told =
+      λ told. started _ _ (λ files image. inl (c.what_is_kept_is_recovered.ensures _ (c.requires.on told) files image));
+}

@@ -8,17 +8,41 @@ use Rattle.store_files.specs.Kept.{place_kept}
 
 pub invariant_of-self : goal.invariant_of-self
 invariant_of-self g c =
-    filled_open (record { kept = c.self.inside.database; masters = c.self.inside.masters; dumps = c.self.inside.dumps; room = c.self.inside.room })
-    (record { kept = c.replace.new.self; masters = c.args.masters; dumps = c.self.inside.dumps; room = c.self.inside.room }) c.args.rows c.args.base c.args.masters
+    filled_open (record {
+      kept = c.self.inside.database;
+      masters = c.self.inside.masters;
+      dumps = c.self.inside.dumps;
+      room = c.self.inside.room;
+    })
+    (record {
+      kept = c.replace.new.self;
+      masters = c.args.masters;
+      dumps = c.self.inside.dumps;
+      room = c.self.inside.room;
+    }) c.args.rows c.args.base c.args.masters
     c.self.invariant
-    (subst (λ (x : Opened). HasStateOf (judged c.args.masters x.kept.realm c.args.base.time.secs) c.args.rows c.args.base) (sym c.self.view_is) c.requires.shown)
-    (c.in-Ok.ensures.place ∙ ap (λ (x : List ℕ). replaced x c.args.rows c.args.base (place_kept c.self.inside.database)) (c.requires.realm ∙ ap (λ (x : Opened). x.kept.realm) (sym c.self.view_is)))
+    (subst (λ (x : Opened). HasStateOf (judged c.args.masters x.kept.realm c.args.base.time.secs) c.args.rows
+    c.args.base) (sym c.self.view_is) c.requires.shown)
+    (c.in-Ok.ensures.place ∙ ap (λ (x : List ℕ). replaced x c.args.rows c.args.base (place_kept c.self.inside.database))
+    (c.requires.realm ∙ ap (λ (x : Opened). x.kept.realm) (sym c.self.view_is)))
     refl refl refl
 
 pub returns-in-Ok-clause-state : goal.returns-in-Ok-clause-state
 returns-in-Ok-clause-state g c t shows =
-    filled_state (record { kept = c.self.inside.database; masters = c.self.inside.masters; dumps = c.self.inside.dumps; room = c.self.inside.room })
-    (record { kept = c.replace.new.self; masters = c.args.masters; dumps = c.self.inside.dumps; room = c.self.inside.room }) c.args.rows c.args.base c.args.masters t
-    (subst (λ (x : Opened). ShowsValid (judged c.args.masters x.kept.realm c.args.base.time.secs) c.args.rows c.args.base t) (sym c.self.view_is) shows)
-    (c.in-Ok.ensures.place ∙ ap (λ (x : List ℕ). replaced x c.args.rows c.args.base (place_kept c.self.inside.database)) (c.requires.realm ∙ ap (λ (x : Opened). x.kept.realm) (sym c.self.view_is)))
+    filled_state (record {
+      kept = c.self.inside.database;
+      masters = c.self.inside.masters;
+      dumps = c.self.inside.dumps;
+      room = c.self.inside.room;
+    })
+    (record {
+      kept = c.replace.new.self;
+      masters = c.args.masters;
+      dumps = c.self.inside.dumps;
+      room = c.self.inside.room;
+    }) c.args.rows c.args.base c.args.masters t
+    (subst (λ (x : Opened). ShowsValid (judged c.args.masters x.kept.realm c.args.base.time.secs) c.args.rows
+    c.args.base t) (sym c.self.view_is) shows)
+    (c.in-Ok.ensures.place ∙ ap (λ (x : List ℕ). replaced x c.args.rows c.args.base (place_kept c.self.inside.database))
+    (c.requires.realm ∙ ap (λ (x : Opened). x.kept.realm) (sym c.self.view_is)))
     refl

@@ -7,4 +7,5 @@ use Rattle.stash_opening.specs.Answers.{Refuses}
 
 pub returns-clause-only_refused : goal.returns-clause-only_refused
 returns-clause-only_refused g c =
-    subst (λ (h : Held g.row.D.Denot). (why : Refusal) → LoadRefused h.opened c.args.now c.args.dump why → Refuses c.load.result why) c.self.view_is c.load.ensures.only_refused
+    subst (λ (h : Held g.row.D.Denot). (why : Refusal) → LoadRefused h.opened c.args.now c.args.dump why
+    → Refuses c.load.result why) c.self.view_is c.load.ensures.only_refused

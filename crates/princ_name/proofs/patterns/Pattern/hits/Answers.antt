@@ -18,4 +18,5 @@ pub returns-in-Parts : goal.returns-in-Parts
 returns-in-Parts c =
     c.hits_among.ensures
     ∙ ap (λ (ps : List Part). first_of 9 (wild_places 0 (ps ++ c.in-Parts.realm ∷ []))) c.deref.ensures.value
-    ∙ parts_hits c.args.self.now c.in-Parts.parts.items c.in-Parts.realm (sym c.self.view_is ∙ ap shape_of c.in-Parts.is)
+    ∙ parts_hits c.args.self.now c.in-Parts.parts.items c.in-Parts.realm
+    (sym c.self.view_is ∙ ap shape_of c.in-Parts.is)

@@ -14,7 +14,9 @@ returns-then-self-clause-fault c = λ offset is.
 
 pub returns-clause-texts : goal.returns-clause-texts
 unfolding says texts_with
-returns-clause-texts c = ap (λ (t : List ℕ). c.args.self.texts.items ++ (record { text = t; bare = c.args.self.bare }) ∷ []) c.from_vec.ensures
+returns-clause-texts c =
+    ap (λ (t : List ℕ). c.args.self.texts.items ++ (record { text = t; bare = c.args.self.bare }) ∷ [])
+    c.from_vec.ensures
     ∙ ap (λ (p : Part). c.args.self.texts.items ++ p ∷ []) (sym (joined-end c.args.self.text.items c.args.self.bare))
 
 pub returns-clause-mark : goal.returns-clause-mark

@@ -2,13 +2,21 @@ use Rattle.princ_rows.proofs.Begins.{policy_stands, policy_finished, policy_undo
 use Rattle.princ_rows.proofs.rows.Rows.begin_put_policy.Goals as goal
 
 pub invariant_of-self-2 : goal.invariant_of-self-2
-invariant_of-self-2 c = policy_stands c.self.inside.princs.items c.self.inside.policies.items c.begin_put_boxed.new.items.items c.args.self.now c.self.view_is c.self.invariant c.args.policy c.in_ok-back.ensures.ok c.requires.row c.requires.room
+invariant_of-self-2 c =
+    policy_stands c.self.inside.princs.items c.self.inside.policies.items c.begin_put_boxed.new.items.items
+    c.args.self.now c.self.view_is c.self.invariant c.args.policy c.in_ok-back.ensures.ok c.requires.row c.requires.room
 
 pub returns-clause-ok : goal.returns-clause-ok
-returns-clause-ok c = policy_finished c.self.inside.princs.items c.self.inside.policies.items c.begin_put_boxed.new.items.items c.args.self.now c.self.view_is c.self.invariant c.in_ok-back.back c.args.policy c.in_ok-back.ensures.ok
+returns-clause-ok c =
+    policy_finished c.self.inside.princs.items c.self.inside.policies.items c.begin_put_boxed.new.items.items
+    c.args.self.now c.self.view_is c.self.invariant c.in_ok-back.back c.args.policy c.in_ok-back.ensures.ok
 
 pub returns-clause-back : goal.returns-clause-back
-returns-clause-back c = policy_undone c.self.inside.princs.items c.self.inside.policies.items c.begin_put_boxed.new.items.items c.args.self.now c.self.view_is c.self.invariant c.in_ok-back.back c.in_ok-back.ensures.back
+returns-clause-back c =
+    policy_undone c.self.inside.princs.items c.self.inside.policies.items c.begin_put_boxed.new.items.items
+    c.args.self.now c.self.view_is c.self.invariant c.in_ok-back.back c.in_ok-back.ensures.back
 
 pub returns-clause-fits : goal.returns-clause-fits
-returns-clause-fits c = policy_begun c.self.inside.princs.items c.self.inside.policies.items c.begin_put_boxed.new.items.items c.args.self.now c.self.view_is c.self.invariant c.in_ok-back.back c.in_ok-back.ensures.back c.in_ok-back.ensures.place
+returns-clause-fits c = policy_begun c.self.inside.princs.items c.self.inside.policies.items
+    c.begin_put_boxed.new.items.items c.args.self.now c.self.view_is c.self.invariant c.in_ok-back.back
+    c.in_ok-back.ensures.back c.in_ok-back.ensures.place

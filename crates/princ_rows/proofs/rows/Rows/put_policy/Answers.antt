@@ -3,10 +3,15 @@ use Rattle.princ_rows.proofs.rows.Rows.put_policy.Goals as goal
 
 pub invariant_of-self : goal.invariant_of-self
 invariant_of-self c =
-    policy_put c.self.inside.princs.items c.self.inside.policies.items c.put_boxed.new.items.items c.args.self.now c.self.view_is c.self.invariant c.put_boxed.result c.args.policy c.put_boxed.ensures.ok c.put_boxed.ensures.err c.requires.row c.requires.room
+    policy_put c.self.inside.princs.items c.self.inside.policies.items c.put_boxed.new.items.items c.args.self.now
+    c.self.view_is c.self.invariant c.put_boxed.result c.args.policy c.put_boxed.ensures.ok c.put_boxed.ensures.err
+    c.requires.row c.requires.room
 
 pub returns-clause-ok : goal.returns-clause-ok
-returns-clause-ok c = policy_put_view c.self.inside.princs.items c.self.inside.policies.items c.put_boxed.new.items.items c.args.self.now c.self.view_is c.self.invariant c.put_boxed.result c.args.policy c.put_boxed.ensures.ok
+returns-clause-ok c =
+    policy_put_view c.self.inside.princs.items c.self.inside.policies.items c.put_boxed.new.items.items c.args.self.now
+    c.self.view_is c.self.invariant c.put_boxed.result c.args.policy c.put_boxed.ensures.ok
 
 pub returns-clause-err : goal.returns-clause-err
-returns-clause-err c = policy_kept c.self.inside.princs.items c.self.inside.policies.items c.put_boxed.new.items.items c.args.self.now c.self.view_is c.self.invariant c.put_boxed.result c.put_boxed.ensures.err
+returns-clause-err c = policy_kept c.self.inside.princs.items c.self.inside.policies.items c.put_boxed.new.items.items
+    c.args.self.now c.self.view_is c.self.invariant c.put_boxed.result c.put_boxed.ensures.err

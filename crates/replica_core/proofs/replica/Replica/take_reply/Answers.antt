@@ -12,6 +12,9 @@ invariant_of-self g c = record {
 
 pub returns-clause-whole : goal.returns-clause-whole
 returns-clause-whole g c =
-    let o : Opened = record { database = c.self.inside.database; size = c.self.inside.size; failed = c.self.inside.failed } in
-    let before : is_broken o.database o.failed ≡ false = subst (λ (x : Opened). is_broken x.database x.failed ≡ false) (sym c.self.view_is) c.requires.whole in
-    unless_fault_weaker c.take.result c.take.ensures.whole (whole_after o.database c.take.new.database o.failed c.take.ensures.based before)
+    let o : Opened =
+    record { database = c.self.inside.database; size = c.self.inside.size; failed = c.self.inside.failed } in
+    let before : is_broken o.database o.failed ≡ false =
+    subst (λ (x : Opened). is_broken x.database x.failed ≡ false) (sym c.self.view_is) c.requires.whole in
+    unless_fault_weaker c.take.result c.take.ensures.whole
+    (whole_after o.database c.take.new.database o.failed c.take.ensures.based before)

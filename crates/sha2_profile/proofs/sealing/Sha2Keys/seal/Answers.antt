@@ -10,19 +10,24 @@ use Rattle.sha2_profile.proofs.sealing.Sha2Keys.seal.Goals as goal
 pub returns-clause-bytes : goal.returns-clause-bytes
 returns-clause-bytes c =
     let u = c.args.self.now in
-    let len : c.tag_len.result ≡ tag_len u.key.etype = c.tag_len.ensures ∙ ap tag_len c.etype.ensures ∙ ap (λ (v : KeyUse). tag_len v.key.etype) c.self.view_is in
+    let len : c.tag_len.result ≡ tag_len u.key.etype =
+    c.tag_len.ensures ∙ ap tag_len c.etype.ensures ∙ ap (λ (v : KeyUse). tag_len v.key.etype) c.self.view_is in
     c.from_vec.ensures ∙ c.in_ok-extend_from_slice.ensures.items
-    ∙ sealed_in_parts u.key u.usage c.tag_len.result c.args.confounder.now c.args.plain.now c.in_ok-text.text.items c.encrypted-blob.result.items c.tag-tag.result
-    c.in_ok-text.ensures.text c.encrypted-blob.ensures.bytes len (c.tag-tag.ensures ∙ ap (tag u.key u.usage) c.deref.ensures.value)
+    ∙ sealed_in_parts u.key u.usage c.tag_len.result c.args.confounder.now c.args.plain.now c.in_ok-text.text.items
+    c.encrypted-blob.result.items c.tag-tag.result
+    c.in_ok-text.ensures.text c.encrypted-blob.ensures.bytes len
+    (c.tag-tag.ensures ∙ ap (tag u.key u.usage) c.deref.ensures.value)
 
 pub returns-clause-sealed : goal.returns-clause-sealed
 returns-clause-sealed c =
     let u = c.args.self.now in
-    let len : c.tag_len.result ≡ tag_len u.key.etype = c.tag_len.ensures ∙ ap tag_len c.etype.ensures ∙ ap (λ (v : KeyUse). tag_len v.key.etype) c.self.view_is in
+    let len : c.tag_len.result ≡ tag_len u.key.etype =
+    c.tag_len.ensures ∙ ap tag_len c.etype.ensures ∙ ap (λ (v : KeyUse). tag_len v.key.etype) c.self.view_is in
     let fits : c.tag_len.result ≤ length c.tag-tag.result = omega (arith, len, tag_fits u.key.etype) in
     let blob = ap length (c.from_vec.ensures ∙ c.in_ok-extend_from_slice.ensures.items) in
     let whole = ap length c.in_ok-text.ensures.text in
-    let end : length (take c.tag_len.result c.tag-tag.result) ≡ tag_len u.key.etype = length-take-le c.tag_len.result c.tag-tag.result fits ∙ len in
+    let end : length (take c.tag_len.result c.tag-tag.result) ≡ tag_len u.key.etype =
+    length-take-le c.tag_len.result c.tag-tag.result fits ∙ len in
     record {
       confounder = c.args.confounder.now;
       whole = c.told-confounder;

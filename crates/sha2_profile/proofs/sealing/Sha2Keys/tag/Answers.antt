@@ -16,4 +16,5 @@ returns c =
     let fits : c.tag_len.result ≤ 24 = rw len (tag_fits k.key.etype) in
     rw (← key_is, ← usage_is)
     (tag_written k.key k.usage _ c.write.new.into _ c.args.text.now c.write.auto.into
-    (c.write.ensures k.key.etype (integrity_key k.key k.usage) c.self.invariant.tags) (length-take-le c.tag_len.result _ fits ∙ len))
+    (c.write.ensures k.key.etype (integrity_key k.key k.usage) c.self.invariant.tags)
+    (length-take-le c.tag_len.result _ fits ∙ len))

@@ -10,12 +10,14 @@ use Rattle.update_log.proofs.log.Log.make.Goals as goal
 
 pub returns-in-Err-clause-crash : goal.returns-in-Err-clause-crash
 returns-in-Err-clause-crash g c = record {
-  told = λ tells. let old = g.D.Disk.view c.args.disk.now in started old (IsAfter (Differs c.args.file) old) (started_differs c.args.file old);
+  told = λ tells. let old = g.D.Disk.view c.args.disk.now in
+      started old (IsAfter (Differs c.args.file) old) (started_differs c.args.file old);
 }
 
 pub returns-in-Err-queue_of-clause-crash : goal.returns-in-Err-queue_of-clause-crash
 returns-in-Err-queue_of-clause-crash g c = record {
-  told = λ tells. let old = g.D.Disk.view c.args.disk.now in started old (IsAfter (Differs c.args.file) old) (started_differs c.args.file old);
+  told = λ tells. let old = g.D.Disk.view c.args.disk.now in
+      started old (IsAfter (Differs c.args.file) old) (started_differs c.args.file old);
 }
 
 pub returns-in-Ok-write_first-clause-log : goal.returns-in-Ok-write_first-clause-log
@@ -27,4 +29,5 @@ returns-in-Ok-write_first-clause-log g c tells =
       is = refl;
       spelled = c.in-Ok.ensures.spelled;
     } in
-    c.in-Ok-write_first.ensures.ok tells c.args.base c.args.size c.args.block marker (subst (IsMarker c.args.base c.args.size c.args.block marker) (sym c.deref.ensures.value) written)
+    c.in-Ok-write_first.ensures.ok tells c.args.base c.args.size c.args.block marker
+    (subst (IsMarker c.args.base c.args.size c.args.block marker) (sym c.deref.ensures.value) written)

@@ -8,4 +8,10 @@ place_of-requires-clause-serial c =
     let log = c.self.invariant.0 in
     let next : Logged = record { entry = c.args.entry.now; cell = c.args.cell } in
     let comes = subst (λ (j : Journal). ComesNext j.held next) (sym c.self.view_is) c.requires in
-    omega (arith, comes.serial next, log.run.serials (length c.self.inside.held.items - 1) next (omega (arith, log.some)), log.some, log.from_base)
+    omega (
+      arith,
+      comes.serial next,
+      log.run.serials (length c.self.inside.held.items - 1) next (omega (arith, log.some)),
+      log.some,
+      log.from_base,
+    )

@@ -7,4 +7,5 @@ use Rattle.update_log.proofs.Preparing.{noted_log}
 use Rattle.update_log.proofs.log.Log.prepare.Goals as goal
 
 pub write_ready-requires-clause-log : goal.write_ready-requires-clause-log
-write_ready-requires-clause-log g c tells = noted_log c.args.self.now c.ready.new.self _ c.in-Ok.ensures.ok (c.requires.log tells)
+write_ready-requires-clause-log g c tells =
+    noted_log c.args.self.now c.ready.new.self _ c.in-Ok.ensures.ok (c.requires.log tells)

@@ -27,11 +27,13 @@ write_next-requires-clause-within g c tells =
     let holds = (c.requires.log tells).each seen (g.met.D.Disk.reads_as_image c.args.disk.now tells) in
     let comes = c.holds_prepared.ensures next c.requires.ready in
     let within = place_within pos holds comes in
-    subst (λ (f : ℕ). c.place-at.result ≤ length (seen f)) (sym c.in_file.ensures.value) (omega (arith, c.place-at.ensures.value, within))
+    subst (λ (f : ℕ). c.place-at.result ≤ length (seen f)) (sym c.in_file.ensures.value)
+    (omega (arith, c.place-at.ensures.value, within))
 
 pub write_next-requires-clause-durable : goal.write_next-requires-clause-durable
 write_next-requires-clause-durable g c tells =
-    subst (λ (f : ℕ). IsDurable f (g.D.Disk.view c.args.disk.now)) (sym c.in_file.ensures.value) (c.requires.durable tells)
+    subst (λ (f : ℕ). IsDurable f (g.D.Disk.view c.args.disk.now)) (sym c.in_file.ensures.value)
+    (c.requires.durable tells)
 
 pub returns-clause-crash : goal.returns-clause-crash
 returns-clause-crash g c = record {
@@ -39,7 +41,8 @@ returns-clause-crash g c = record {
       let log = c.args.self.now in
       let next : Logged = record { entry = c.args.entry.now; cell = c.args.cell } in
       let comes = c.holds_prepared.ensures next c.requires.ready in
-      let plan = ready_plan log next c.in_file.result c.place-at.result c.args.body.now c.in_file.ensures.value c.place-at.ensures.value comes c.requires.body in
+      let plan = ready_plan log next c.in_file.result c.place-at.result c.args.body.now c.in_file.ensures.value
+      c.place-at.ensures.value comes c.requires.body in
       c.write_next.ensures.crash tells log next plan (c.requires.log tells);
 }
 
@@ -48,9 +51,11 @@ returns-clause-prepared g c tells =
     let log = c.args.self.now in
     let next : Logged = record { entry = c.args.entry.now; cell = c.args.cell } in
     let comes = c.holds_prepared.ensures next c.requires.ready in
-    let plan = ready_plan log next c.in_file.result c.place-at.result c.args.body.now c.in_file.ensures.value c.place-at.ensures.value comes c.requires.body in
+    let plan = ready_plan log next c.in_file.result c.place-at.result c.args.body.now c.in_file.ensures.value
+    c.place-at.ensures.value comes c.requires.body in
     on_ok_weaker c.write_next.result
-    (λ prepares. subst (λ (j : Journal). HasPrepared j (g.D.Disk.view c.write_next.new.disk)) (prepared_log log next c.requires.ready) (has_prepared log next prepares))
+    (λ prepares. subst (λ (j : Journal). HasPrepared j (g.D.Disk.view c.write_next.new.disk))
+    (prepared_log log next c.requires.ready) (has_prepared log next prepares))
     (c.write_next.ensures.ok tells log next plan (c.requires.log tells))
 
 pub returns-clause-others : goal.returns-clause-others
@@ -58,5 +63,7 @@ returns-clause-others g c tells =
     let log = c.args.self.now in
     let next : Logged = record { entry = c.args.entry.now; cell = c.args.cell } in
     let comes = c.holds_prepared.ensures next c.requires.ready in
-    let plan = ready_plan log next c.in_file.result c.place-at.result c.args.body.now c.in_file.ensures.value c.place-at.ensures.value comes c.requires.body in
-    on_ok_weaker c.write_next.result (λ prepares. prepares.others) (c.write_next.ensures.ok tells log next plan (c.requires.log tells))
+    let plan = ready_plan log next c.in_file.result c.place-at.result c.args.body.now c.in_file.ensures.value
+    c.place-at.ensures.value comes c.requires.body in
+    on_ok_weaker c.write_next.result (λ prepares. prepares.others)
+    (c.write_next.ensures.ok tells log next plan (c.requires.log tells))

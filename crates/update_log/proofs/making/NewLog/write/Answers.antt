@@ -15,5 +15,7 @@ returns-clause-log g c tells =
       is = refl;
       spelled = c.self.invariant.spelled;
     } in
-    on_ok_weaker c.write_first.result (λ log. subst (λ (j : Journal). HasLog j (g.D.Disk.view c.write_first.new.disk)) c.self.view_is log)
-    (c.write_first.ensures.ok tells n.base n.size n.block marker (subst (IsMarker n.base n.size n.block marker) (sym c.deref.ensures.value) written))
+    on_ok_weaker c.write_first.result
+    (λ log. subst (λ (j : Journal). HasLog j (g.D.Disk.view c.write_first.new.disk)) c.self.view_is log)
+    (c.write_first.ensures.ok tells n.base n.size n.block marker
+    (subst (IsMarker n.base n.size n.block marker) (sym c.deref.ensures.value) written))
