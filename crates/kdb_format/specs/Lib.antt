@@ -9,3 +9,4 @@ pub mod Lengths
 pub mod Items
 pub mod Etypes
 pub mod EtypeLaws
+pub mod Zeros

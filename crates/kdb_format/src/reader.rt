@@ -2,6 +2,7 @@ ghost use Rattle.std.specs.Prelude.{◌≡◌, ◌↔◌, [], IsTrue, length, na
 ghost use Rattle.std.specs.List.{list_all};
 ghost use Rattle.kdb_format.specs.Answers.{Reads, ReadsAs};
 ghost use Rattle.kdb_format.specs.Fields.{IsBytes};
+ghost use Rattle.kdb_format.specs.Zeros.{still_zero, all_zero};
 ghost use Rattle.kdb_format.specs.Readings.{big_at, little_at, bytes_at, counted_at, literal_at, zeros_at};
 
 use crate::faults::Malformed;
@@ -174,9 +175,27 @@ impl<'a> Reader<'a> {
     }
 }
 
-/// Whether each byte is zero.
+// Whether all bytes are zero with this one, where it is known whether those before it are.
+fn still_zero(zero: bool, byte: u8) -> bool
+    ensures { result ≡ still_zero zero byte }
+{
+    zero & (byte == 0)
+}
+
+// Whether all bytes are zero: the fold of the above.
+#[tactic(auto, unfolding(crate::specs::Zeros::all_zero))]
+fn fold_zeros(bytes: &[u8]) -> bool
+    ensures { result ≡ all_zero bytes.now }
+{
+    bytes
+        .iter()
+        .fold(true, |zero, byte| still_zero(zero, *byte))
+}
+
+/// Whether each byte is zero. It looks at all of them, so that many are compared together.
+#[tactic(auto, using(crate::proofs::Zeros::zeros_are_all))]
 pub fn is_zero(bytes: &[u8]) -> bool
     ensures { result ≡ list_all (λ b. nat_eq b 0) bytes.now }
 {
-    bytes.iter().all(|b| *b == 0)
+    fold_zeros(bytes)
 }
