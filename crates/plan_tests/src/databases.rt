@@ -42,7 +42,7 @@ pub(crate) type Case = (
     &'static str,
 );
 
-const REALM: &[u8] = b"EXAMPLE.ORG";
+pub(crate) const REALM: &[u8] = b"EXAMPLE.ORG";
 
 /// The administrator of the machine.
 pub(crate) const LOCAL: &str = "admin/local";
@@ -65,6 +65,13 @@ pub(crate) fn created(alloc: Global) -> Result<Database, Fail> {
         masters,
         plain,
     })
+}
+
+/// Has the plain state be the one that the rows show, at the point of the creation.
+pub(crate) fn reopen(alloc: Global, database: &mut Database) -> Result<(), Fail> {
+    let realm = realm(alloc)?;
+    database.plain = Plain::open(alloc, &database.rows, &database.masters, realm.as_slice())?;
+    Ok(())
 }
 
 // ---- the rows
@@ -156,7 +163,7 @@ fn is_planned(command: &Command) -> bool
 }
 
 /// What the line is answered over rows; nothing where they alone do not decide it.
-fn answer_of_rows(
+pub(crate) fn answer_of_rows(
     alloc: Global,
     database: &mut Database,
     client: &Name,
@@ -229,7 +236,7 @@ fn read(alloc: Global, line: &[u8], plain: &Plain) -> Result<Result<Option<Comma
 }
 
 /// The command that the line says.
-fn command_of(alloc: Global, line: &[u8], plain: &Plain) -> Result<Command, Fail>
+pub(crate) fn command_of(alloc: Global, line: &[u8], plain: &Plain) -> Result<Command, Fail>
     ensures { IfOk result (IsCommand plain.now.realm) }
 {
     match read(alloc, line, plain)? {

@@ -5,6 +5,8 @@
 #[cfg(test)]
 mod databases;
 #[cfg(test)]
+mod full;
+#[cfg(test)]
 mod lists;
 #[cfg(test)]
 mod opening;

@@ -1,4 +1,4 @@
-//! The plain state that the rows of a creation show.
+//! The plain state that the rows of a creation show, with whatever policies they have.
 
 ghost use Rattle.std.specs.Prelude.{◌≡◌, IfOk};
 ghost use Rattle.kdb_plain.specs.declared.states.State.{State as PlainState};
@@ -9,8 +9,9 @@ ghost use Rattle.row_keys.specs.Sound.{ShowsValid, judged};
 use kdb_base::{Activations, Blob, Masters, Point, Time};
 use kdb_plain::{PlainPrinc, PlainPrincs, PolicyList, State, master_name, master_of};
 use master_keys::MasterKey;
-use princ_record::Princ;
-use princ_rows::Rows;
+use policy_rules::Policy;
+use princ_record::{Princ, copy_policy};
+use princ_rows::{Boxed, Rows};
 use row_keys::{open_princ, record_named};
 use std::alloc::Global;
 use std::test::Fail;
@@ -69,16 +70,25 @@ fn activations(alloc: Global, rows: &Rows, realm: &[u8]) -> Result<Activations, 
     Ok(Activations::from_vec(items))
 }
 
-/// No policies, where the rows have none.
+fn copied(alloc: Global, policies: &[Boxed<Policy>]) -> Result<Vec<Policy>, Fail>
+    ensures { IfOk result (λ v. v.items ≡ policies.now) }
+{
+    let mut out = Vec::with_capacity(alloc, policies.len())?;
+    for policy in policies {
+        let policy = copy_policy(alloc, policy.get())?;
+        out.push(policy)?;
+    }
+    Ok(out)
+}
+
+/// The policies, as the rows have them.
 fn policies(alloc: Global, rows: &Rows) -> Result<PolicyList, Fail>
     ensures { IfOk result (λ p. p ≡ rows.now.policies) }
 {
-    let [] = rows.policies() else {
-        return Err(Fail::from("no policies"));
-    };
-    match PolicyList::from_vec(Vec::new(alloc)) {
+    let policies = copied(alloc, rows.policies())?;
+    match PolicyList::from_vec(policies) {
         Some(policies) => Ok(policies),
-        None => Err(Fail::from("no policies")),
+        None => Err(Fail::from("the order of policies")),
     }
 }
 

@@ -32,7 +32,7 @@ const THERE: [Turn; 4] = [
 ];
 
 /// A version that is not there is told before a denial, and a denial before all else.
-const DENIED: [Case; 25] = [
+const DENIED: [Case; 33] = [
     (DENIES, "joe", "use_mkey 9", "err 16 UnknownMaster 9"),
     (DENIES, "joe", "use_mkey 1 1700003600", "err 7 Denied 1"),
     (ANY, "joe", "use_mkey 1 1700003600", "err 17 NoActiveMaster"),
@@ -40,6 +40,14 @@ const DENIED: [Case; 25] = [
     (ANY, "joe", "delprinc K/M", "err 8 Protected"),
     (DENIES, "joe", "addprinc -nokey K/M", "err 7 Denied 1"),
     (ANY, "joe", "addprinc -nokey K/M", "err 8 Protected"),
+    (DENIES, "joe", "modprinc K/M", "err 7 Denied 1"),
+    (DENIES, "joe", "cpw -randkey K/M", "err 7 Denied 1"),
+    (DENIES, "joe", "renprinc bob K/M", "err 7 Denied 1"),
+    (DENIES, "joe", "purgekeys K/M", "err 7 Denied 1"),
+    (DENIES, "joe", "setstr K/M k v", "err 7 Denied 1"),
+    (DENIES, "joe", "delstr K/M k", "err 7 Denied 1"),
+    (DENIES, "joe", "extract K/M", "err 7 Denied 1"),
+    (DENIES, "joe", "renprinc nobody bob", "err 7 Denied 1"),
     (DENIES, "joe", "addprinc -nokey bob", "err 7 Denied 1"),
     (ANY, "joe", "addprinc -nokey bob", "err 3 Duplicate"),
     (DENIES, "joe", "addpol std", "err 7 Denied 1"),
@@ -326,6 +334,73 @@ fn seventeenth_attribute_is_told_before_a_long_record(rt: HostRuntime) -> Result
 }
 
 const BOB: Turn = ("addprinc -nokey bob", "ok 2 1700000000.000000");
+
+/// With fifteen attributes of 1024 letters and this one, the record has 15991 bytes.
+const LAST_OF_BOB: [(u8, usize, &str); 1] = [(b'p', 480, "ok 18 1700000000.000000")];
+
+/// A client whose printed name has 42 bytes, 19 more than that of the administrator of the machine.
+const LONG: &str = "cccccccccccccccccccccccccccccc";
+
+/// A policy, a new name and the name of whoever changes it make the record longer.
+const LONGER: [Case; 8] = [
+    (
+        None,
+        "admin/local",
+        "addpol pppppppppppppppppppp",
+        "ok 19 1700000000.000000",
+    ),
+    (
+        None,
+        "admin/local",
+        "modprinc -policy nnnnnnnnnnnnnnnnnnnn bob",
+        "err 5 UnknownPolicy",
+    ),
+    (
+        None,
+        "admin/local",
+        "modprinc -policy pppppppppppppppppppp bob",
+        "err 14 RecordTooLarge 16011",
+    ),
+    (
+        None,
+        "admin/local",
+        "modprinc +lockdown_keys bob",
+        "ok 20 1700000000.000000",
+    ),
+    (
+        ANY,
+        "joe",
+        "renprinc bob bbbbbbbbbbbbbbbbbbbbbbb",
+        "err 32 LockedDown",
+    ),
+    (
+        None,
+        "admin/local",
+        "renprinc bob bbbbbbbbbbbbbbbbbbbbbbb",
+        "err 14 RecordTooLarge 16011",
+    ),
+    (ANY, LONG, "delstr bob size", "err 31 UnknownString"),
+    (
+        ANY,
+        LONG,
+        "modprinc -maxlife 1h bob",
+        "err 14 RecordTooLarge 16010",
+    ),
+];
+
+#[test]
+fn long_record_is_told_last(rt: HostRuntime) -> Result<(), Fail> {
+    let mut database = check_created(&rt, rt.alloc(), &[BOB])?;
+    check_strings(
+        &rt,
+        rt.alloc(),
+        &mut database,
+        "setstr bob a",
+        &OF_BOB[..15],
+    )?;
+    check_strings(&rt, rt.alloc(), &mut database, "setstr bob a", &LAST_OF_BOB)?;
+    check_cases(&rt, rt.alloc(), &mut database, &LONGER)
+}
 
 const EVE: [Turn; 2] = [
     ("addpol -minlife 1d slow", "ok 2 1700000000.000000"),

@@ -1,8 +1,8 @@
 //! Bytes of the files changed: where an opening says that they are damaged.
 
-use crate::looks::Look::{Holds, Stash};
-use crate::records::Change::Put;
-use crate::records::{A, B, KM};
+use crate::looks::Look::{Holds, Lacks, LacksPolicy, Stash};
+use crate::records::Change::{Drop, DropPolicy, Put, PutPolicy, Rename};
+use crate::records::{A, B, KM, POLICY};
 use crate::scripts::Turn::{Damaged, Done, Refused, Seen};
 use crate::scripts::{Turn, play};
 use crate::steps::Step::{Commit, Create, Cut, Destroy, Open, Write, WriteRow};
@@ -193,6 +193,31 @@ static TWICE: [Turn; 3] = [
     Damaged(Open, 1, 3 * 16384),
 ];
 
+// ---- the unit of the last entry
+
+/// The last entry renames, puts a policy, or takes a record or a policy away. What is taken away alone may have
+/// no unit.
+static WITHOUT_UNIT: [Turn; 18] = [
+    Done(Create(T0, 2)),
+    Done(Commit(T0, Put(A))),
+    Done(Commit(T0, Rename(b"a@EXAMPLE.ORG", B))),
+    Done(Write(3, 4096 + 14, b"\0\0\0\0")),
+    Damaged(Open, 3, 4096),
+    Done(Write(3, 4096 + 14, b"\0\0\0\x04")),
+    Done(Commit(T0, PutPolicy(POLICY))),
+    Done(Write(3, 14, b"\0\0\0\0")),
+    Damaged(Open, 3, 0),
+    Done(Write(3, 14, b"\0\0\0\x05")),
+    Done(Commit(T0, Drop(b"b@EXAMPLE.ORG"))),
+    Done(Write(3, 2048 + 14, b"\0\0\0\0")),
+    Done(Open),
+    Seen(Lacks(b"b@EXAMPLE.ORG")),
+    Done(Commit(T0, DropPolicy(b"std"))),
+    Done(Write(3, 4096 + 14, b"\0\0\0\0")),
+    Done(Open),
+    Seen(LacksPolicy(b"std")),
+];
+
 // ---- files that are cut off
 
 static CUT: [Turn; 9] = [
@@ -220,6 +245,7 @@ fn damaged_files_are_refused(rt: HostRuntime) -> Result<(), Fail> {
     play(&rt, rt.alloc(), &CONTROL)?;
     play(&rt, rt.alloc(), &NEWER)?;
     play(&rt, rt.alloc(), &TWICE)?;
+    play(&rt, rt.alloc(), &WITHOUT_UNIT)?;
     play(&rt, rt.alloc(), &CUT)?;
     play(&rt, rt.alloc(), &SHORT)
 }

@@ -8,11 +8,17 @@ mod cells;
 #[cfg(test)]
 mod changes;
 #[cfg(test)]
+mod counts;
+#[cfg(test)]
 mod damage;
+#[cfg(test)]
+mod formats;
 #[cfg(test)]
 mod logs;
 #[cfg(test)]
 mod looks;
+#[cfg(test)]
+mod many_rows;
 #[cfg(test)]
 mod openings;
 #[cfg(test)]
@@ -20,7 +26,7 @@ mod places;
 #[cfg(test)]
 mod records;
 #[cfg(test)]
-mod resets;
+mod runs;
 #[cfg(test)]
 mod scripts;
 #[cfg(test)]

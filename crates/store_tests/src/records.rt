@@ -88,8 +88,28 @@ pub(crate) const D: Record = Record {
     ..A
 };
 
+pub(crate) const ALICE: Record = Record {
+    name: b"alice@EXAMPLE.ORG",
+    ..A
+};
+
 pub(crate) const BOB: Record = Record {
     name: b"bob@EXAMPLE.ORG",
+    ..A
+};
+
+pub(crate) const CAROL: Record = Record {
+    name: b"carol@EXAMPLE.ORG",
+    ..A
+};
+
+pub(crate) const DAVE: Record = Record {
+    name: b"dave@EXAMPLE.ORG",
+    ..A
+};
+
+pub(crate) const ZOE: Record = Record {
+    name: b"zoe@EXAMPLE.ORG",
     ..A
 };
 
@@ -120,6 +140,8 @@ pub(crate) const POLICY: &[u8] = b"\0\x03std\0\0\0\0\0\0\0\0\0\x08\0\x03\0\x02";
 #[derive(Clone, Copy)]
 pub(crate) enum Change {
     Put(Record),
+    /// The record, with so many versions of its keys.
+    Keep(Record, u16),
     /// The old name, and the record that then stands.
     Rename(&'static [u8], Record),
     Drop(&'static [u8]),
@@ -233,12 +255,24 @@ fn policy_drop(alloc: Global, name: &[u8]) -> Result<Op, Fail>
     Ok(Op::DropPolicy(Blob::from_bytes(alloc, name)?))
 }
 
+// The record put with so many versions of its keys.
+fn keep_op(alloc: Global, record: &Record, versions: u16) -> Result<Op, Fail>
+    ensures { IfOk result (λ op. IsOp (Some op)) }
+{
+    let kept = Record {
+        versions,
+        ..*record
+    };
+    Ok(Op::PutPrinc(princ(alloc, &kept)?))
+}
+
 /// The change.
 pub(crate) fn op_of(alloc: Global, change: &Change) -> Result<Op, Fail>
     ensures { IfOk result (λ op. IsOp (Some op)) }
 {
     match change {
         Change::Put(record) => Ok(Op::PutPrinc(princ(alloc, record)?)),
+        Change::Keep(record, versions) => keep_op(alloc, record, *versions),
         Change::Rename(old, record) => {
             let old = printed(alloc, old)?;
             Ok(Op::Rename(old, princ(alloc, record)?))

@@ -1,5 +1,6 @@
 //! Steps, and what is asked between them.
 
+use crate::counts::is_counted;
 use crate::looks::{Look, is_seen};
 use crate::places::{found, is_one_place};
 use crate::steps::{Step, copied, image, run};
@@ -23,6 +24,9 @@ pub(crate) enum Turn {
     /// The first step is done. Each image of each moment inside of its device calls stands for the place before,
     /// for the one after, or for the one that the second step would make.
     Stopped(Step, Step),
+    /// The step is done by so many device calls: one writes a unit, three write the log, each of these is synced,
+    /// and the others look at the log.
+    Counted(Step, u64),
 }
 
 // The place to which the disk comes by the step.
@@ -51,8 +55,8 @@ fn places_of(
     Ok(places)
 }
 
-// How many calls are an opening's, before those of the step itself.
-fn calls_before(alloc: Global, disk: &mut MemoryDisk, step: &Step) -> Result<u64, Fail> {
+/// How many calls are an opening's, before those of the step itself.
+pub(crate) fn calls_before(alloc: Global, disk: &mut MemoryDisk, step: &Step) -> Result<u64, Fail> {
     match step {
         Step::Create(_, _) | Step::Open | Step::Destroy => Ok(0),
         _ => {
@@ -155,6 +159,7 @@ fn take(alloc: Global, disk: &mut MemoryDisk, turn: &Turn) -> Result<bool, Fail>
         }
         Turn::Seen(look) => is_seen(alloc, disk, look),
         Turn::Stopped(step, other) => is_stopped(alloc, disk, step, other),
+        Turn::Counted(step, calls) => is_counted(alloc, disk, step, *calls),
     }
 }
 

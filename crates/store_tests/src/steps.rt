@@ -76,7 +76,8 @@ pub(crate) fn point(sno: u32, at: At) -> Point
     Point { sno, time }
 }
 
-fn answer_of(stop: Stop) -> Answer {
+/// What an opening that was stopped answers.
+pub(crate) fn answer_of(stop: Stop) -> Answer {
     match stop {
         Stop::Refused(refusal) => Ok(Some(refusal)),
         Stop::Halt(halt) => Err(Fail::from(halt)),

@@ -1,17 +1,13 @@
 //! Changes stopped inside of each of their device calls: each image of each such moment stands for the place
 //! before or for one that the change makes.
 
+use crate::looks::Look::{Reads, Stash};
 use crate::records::Change::{Drop, DropPolicy, Put, PutPolicy, Rename};
-use crate::records::{A, B, BOB, D, KEYED_A, KEYED_B, POLICY};
-use crate::resets::{MAKE_FIRST, WITH_HISTORY, WITH_KM, WITH_KRBTGT};
-use crate::scripts::Turn::{Done, Stopped};
+use crate::records::{A, B, BOB, CAROL, D, DAVE, KEYED_A, KEYED_B, POLICY, ZOE};
+use crate::scripts::Turn::{Counted, Done, Seen, Stopped};
 use crate::scripts::{Turn, play};
-use crate::steps::Step::{
-    Commit, Create, Destroy, Migrate, Open, PutStash, Replace, Reset, ResetAndCommit,
-};
-use crate::steps::{Step, T0, T1, T2, copied, image, made, run};
-use kdb_disk::{MemoryDisk, Pick};
-use std::alloc::Global;
+use crate::steps::Step::{Commit, Create, Destroy, Open, PutStash, Reset, ResetAndCommit};
+use crate::steps::{T0, T1, T2};
 use std::test::Fail;
 
 static CHANGED: [Turn; 7] = [
@@ -51,73 +47,49 @@ fn policies_and_logs_begun_anew_are_stopped(rt: HostRuntime) -> Result<(), Fail>
     play(&rt, rt.alloc(), &BEGUN_ANEW)
 }
 
-static SWITCHED: [Turn; 5] = [
+static SWITCHED: [Turn; 7] = [
     Done(Create(T0, 2)),
     Done(Commit(T0, Put(B))),
+    Seen(Stash(Some(b"first stash"))),
     Stopped(PutStash(b"second stash"), Open),
-    Stopped(Replace(T1, A), Open),
+    Seen(Stash(Some(b"second stash"))),
+    Seen(Reads(6, 0, b"second stash")),
     Stopped(Destroy, Open),
 ];
 
-static WRITTEN_ANEW: [Turn; 6] = [
-    Done(MAKE_FIRST),
-    Done(WITH_KM),
-    Done(WITH_HISTORY),
-    Done(WITH_KRBTGT),
-    Stopped(Migrate(T1, 2), Open),
-    // the base marker, and the record behind it
-    Stopped(Commit(T1, Put(BOB)), Open),
-];
-
 #[test]
-fn files_written_anew_are_stopped(rt: HostRuntime) -> Result<(), Fail> {
-    play(&rt, rt.alloc(), &SWITCHED)?;
-    play(&rt, rt.alloc(), &WRITTEN_ANEW)
+fn another_stash_and_an_end_are_stopped(rt: HostRuntime) -> Result<(), Fail> {
+    play(&rt, rt.alloc(), &SWITCHED)
 }
 
 // ---- calls of the disk
 
-static FEW: [Step; 2] = [Create(T0, 2), Commit(T0, Put(A))];
+/// A gate closed, an entry and the gate opened are written into the log, and the unit is: each is synced. The
+/// log's length is asked once.
+static IN_NEW_SLOTS: [Turn; 6] = [
+    Done(Create(T0, 1000)),
+    Counted(Commit(T0, Put(BOB)), 9),
+    Counted(Commit(T0, Drop(b"bob@EXAMPLE.ORG")), 9),
+    Counted(Commit(T0, Put(CAROL)), 9),
+    Counted(Commit(T0, Put(DAVE)), 9),
+    Counted(Commit(T0, Rename(b"carol@EXAMPLE.ORG", ZOE)), 9),
+];
 
-// How many calls from this one on change what a file reads, or what its last sync left.
-fn count_changes(
-    alloc: Global,
-    disk: &MemoryDisk,
-    file: u8,
-    first: u64,
-    pick: Pick,
-) -> Result<u32, Fail> {
-    if file > 6 || first == 0 {
-        return Err(Fail::from("a file and a call"));
-    }
-    let mut count = 0u32;
-    let mut before = image(alloc, disk, first - 1, pick)?;
-    for call in first..disk.calls() {
-        let after = image(alloc, disk, call, pick)?;
-        if after.bytes(file) != before.bytes(file) {
-            count = count.saturating_add(1);
-        }
-        before = after;
-    }
-    Ok(count)
-}
+/// The slot's gate is read too, where the log's slots were all used before.
+static IN_USED_SLOTS: [Turn; 9] = [
+    Done(Create(T0, 2)),
+    Done(Commit(T0, Put(A))),
+    Done(Commit(T0, Put(B))),
+    Counted(Commit(T0, Put(BOB)), 10),
+    Counted(Commit(T0, Put(KEYED_A)), 10),
+    Counted(Commit(T0, Rename(b"a@EXAMPLE.ORG", D)), 10),
+    Counted(Commit(T0, Drop(b"b@EXAMPLE.ORG")), 10),
+    Counted(Commit(T0, PutPolicy(POLICY)), 10),
+    Counted(Commit(T0, DropPolicy(b"std")), 10),
+];
 
-// A gate closed, an entry and the gate opened are written into the log, and the unit is: each is synced. The
-// log's length is asked once.
 #[test]
 fn a_change_makes_four_writes_and_four_syncs(rt: HostRuntime) -> Result<(), Fail> {
-    let alloc = rt.alloc();
-    let mut disk = made(alloc, &FEW)?;
-    let mut opened = copied(alloc, &mut disk)?;
-    run(alloc, &mut opened, &Open)?;
-    let first = opened.calls();
-    let mut changed = copied(alloc, &mut disk)?;
-    run(alloc, &mut changed, &Commit(T0, Put(BOB)))?;
-    assert_eq!(rt; changed.calls().saturating_sub(first), 9);
-    copied(alloc, &mut changed)?;
-    for pick in [Pick::Written, Pick::Old] {
-        assert_eq!(rt; count_changes(alloc, &changed, 1, first, pick)?, 1);
-        assert_eq!(rt; count_changes(alloc, &changed, 3, first, pick)?, 3);
-    }
-    Ok(())
+    play(&rt, rt.alloc(), &IN_NEW_SLOTS)?;
+    play(&rt, rt.alloc(), &IN_USED_SLOTS)
 }
