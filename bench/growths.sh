@@ -1,13 +1,14 @@
 #!/bin/sh
 # Runs kdb_tool with memory refused: each growth, one number after the other, is refused once alone and once with all
 # behind it. The runs are a creation with a password, an `admin` run of changes and listings, a long entry that begins
-# the log anew, a roll of the master key, and `dump` and `load` of some hundred principals, each over a copy of one
-# prepared folder. The status has to be that of the whole run, 70, or 73 where it was a call of the folder that wanted the
-# memory (it takes some for the path of a file); what was written has to be a front of what the whole run writes (times
-# apart), and the folder, opened again, has to hold what the answered lines made and nothing else, but for rekeyings of an
-# `update_princ_encryption` that was not answered, and after 73 for the change of the line at which the run ended, which
-# is there or not. A growth is a call of malloc, calloc, realloc (one
-# that asks for more than before) or posix_memalign; a library that is loaded before the C library counts and refuses.
+# the log anew, a roll of the master key, and `dump` of 500 principals and `load` of it, whole, without its last line
+# and with a byte behind it, each over a copy of one prepared folder. The status has to be that of the whole run, 70,
+# or 73 where it was a call of the folder that wanted the memory (it takes some for the path of a file); what was
+# written has to be a front of what the whole run writes (times apart), and the folder, opened again, has to hold what
+# the answered lines made and nothing else, but for rekeyings of an `update_princ_encryption` that was not answered,
+# and after 73 for the change of the line at which the run ended, which is there or not. A growth is a call of malloc,
+# calloc, realloc (one that asks for more than before) or posix_memalign; a library that is loaded before the C
+# library counts and refuses.
 # Growths before main that end the process otherwise than the program would are counted apart; those of the loader, which
 # come before the library, are neither counted nor refused.
 # The folders lie in memory where the machine has a place for that: no sync is judged here.
@@ -161,7 +162,7 @@ subprocess.run([compiler, "-O2", "-shared", "-fPIC", "-fno-builtin", "-x", "c", 
                input=LIBRARY.encode(), check=True)
 
 REALM = "EXAMPLE.ORG"
-PRINCIPALS = 120
+PRINCIPALS = 500
 # What a run of the program may end with; a process that is ended by a signal has a negative status.
 STATUSES = {0, 1, *range(70, 76)}
 TIME = re.compile(rb"\d{10}\.\d{6}|\d{4}-\d\d-\d\dT\d\d:\d\d:\d\dZ")
@@ -334,10 +335,11 @@ def changes():
 
 
 def long_entry():
-    # A version has two keys, and the entry of fifteen of them is as long as the first blocks take.
+    # A version has two keys, and the entry of fifteen of them is as long as the first blocks take. No record has more
+    # than the 32 of sixteen.
     line = "cpw -randkey -keepold svc"
     prepared = database("addprinc -randkey svc", *[line] * 14)
-    course = of_lines("a log begun anew", prepared, [line, "addprinc -nokey bob"], ["listprincs", "getprinc svc"], 0, b"ok 3 ")
+    course = of_lines("a log begun anew", prepared, [line, line], ["listprincs", "getprinc svc"], 1, b"err 28 KeysFull")
     if not course.whole.written.startswith(b"ok 2 "):
         sys.exit(f"{course.name}: {course.whole.written}")
     return course
@@ -352,15 +354,20 @@ def roll():
 
 
 def dump_and_load():
-    prepared = database(*(f"addprinc -randkey n{number:03}" for number in range(PRINCIPALS)))
+    start = database()
+    prepared = copy_of(start)
+    admin(prepared, [f"addprinc -randkey n{number:03}" for number in range(PRINCIPALS)])
     course = Course("dump", ["dump"], prepared, unchanged)
     yield course.ends_well(0, b"end %d" % (PRINCIPALS + 3))
-    folder = copy_of(prepared)
-    admin(folder, ["addprinc -randkey other", "delprinc n000"])
     text = spoken(["dump"], prepared)
-    course = Course("load", ["load"], folder, rows, text)
-    course.end(rows(prepared))
-    yield course.ends_well(0, b"ok 1 ")
+    lines = text.splitlines(keepends=True)
+    for name, loaded, left, status, last in [
+            ("load", text, prepared, 0, b"ok 1 "),
+            ("load of a cut dump", b"".join(lines[:-1]), start, 1, b"err 24 DumpBad %d" % len(lines)),
+            ("load with a byte behind", text + b"x", start, 1, b"err 24 DumpBad %d" % (len(lines) + 1))]:
+        course = Course(name, ["load"], start, rows, loaded)
+        course.end(rows(left))
+        yield course.ends_well(status, last)
 
 
 def courses():

@@ -3,7 +3,8 @@
 ghost use Rattle.std.specs.Prelude.{◌≡◌, ◌≤◌, option_map};
 ghost use Rattle.first_rows.specs.Parts.{IsSpec};
 
-use kdb_base::{Blob, Etype};
+use kdb_base::Etype;
+use plain_keys::Password;
 use princ_name::Realm;
 use std::marker::Model;
 
@@ -12,7 +13,7 @@ use std::marker::Model;
 #[derive(Drop)]
 pub struct CreateSpec {
     realm: Realm,
-    password: Option<Blob>,
+    password: Option<Password>,
     etype: Etype,
     /// 2 to 10000.
     size: u32,
@@ -31,7 +32,7 @@ impl Model for CreateSpec {
 
 impl CreateSpec {
     /// A creation of a database of this realm, whose log holds so many entries.
-    pub fn new(realm: Realm, password: Option<Blob>, etype: Etype, size: u32) -> CreateSpec
+    pub fn new(realm: Realm, password: Option<Password>, etype: Etype, size: u32) -> CreateSpec
         requires least { 2 ≤ size }
         requires most { size ≤ 10000 }
         ensures { result ≡ record { realm = realm; password = password; etype = etype; size = size } }

@@ -17,7 +17,7 @@ use Rattle.kdb_histories.specs.Seen.{Seen, after_ask, changed, entry_point, made
 use Rattle.kdb_histories.specs.Stages.{places}
 use Rattle.kdb_places.specs.Places.{Place}
 use Rattle.kdb_plain.specs.declared.states.State.{State}
-use Rattle.performed_plans.specs.Ready.{change_places}
+use Rattle.primary_core.specs.Changes.{change_places}
 use Rattle.primary_core.specs.Opened.{HasState, IsDecided, MayMake, Opened, made_for}
 use Rattle.primary_core.specs.Opened.{masters_behind, masters_brought, place_of}
 use Rattle.primary_core.specs.declared.decided.DecidedChange.{DecidedChange}

@@ -16,13 +16,11 @@ ghost use Rattle.store_files.specs.Kept.{IsOnDisk};
 ghost use Rattle.store_files.specs.Recovery.{LeavesPart};
 
 use kadm_commands::{ChangeKeys, Command, Reply};
-use kadm_plan::{Ready, prepare};
 use kdb_base::{Etype, MemoryOut, Time};
 use kdb_disk::Disk;
-use performed_plans::laws::changes_make_places;
 use plain_keys::{Etypes, NewKeys};
 use primary_core::laws::decisions_are_asked;
-use primary_core::{Decided, DecidedChange, Primary};
+use primary_core::{Decided, DecidedChange, Primary, Ready, changes_make_places, prepare};
 use princ_name::Name;
 use session_base::SessionHalt;
 use std::alloc::Global;

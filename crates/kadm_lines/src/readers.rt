@@ -41,7 +41,7 @@ pub enum IntakeFault {
 }
 
 /// Reads an input line by line, in a buffer that does not grow.
-#[derive(Debug, Drop)]
+#[derive(Drop)]
 pub struct LineReader {
     window: Window,
     skipping: bool,

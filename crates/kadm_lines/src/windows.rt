@@ -62,7 +62,7 @@ fn read_into<S: Source>(
 }
 
 /// The bytes that were taken and not given, and the text that was given last, in one buffer.
-#[derive(Debug, Drop)]
+#[derive(Drop)]
 pub struct Window {
     bytes: Vec<u8>,
     /// The text given last is `bytes[text..text_end]`.

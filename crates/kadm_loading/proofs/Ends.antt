@@ -33,7 +33,7 @@ use Rattle.kdb_plain.specs.declared.states.State.{State}
 use Rattle.kdb_ports.proofs.Told.{after_told-nil}
 use Rattle.kdb_ports.specs.Parts.{SaidPart}
 use Rattle.kdb_ports.specs.Told.{after_told}
-use Rattle.primary_core.specs.Opened.{MayLeave, Opened, place_of}
+use Rattle.primary_loading.specs.Opened.{MayLeave, Opened, place_of}
 use Rattle.primary_loading.specs.Loading.{HasLoaded, LoadRefused, LoadsWith, MayLoad}
 use Rattle.princ_rows.specs.Rows.{RowLists}
 use Rattle.stash_opening.specs.Answers.{Refuses}

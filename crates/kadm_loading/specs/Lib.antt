@@ -1,2 +1,3 @@
+pub use Rattle.primary_loading.specs.Judging
 pub mod Halts
 pub mod Loads

@@ -18,7 +18,7 @@ use Rattle.kdb_histories.specs.Calls.{HasTimeLeft}
 use Rattle.kdb_histories.specs.Seen.{reset_point}
 use Rattle.kdb_places.specs.Places.{Place, replaced}
 use Rattle.kdb_ports.specs.Told.{after_told}
-use Rattle.primary_core.specs.Opened.{Opened, place_of}
+use Rattle.primary_loading.specs.Opened.{Opened, place_of}
 use Rattle.primary_loading.specs.Judging.{IsDumpCause, IsTaken}
 use Rattle.primary_loading.specs.Loading.{HasLoaded, load_time}
 use Rattle.princ_rows.specs.Rows.{RowLists}

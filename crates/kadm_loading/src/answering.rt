@@ -13,7 +13,7 @@ ghost use Rattle.kdb_histories.specs.Calls.{HasTimeLeft};
 ghost use Rattle.kdb_histories.specs.Seen.{reset_point};
 ghost use Rattle.kdb_ports.specs.Parts.{SaidPart};
 ghost use Rattle.kdb_ports.specs.Told.{after_told};
-ghost use Rattle.primary_core.specs.Opened.{place_of};
+ghost use Rattle.primary_loading.specs.Opened.{place_of};
 ghost use Rattle.store_files.specs.Kept.{IsOnDisk};
 ghost use Rattle.store_files.specs.Recovery.{LeavesPart, RecoversTo};
 
@@ -22,8 +22,7 @@ use kadm_commands::Reply;
 use kdb_base::{MemoryOut, Point, Refusal, Stop, Time};
 use kdb_disk::Disk;
 use kdb_ports::{Sink, write_whole};
-use primary_core::Primary;
-use primary_loading::load;
+use primary_loading::{Primary, load};
 use session_base::{Printed, SessionHalt, print, say};
 use std::alloc::Global;
 use store_files::laws::what_is_kept_is_recovered;

@@ -11,7 +11,7 @@ ghost use Rattle.kdb_base.specs.Moment.{Moment};
 ghost use Rattle.kdb_disk.specs.Frames.{IsCall};
 ghost use Rattle.kdb_disk.specs.Moments.{LeavesOnly};
 ghost use Rattle.kdb_ports.specs.Told.{later_moments};
-ghost use Rattle.primary_core.specs.Opened.{place_of};
+ghost use Rattle.primary_loading.specs.Opened.{place_of};
 ghost use Rattle.store_files.specs.Kept.{IsOnDisk};
 ghost use Rattle.store_files.specs.Recovery.{LeavesPart};
 
@@ -19,7 +19,7 @@ use crate::answering::answer;
 use crate::reading::read_dump;
 use kdb_disk::Disk;
 use kdb_ports::{Clock, Sink, Source};
-use primary_core::Primary;
+use primary_loading::Primary;
 use session_base::SessionHalt;
 use std::alloc::Global;
 use store_files::laws::what_is_kept_is_recovered;

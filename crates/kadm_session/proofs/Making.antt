@@ -19,7 +19,7 @@ use Rattle.kdb_model.specs.Laws.{IsMoment}
 use Rattle.kdb_places.specs.Places.{Place}
 use Rattle.kdb_plain.specs.declared.states.State.{State}
 use Rattle.kdb_ports.specs.Told.{later_bytes, later_moments}
-use Rattle.performed_plans.specs.Ready.{change_places}
+use Rattle.primary_core.specs.Changes.{change_places}
 use Rattle.primary_core.specs.Opened.{HasState, IsDecided, MayLeave, MayMake, Opened}
 use Rattle.primary_core.specs.Opened.{made_for, masters_behind, masters_brought, place_of}
 use Rattle.primary_core.specs.declared.decided.DecidedChange.{DecidedChange}

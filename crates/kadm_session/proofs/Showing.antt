@@ -25,7 +25,7 @@ use Rattle.kdb_model.specs.Laws.{IsMoment, at_point}
 use Rattle.kdb_places.specs.Places.{Place, committed, restashed}
 use Rattle.kdb_plain.specs.Lists.{princ_names}
 use Rattle.kdb_plain.specs.declared.states.State.{State}
-use Rattle.performed_plans.specs.Ready.{change_places}
+use Rattle.primary_core.specs.Changes.{change_places}
 use Rattle.primary_answers.specs.Listing.{names_told}
 use Rattle.primary_core.proofs.Shown.{end_shows, reset_shows}
 use Rattle.princ_rows.specs.declared.entries.Op.{Op}

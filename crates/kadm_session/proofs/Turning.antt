@@ -2,7 +2,7 @@
 use Rattle.std.proofs.Common.{◌≡◌, ◌∙◌, ℕ, List, [], ◌∷◌, ◌||◌, Bool, true, false, refl, ap, sym, subst, inl, arith}
 use Rattle.std.proofs.Math.Bool.{or-false}
 use Rattle.std.proofs.lemmas.Option.{same_Some}
-use Rattle.std.specs.Prelude.{Option, Some, None, Result, Ok, Err, IfOk, OnOk, drop, take}
+use Rattle.std.specs.Prelude.{◌≢◌, Option, Some, None, Result, Ok, Err, IfErr, IfOk, OnOk, drop, take}
 use Rattle.kadm_lines.specs.Reader.{ReaderState}
 use Rattle.std.specs.List.{Contains}
 use Rattle.kdb_disk.proofs.Runs.{started, weaken}
@@ -25,6 +25,8 @@ use Rattle.kadm_session.specs.Courses.{Stops, course, end_with, ending, rests_be
 use Rattle.session_base.specs.Stages.{IsStopped, Stage}
 use Rattle.kadm_session.specs.Deciding.{IsHalfway, MayRest}
 use Rattle.session_base.specs.Draws.{Draws}
+use Rattle.session_base.specs.declared.halts.SessionHalt.{SessionHalt}
+use Rattle.session_base.specs.declared.halts.SessionHalt.TheVariants as session
 use Rattle.kadm_session.specs.Intake.{Comes, NoCommand, before_commands, coming}
 use Rattle.kadm_session.specs.Events.{ArePerformed, IsReached}
 use Rattle.kadm_session.specs.Steps.{Said, places_by, said}
@@ -404,6 +406,14 @@ err_on {A} {B} {E} r p q x y r_is p_is q_is same =
     error : Result B E → E
     error (Ok value) = x
     error (Err e) = e
+
+-- it stopped for no want of random bytes
+pub never_drawn : {A P : Type 0} (r : Result A SessionHalt)
+    → IfErr r (λ halt. halt ≢ session.DrawFault) → r ≡ Err session.DrawFault → P
+never_drawn {A} r undrawn is =
+    let other : session.DrawFault ≢ session.DrawFault =
+    subst (λ (x : Result A SessionHalt). IfErr x (λ halt. halt ≢ session.DrawFault)) is undrawn in
+    absurd (other refl)
 
 -- the same, by another name of whether a refusal was written
 pub goes_with : (c : Course) (o : Opened) (taken : Option (List ℕ)) (refused refused' : Bool)

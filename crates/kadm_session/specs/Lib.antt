@@ -1,3 +1,5 @@
+pub use Rattle.primary_core.specs.Opened
+pub use Rattle.primary_core.specs.Opening
 pub mod Dumping
 pub mod Input
 pub mod Intake
@@ -10,3 +12,4 @@ pub mod Deciding
 pub mod RekeyedNames
 pub mod Courses
 pub mod Turns
+pub mod Serving

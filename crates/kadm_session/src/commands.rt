@@ -6,8 +6,9 @@ ghost use Rattle.kadm_replies.specs.Replies.{reply_text};
 ghost use Rattle.kadm_session.specs.Deciding.{Decides, IsLineSafe, StandsAt};
 ghost use Rattle.session_base.specs.Draws.{told_draws};
 ghost use Rattle.kadm_session.specs.Events.{Performed};
-ghost use Rattle.session_base.specs.Halts.{Counts, IsPerformHalt};
+ghost use Rattle.session_base.specs.Halts.{IsPerformHalt};
 ghost use Rattle.kadm_session.specs.Input.{IsLineCommand};
+ghost use Rattle.kadm_session.specs.Serving.{HasDrawCauses, LeavesUndone, StaysOpen};
 ghost use Rattle.kadm_session.specs.Steps.{ask_at, local_client};
 ghost use Rattle.kadm_session.specs.declared.intake.Asked.TheVariants.{Does};
 ghost use Rattle.kdb_disk.specs.Frames.{IsCall, IsCrashSafe};
@@ -24,13 +25,11 @@ use crate::clients::local_client;
 use crate::moments::holds_moment;
 use crate::stashing::{is_stash, restash};
 use kadm_commands::{Command, Reply};
-use kadm_plan::{Ready, prepare};
 use kdb_base::{MemoryOut, Time};
 use kdb_disk::Disk;
 use kdb_ports::{Clock, Entropy};
-use performed_plans::laws::changes_make_places;
 use primary_core::laws::decisions_are_asked;
-use primary_core::{Decided, DecidedChange, Primary};
+use primary_core::{Decided, DecidedChange, Primary, Ready, changes_make_places, prepare};
 use princ_name::Name;
 use session_base::{Printed, SessionHalt, draw, print};
 use std::alloc::Global;
@@ -262,15 +261,9 @@ fn perform_ready<D: Disk, C: Clock, E: Entropy>(
     ensures safe { (s : State) → HasState primary.old s → IsLineSafe D.Disk disk.old disk.new (Does ready.now.command)
         (told_draws (C.moments clock.old) (E.stream entropy.old)) (seen (place_of primary.old) s) }
     ensures text { IfOk result (λ printed. printed.text ≡ reply_text printed.reply) }
-    ensures on { D.tells → OnOk result (IsOnDisk primary.new.kept (D.view disk.new)) }
-    ensures whole { OnOk result (primary.new.kept.broken ≡ false) }
-    ensures realm { OnOk result (primary.new.kept.realm ≡ primary.old.kept.realm) }
-    ensures memory { result ≡ Err SessionHalt.MemoryOut
-        → (disk.new ≡ disk.old) × (place_of primary.new ≡ place_of primary.old) }
-    ensures drawn { result ≡ Err SessionHalt.DrawFault → (disk.new ≡ disk.old) × (primary.new ≡ primary.old) }
-    ensures halt { IfErr result IsPerformHalt }
-    ensures call { IsCall D.Disk disk.old disk.new (result ≡ Err SessionHalt.DiskFault) }
-    ensures faults { Counts (E.faults entropy.old) (E.faults entropy.new) (result ≡ Err SessionHalt.DrawFault) }
+    ensures stays { StaysOpen D.Disk primary.old primary.new disk.new result }
+    ensures undone { LeavesUndone disk.old disk.new primary.old primary.new result }
+    ensures causes { HasDrawCauses D.Disk disk.old disk.new (E.faults entropy.old) (E.faults entropy.new) result }
 {
     what_is_kept_is_recovered(disk);
     match draw(alloc, entropy, 2048) {
@@ -302,15 +295,9 @@ pub(crate) fn perform<D: Disk, C: Clock, E: Entropy>(
     ensures safe { (s : State) → HasState primary.old s → IsLineSafe D.Disk disk.old disk.new (Does command.now)
         (told_draws (C.moments clock.old) (E.stream entropy.old)) (seen (place_of primary.old) s) }
     ensures text { IfOk result (λ printed. printed.text ≡ reply_text printed.reply) }
-    ensures on { D.tells → OnOk result (IsOnDisk primary.new.kept (D.view disk.new)) }
-    ensures whole { OnOk result (primary.new.kept.broken ≡ false) }
-    ensures realm { OnOk result (primary.new.kept.realm ≡ primary.old.kept.realm) }
-    ensures memory { result ≡ Err SessionHalt.MemoryOut
-        → (disk.new ≡ disk.old) × (place_of primary.new ≡ place_of primary.old) }
-    ensures drawn { result ≡ Err SessionHalt.DrawFault → (disk.new ≡ disk.old) × (primary.new ≡ primary.old) }
-    ensures halt { IfErr result IsPerformHalt }
-    ensures call { IsCall D.Disk disk.old disk.new (result ≡ Err SessionHalt.DiskFault) }
-    ensures faults { Counts (E.faults entropy.old) (E.faults entropy.new) (result ≡ Err SessionHalt.DrawFault) }
+    ensures stays { StaysOpen D.Disk primary.old primary.new disk.new result }
+    ensures undone { LeavesUndone disk.old disk.new primary.old primary.new result }
+    ensures causes { HasDrawCauses D.Disk disk.old disk.new (E.faults entropy.old) (E.faults entropy.new) result }
 {
     what_is_kept_is_recovered(disk);
     match prepare(alloc, command, primary.realm().as_slice()) {

@@ -15,4 +15,5 @@ mod stashing;
 pub use clients::local_client;
 pub use commands::{Judged, carry_out, judge};
 pub use intake::Asked;
+pub use primary_core::Primary;
 pub use session::{serve, serve_one};

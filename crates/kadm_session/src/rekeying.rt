@@ -1,16 +1,17 @@
 //! Many principals rekeyed one after another, each as an event of its own.
 
-ghost use Rattle.std.specs.Prelude.{◌≡◌, ◌≢◌, ◌<◌, ◌≤◌, ◌+◌, false, Err, IfErr, IfOk, OnOk, Some, List, ℕ, length};
+ghost use Rattle.std.specs.Prelude.{◌≡◌, ◌<◌, ◌≤◌, ◌+◌, false, Err, IfOk, Some, List, ℕ, length};
 ghost use Rattle.std.specs.List.{All};
 ghost use Rattle.kadm_replies.specs.Replies.{reply_text};
-ghost use Rattle.kadm_session.specs.Deciding.{Decides, IsHalfway, IsLineSafe};
+ghost use Rattle.kadm_session.specs.Deciding.{Decides, IsLineSafe};
 ghost use Rattle.session_base.specs.Draws.{told_draws};
-ghost use Rattle.session_base.specs.Halts.{Counts, IsPerformHalt};
 ghost use Rattle.kadm_session.specs.Rekeying.{counted, rekey_ask};
 ghost use Rattle.kadm_session.specs.RekeyedNames.{IsMoved, IsMovedBy, IsMoveSafe, IsRekeyed};
 ghost use Rattle.kadm_session.specs.RekeyedNames.{IsRekeyedPart, IsRekeyedSafe, sum_of};
+ghost use Rattle.kadm_session.specs.Serving.{CountsOne, HasDiskCauses, HasDrawCauses, MayRekey};
+ghost use Rattle.kadm_session.specs.Serving.{RestsBefore, RestsHalfway, StaysOpen};
 ghost use Rattle.kadm_session.specs.declared.intake.Asked.TheVariants.{Rekeys};
-ghost use Rattle.kdb_disk.specs.Frames.{IsCall, IsCrashSafe};
+ghost use Rattle.kdb_disk.specs.Frames.{IsCrashSafe};
 ghost use Rattle.kdb_histories.specs.Calls.{Perform};
 ghost use Rattle.kdb_histories.specs.Seen.{seen};
 ghost use Rattle.kdb_plain.specs.Lists.{princ_names};
@@ -70,27 +71,19 @@ fn rekey_with<D: Disk>(
     random: &[u8],
     totals: Totals,
 ) -> Result<Result<Totals, Refusal>, SessionHalt>
-    requires printed { IsPrinted name.now }
-    requires other { is_master name.now ≡ false }
-    requires ring { ring.now ≡ primary.old.masters }
+    requires may { MayRekey name.now ring.now primary.old totals }
     requires random { length random.now ≡ 512 }
-    requires few { sum_of totals < 4294967295 }
     requires on { D.tells → IsOnDisk primary.old.kept (D.view disk.old) }
     requires whole { primary.old.kept.broken ≡ false }
     ensures done { (s : State) → HasState primary.old s → IfOk result
         (λ done. IsMoved (rekey_ask now random.now name.now) totals (seen (place_of primary.old) s) done primary.new) }
     ensures crash { (s : State) → HasState primary.old s → IsCrashSafe D.Disk disk.old disk.new
         (MayLeave (place_of primary.old) s (Perform (rekey_ask now random.now name.now))) }
-    ensures few { IfOk result (λ done. IfOk done (λ more. sum_of more ≤ sum_of totals + 1)) }
-    ensures on { D.tells → OnOk result (IsOnDisk primary.new.kept (D.view disk.new)) }
-    ensures whole { OnOk result (primary.new.kept.broken ≡ false) }
-    ensures realm { OnOk result (primary.new.kept.realm ≡ primary.old.kept.realm) }
-    ensures masters { OnOk result (primary.new.masters ≡ primary.old.masters) }
-    ensures memory { D.tells → result ≡ Err SessionHalt.MemoryOut → IsOnDisk primary.new.kept (D.view disk.new) }
-    ensures memory_place { result ≡ Err SessionHalt.MemoryOut → place_of primary.new ≡ place_of primary.old }
-    ensures halt { IfErr result IsPerformHalt }
-    ensures not_drawn { result ≢ Err SessionHalt.DrawFault }
-    ensures call { IsCall D.Disk disk.old disk.new (result ≡ Err SessionHalt.DiskFault) }
+    ensures counts { CountsOne totals primary.old primary.new result }
+    ensures stays { StaysOpen D.Disk primary.old primary.new disk.new result }
+    // It draws nothing.
+    ensures rests { RestsBefore D.Disk primary.old primary.new disk.new ⊥ result }
+    ensures causes { HasDiskCauses D.Disk disk.old disk.new result }
 {
     primary.holds_opened();
     printed_form_spells_the_name();
@@ -112,10 +105,7 @@ fn rekey_one<D: Disk, E: Entropy>(
     now: Time,
     totals: Totals,
 ) -> Result<Result<Totals, Refusal>, SessionHalt>
-    requires printed { IsPrinted name.now }
-    requires other { is_master name.now ≡ false }
-    requires ring { ring.now ≡ primary.old.masters }
-    requires few { sum_of totals < 4294967295 }
+    requires may { MayRekey name.now ring.now primary.old totals }
     requires on { D.tells → IsOnDisk primary.old.kept (D.view disk.old) }
     requires whole { primary.old.kept.broken ≡ false }
     ensures done { (s : State) → HasState primary.old s
@@ -123,17 +113,11 @@ fn rekey_one<D: Disk, E: Entropy>(
         (seen (place_of primary.old) s) done primary.new (E.stream entropy.new)) }
     ensures safe { (s : State) → HasState primary.old s
         → IsMoveSafe D.Disk disk.old disk.new name.now now (E.stream entropy.old) (seen (place_of primary.old) s) }
-    ensures few { IfOk result (λ done. IfOk done (λ more. sum_of more ≤ sum_of totals + 1)) }
-    ensures on { D.tells → OnOk result (IsOnDisk primary.new.kept (D.view disk.new)) }
-    ensures whole { OnOk result (primary.new.kept.broken ≡ false) }
-    ensures realm { OnOk result (primary.new.kept.realm ≡ primary.old.kept.realm) }
-    ensures masters { OnOk result (primary.new.masters ≡ primary.old.masters) }
-    ensures memory { D.tells → result ≡ Err SessionHalt.MemoryOut → IsOnDisk primary.new.kept (D.view disk.new) }
-    ensures memory_place { result ≡ Err SessionHalt.MemoryOut → place_of primary.new ≡ place_of primary.old }
-    ensures drawn { result ≡ Err SessionHalt.DrawFault → (disk.new ≡ disk.old) × (primary.new ≡ primary.old) }
-    ensures halt { IfErr result IsPerformHalt }
-    ensures call { IsCall D.Disk disk.old disk.new (result ≡ Err SessionHalt.DiskFault) }
-    ensures faults { Counts (E.faults entropy.old) (E.faults entropy.new) (result ≡ Err SessionHalt.DrawFault) }
+    ensures counts { CountsOne totals primary.old primary.new result }
+    ensures stays { StaysOpen D.Disk primary.old primary.new disk.new result }
+    ensures rests { RestsBefore D.Disk primary.old primary.new disk.new
+        ((disk.new ≡ disk.old) × (primary.new ≡ primary.old)) result }
+    ensures causes { HasDrawCauses D.Disk disk.old disk.new (E.faults entropy.old) (E.faults entropy.new) result }
 {
     what_is_kept_is_recovered(disk);
     match draw(alloc, entropy, 512) {
@@ -171,16 +155,12 @@ fn rekey_all<D: Disk, E: Entropy>(
         (E.stream entropy.old) (seen (place_of primary.old) s) reply primary.new (E.stream entropy.new)) }
     ensures safe { (s : State) → HasState primary.old s
         → IsRekeyedSafe D.Disk disk.old disk.new names.now now (E.stream entropy.old) (seen (place_of primary.old) s) }
-    ensures on { D.tells → OnOk result (IsOnDisk primary.new.kept (D.view disk.new)) }
-    ensures whole { OnOk result (primary.new.kept.broken ≡ false) }
-    ensures realm { OnOk result (primary.new.kept.realm ≡ primary.old.kept.realm) }
+    ensures stays { StaysOpen D.Disk primary.old primary.new disk.new result }
     ensures memory { (s : State) → HasState primary.old s → result ≡ Err SessionHalt.MemoryOut
         → IsRekeyedPart D.Disk disk.new names.now now (E.stream entropy.old) (seen (place_of primary.old) s) }
     ensures drawn { (s : State) → HasState primary.old s → result ≡ Err SessionHalt.DrawFault
         → IsRekeyedPart D.Disk disk.new names.now now (E.stream entropy.old) (seen (place_of primary.old) s) }
-    ensures halt { IfErr result IsPerformHalt }
-    ensures call { IsCall D.Disk disk.old disk.new (result ≡ Err SessionHalt.DiskFault) }
-    ensures faults { Counts (E.faults entropy.old) (E.faults entropy.new) (result ≡ Err SessionHalt.DrawFault) }
+    ensures causes { HasDrawCauses D.Disk disk.old disk.new (E.faults entropy.old) (E.faults entropy.new) result }
 {
     what_is_kept_is_recovered(disk);
     let mut totals = Totals {
@@ -269,18 +249,10 @@ fn rekey_matching<D: Disk, C: Clock, E: Entropy>(
         (Some reply) primary.new (told_draws (C.moments clock.new) (E.stream entropy.new))) }
     ensures safe { (s : State) → HasState primary.old s → IsLineSafe D.Disk disk.old disk.new (Rekeys glob.now)
         (told_draws (C.moments clock.old) (E.stream entropy.old)) (seen (place_of primary.old) s) }
-    ensures on { D.tells → OnOk result (IsOnDisk primary.new.kept (D.view disk.new)) }
-    ensures whole { OnOk result (primary.new.kept.broken ≡ false) }
-    ensures realm { OnOk result (primary.new.kept.realm ≡ primary.old.kept.realm) }
-    ensures memory { (s : State) → HasState primary.old s → result ≡ Err SessionHalt.MemoryOut
-        → IsHalfway D.Disk disk.new (Rekeys glob.now) (told_draws (C.moments clock.old) (E.stream entropy.old))
-        (seen (place_of primary.old) s) }
-    ensures drawn { (s : State) → HasState primary.old s → result ≡ Err SessionHalt.DrawFault
-        → IsHalfway D.Disk disk.new (Rekeys glob.now) (told_draws (C.moments clock.old) (E.stream entropy.old))
-        (seen (place_of primary.old) s) }
-    ensures halt { IfErr result IsPerformHalt }
-    ensures call { IsCall D.Disk disk.old disk.new (result ≡ Err SessionHalt.DiskFault) }
-    ensures faults { Counts (E.faults entropy.old) (E.faults entropy.new) (result ≡ Err SessionHalt.DrawFault) }
+    ensures stays { StaysOpen D.Disk primary.old primary.new disk.new result }
+    ensures rests { (s : State) → HasState primary.old s → RestsHalfway D.Disk disk.new (Rekeys glob.now)
+        (told_draws (C.moments clock.old) (E.stream entropy.old)) (seen (place_of primary.old) s) result }
+    ensures causes { HasDrawCauses D.Disk disk.old disk.new (E.faults entropy.old) (E.faults entropy.new) result }
 {
     what_is_kept_is_recovered(disk);
     match rekeying_of(alloc, primary, glob) {
@@ -319,18 +291,10 @@ pub(crate) fn rekey<D: Disk, C: Clock, E: Entropy>(
     ensures safe { (s : State) → HasState primary.old s → IsLineSafe D.Disk disk.old disk.new (Rekeys glob.now)
         (told_draws (C.moments clock.old) (E.stream entropy.old)) (seen (place_of primary.old) s) }
     ensures text { IfOk result (λ printed. printed.text ≡ reply_text printed.reply) }
-    ensures on { D.tells → OnOk result (IsOnDisk primary.new.kept (D.view disk.new)) }
-    ensures whole { OnOk result (primary.new.kept.broken ≡ false) }
-    ensures realm { OnOk result (primary.new.kept.realm ≡ primary.old.kept.realm) }
-    ensures memory { (s : State) → HasState primary.old s → result ≡ Err SessionHalt.MemoryOut
-        → IsHalfway D.Disk disk.new (Rekeys glob.now) (told_draws (C.moments clock.old) (E.stream entropy.old))
-        (seen (place_of primary.old) s) }
-    ensures drawn { (s : State) → HasState primary.old s → result ≡ Err SessionHalt.DrawFault
-        → IsHalfway D.Disk disk.new (Rekeys glob.now) (told_draws (C.moments clock.old) (E.stream entropy.old))
-        (seen (place_of primary.old) s) }
-    ensures halt { IfErr result IsPerformHalt }
-    ensures call { IsCall D.Disk disk.old disk.new (result ≡ Err SessionHalt.DiskFault) }
-    ensures faults { Counts (E.faults entropy.old) (E.faults entropy.new) (result ≡ Err SessionHalt.DrawFault) }
+    ensures stays { StaysOpen D.Disk primary.old primary.new disk.new result }
+    ensures rests { (s : State) → HasState primary.old s → RestsHalfway D.Disk disk.new (Rekeys glob.now)
+        (told_draws (C.moments clock.old) (E.stream entropy.old)) (seen (place_of primary.old) s) result }
+    ensures causes { HasDrawCauses D.Disk disk.old disk.new (E.faults entropy.old) (E.faults entropy.new) result }
 {
     match rekey_matching(alloc, primary, disk, clock, entropy, glob) {
         Ok(reply) => {

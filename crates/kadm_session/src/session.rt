@@ -1,24 +1,22 @@
 //! A session: the lines of an input, one after another.
 
 ghost use Rattle.std.specs.Prelude.{◌≡◌, ◌≢◌, ◌<◌, ◌∷◌, ◌||◌, IsTrue, Bool, false, List, []};
-ghost use Rattle.std.specs.Prelude.{ℕ, Option, Some, None, Ok, Err, IfErr, IfOk, OnOk, OnErr};
+ghost use Rattle.std.specs.Prelude.{Some, None, Err, IfErr, IfOk, OnOk, OnErr};
 ghost use Rattle.kadm_lines.specs.Reader.{work_left};
-ghost use Rattle.kadm_session.specs.Courses.{Ending, EndsAs, GoesOnFrom, IsAtRest, IsBetweenLines, IsDoneWhole};
-ghost use Rattle.kadm_session.specs.Courses.{Leaves, Stops, course, ending, lines_begun, nothing_begun};
-ghost use Rattle.session_base.specs.Stages.{IsStopped};
-ghost use Rattle.kadm_session.specs.Deciding.{Decides, IsHalfway, IsLineSafe};
+ghost use Rattle.kadm_session.specs.Courses.{Ending, EndsAs, GoesOnFrom, IsDoneWhole, ending};
+ghost use Rattle.kadm_session.specs.Deciding.{Decides, IsLineSafe};
 ghost use Rattle.session_base.specs.Draws.{told_draws};
-ghost use Rattle.session_base.specs.Halts.{Counts, IsAnswerHalt, IsPerformHalt};
+ghost use Rattle.session_base.specs.Halts.{Counts};
 ghost use Rattle.kadm_session.specs.Input.{IsAsked};
 ghost use Rattle.kadm_session.specs.Dumping.{dump_lines};
-ghost use Rattle.kadm_session.specs.Intake.{coming, NoCommand, HasTaken};
+ghost use Rattle.kadm_session.specs.Intake.{coming, NoCommand};
 ghost use Rattle.session_base.specs.Replies.{reply_in, text_in, text_of};
+ghost use Rattle.kadm_session.specs.Serving.{EndsIdle, HasAnswerCauses, HasDrawCauses, HasInputCauses, LeavesAll};
+ghost use Rattle.kadm_session.specs.Serving.{RestsHalfway, Serves, StaysOpen, StopsBetween, TakesInput, course_over};
 ghost use Rattle.kadm_session.specs.Steps.{is_refusal, line_text, refuses};
 ghost use Rattle.kadm_session.specs.Turns.{GoesOn};
 ghost use Rattle.kadm_session.specs.declared.intake.Asked.{Asked as Asks};
 ghost use Rattle.kadm_session.specs.declared.intake.Asked.TheVariants.{WritesDump};
-ghost use Rattle.kdb_disk.specs.Frames.{IsCall};
-ghost use Rattle.kdb_disk.specs.Moments.{LeavesOnly};
 ghost use Rattle.kdb_histories.specs.Seen.{seen};
 ghost use Rattle.kdb_plain.specs.declared.states.State.{State};
 ghost use Rattle.kdb_ports.specs.Parts.{SaidPart};
@@ -78,16 +76,10 @@ fn decide<D: Disk, C: Clock, E: Entropy>(
     ensures safe { (s : State) → HasState primary.old s → IsLineSafe D.Disk disk.old disk.new asked.now
         (told_draws (C.moments clock.old) (E.stream entropy.old)) (seen (place_of primary.old) s) }
     ensures text { IfOk result (λ printed. text_in printed ≡ text_of (reply_in printed)) }
-    ensures on { D.tells → OnOk result (IsOnDisk primary.new.kept (D.view disk.new)) }
-    ensures whole { OnOk result (primary.new.kept.broken ≡ false) }
-    ensures realm { OnOk result (primary.new.kept.realm ≡ primary.old.kept.realm) }
-    ensures memory { (s : State) → HasState primary.old s → result ≡ Err SessionHalt.MemoryOut → IsHalfway D.Disk
-        disk.new asked.now (told_draws (C.moments clock.old) (E.stream entropy.old)) (seen (place_of primary.old) s) }
-    ensures drawn { (s : State) → HasState primary.old s → result ≡ Err SessionHalt.DrawFault → IsHalfway D.Disk
-        disk.new asked.now (told_draws (C.moments clock.old) (E.stream entropy.old)) (seen (place_of primary.old) s) }
-    ensures halt { IfErr result IsPerformHalt }
-    ensures call { IsCall D.Disk disk.old disk.new (result ≡ Err SessionHalt.DiskFault) }
-    ensures faults { Counts (E.faults entropy.old) (E.faults entropy.new) (result ≡ Err SessionHalt.DrawFault) }
+    ensures stays { StaysOpen D.Disk primary.old primary.new disk.new result }
+    ensures rests { (s : State) → HasState primary.old s → RestsHalfway D.Disk disk.new asked.now
+        (told_draws (C.moments clock.old) (E.stream entropy.old)) (seen (place_of primary.old) s) result }
+    ensures causes { HasDrawCauses D.Disk disk.old disk.new (E.faults entropy.old) (E.faults entropy.new) result }
 {
     what_is_kept_is_recovered(disk);
     match asked {
@@ -158,38 +150,19 @@ fn answer<K: Sink, D: Disk, C: Clock, E: Entropy>(
     requires on { D.tells → IsOnDisk primary.old.kept (D.view disk.old) }
     requires whole { primary.old.kept.broken ≡ false }
     ensures next { (s : State) (refused : Bool) (more : List Asks) → HasState primary.old s
-        → IfOk result (λ now_refused.
-        GoesOnFrom (course (K.taken sink.old) refused (Some (asked.now ∷ more))
-        (told_draws (C.moments clock.old) (E.stream entropy.old)) (seen (place_of primary.old) s))
+        → IfOk result (λ now_refused. GoesOnFrom (course_over (K.taken sink.old) refused (Some (asked.now ∷ more))
+        (told_draws (C.moments clock.old) (E.stream entropy.old)) primary.old s)
         primary.new (K.taken sink.new) (refused || now_refused) (Some more)
         (told_draws (C.moments clock.new) (E.stream entropy.new))) }
-    ensures stopped { D.tells → (s : State) (refused : Bool) (more : List Asks) → HasState primary.old s → OnErr result
-        (IsStopped (Stops (course (K.taken sink.old) refused (Some (asked.now ∷ more))
-        (told_draws (C.moments clock.old) (E.stream entropy.old)) (seen (place_of primary.old) s))) (K.taken sink.new)
-        (D.view disk.new)) }
-    ensures moments { D.tells → (s : State) (refused : Bool) (more : List Asks) → HasState primary.old s
-        → LeavesOnly (D.view disk.old) (D.view disk.new)
-        (Leaves (course (K.taken sink.old) refused (Some (asked.now ∷ more))
-        (told_draws (C.moments clock.old) (E.stream entropy.old)) (seen (place_of primary.old) s))) }
-    ensures on { D.tells → OnOk result (IsOnDisk primary.new.kept (D.view disk.new)) }
-    ensures whole { OnOk result (primary.new.kept.broken ≡ false) }
-    ensures realm { OnOk result (primary.new.kept.realm ≡ primary.old.kept.realm) }
-    ensures memory { D.tells → (s : State) (refused : Bool) (more : List Asks) → HasState primary.old s
-        → result ≡ Err SessionHalt.MemoryOut
-        → IsAtRest lines_begun (course (K.taken sink.old) refused (Some (asked.now ∷ more))
-        (told_draws (C.moments clock.old) (E.stream entropy.old)) (seen (place_of primary.old) s)) (K.taken sink.new)
-        (D.view disk.new) }
-    ensures drawn { D.tells → (s : State) (refused : Bool) (more : List Asks) → HasState primary.old s
-        → result ≡ Err SessionHalt.DrawFault
-        → IsAtRest nothing_begun (course (K.taken sink.old) refused (Some (asked.now ∷ more))
-        (told_draws (C.moments clock.old) (E.stream entropy.old)) (seen (place_of primary.old) s)) (K.taken sink.new)
-        (D.view disk.new) }
+    ensures serves { D.tells → (s : State) (refused : Bool) (more : List Asks) → HasState primary.old s
+        → Serves (course_over (K.taken sink.old) refused (Some (asked.now ∷ more))
+        (told_draws (C.moments clock.old) (E.stream entropy.old)) primary.old s)
+        (D.view disk.old) (D.view disk.new) (K.taken sink.new) result }
+    ensures stays { StaysOpen D.Disk primary.old primary.new disk.new result }
     ensures unsaid { asked.now ≢ WritesDump
         → IfErr result (λ halt. halt ≢ SessionHalt.WriteFault → sink.new ≡ sink.old) }
-    ensures halt { IfErr result IsAnswerHalt }
-    ensures call { IsCall D.Disk disk.old disk.new (result ≡ Err SessionHalt.DiskFault) }
-    ensures writes { Counts (K.faults sink.old) (K.faults sink.new) (result ≡ Err SessionHalt.WriteFault) }
-    ensures draws { Counts (E.faults entropy.old) (E.faults entropy.new) (result ≡ Err SessionHalt.DrawFault) }
+    ensures causes { HasAnswerCauses D.Disk disk.old disk.new (K.faults sink.old) (K.faults sink.new)
+        (E.faults entropy.old) (E.faults entropy.new) result }
 {
     let printed = match decide(alloc, primary, disk, clock, entropy, asked) {
         Ok(printed) => printed,
@@ -218,48 +191,25 @@ fn turn<S: Source, K: Sink, D: Disk, C: Clock, E: Entropy>(
     requires on { D.tells → IsOnDisk primary.old.kept (D.view disk.old) }
     requires whole { primary.old.kept.broken ≡ false }
     ensures next { (s : State) (refused : Bool) → HasState primary.old s → IfOk result (λ turn. GoesOn turn
-        (λ now_refused.
-        GoesOnFrom (course (K.taken sink.old) refused (coming primary.old.kept.realm reader.old (S.left source.old))
-        (told_draws (C.moments clock.old) (E.stream entropy.old)) (seen (place_of primary.old) s))
+        (λ now_refused. GoesOnFrom
+        (course_over (K.taken sink.old) refused (coming primary.old.kept.realm reader.old (S.left source.old))
+        (told_draws (C.moments clock.old) (E.stream entropy.old)) primary.old s)
         primary.new (K.taken sink.new) (refused || now_refused) (coming primary.new.kept.realm reader.new
         (S.left source.new)) (told_draws (C.moments clock.new) (E.stream entropy.new)))
         (NoCommand (coming primary.old.kept.realm reader.old (S.left source.old)))) }
-    ensures stopped { D.tells → (s : State) (refused : Bool) → HasState primary.old s → OnErr result
-        (IsStopped (Stops (course (K.taken sink.old) refused (coming primary.old.kept.realm reader.old
-        (S.left source.old)) (told_draws (C.moments clock.old) (E.stream entropy.old)) (seen (place_of primary.old) s)))
-        (K.taken sink.new) (D.view disk.new)) }
-    ensures moments { D.tells → (s : State) (refused : Bool) → HasState primary.old s
-        → LeavesOnly (D.view disk.old) (D.view disk.new)
-        (Leaves (course (K.taken sink.old) refused (coming primary.old.kept.realm reader.old (S.left source.old))
-        (told_draws (C.moments clock.old) (E.stream entropy.old)) (seen (place_of primary.old) s))) }
-    ensures on { D.tells → OnOk result (IsOnDisk primary.new.kept (D.view disk.new)) }
-    ensures whole { OnOk result (primary.new.kept.broken ≡ false) }
-    ensures memory { D.tells → (s : State) (refused : Bool) → HasState primary.old s
-        → result ≡ Err SessionHalt.MemoryOut
-        → IsAtRest lines_begun (course (K.taken sink.old) refused (coming primary.old.kept.realm reader.old
-        (S.left source.old)) (told_draws (C.moments clock.old) (E.stream entropy.old)) (seen (place_of primary.old) s))
-        (K.taken sink.new) (D.view disk.new) }
-    ensures drawn { D.tells → (s : State) (refused : Bool) → HasState primary.old s → result ≡ Err SessionHalt.DrawFault
-        → IsAtRest nothing_begun
-        (course (K.taken sink.old) refused (coming primary.old.kept.realm reader.old (S.left source.old))
-        (told_draws (C.moments clock.old) (E.stream entropy.old)) (seen (place_of primary.old) s)) (K.taken sink.new)
-        (D.view disk.new) }
-    ensures read { result ≡ Err SessionHalt.ReadFault
-        → (sink.new ≡ sink.old) × (disk.new ≡ disk.old) × (primary.new ≡ primary.old) }
-    ensures at_limit { result ≡ Err SessionHalt.InputTooLong
-        → (sink.new ≡ sink.old) × (disk.new ≡ disk.old) × (primary.new ≡ primary.old) }
-    ensures end { result ≡ Ok None
-        → (K.taken sink.new ≡ K.taken sink.old) × (primary.new ≡ primary.old) × IsTrue reader.new.over }
-    ensures end_draws { result ≡ Ok None → told_draws (C.moments clock.new) (E.stream entropy.new)
-        ≡ told_draws (C.moments clock.old) (E.stream entropy.old) }
+    ensures serves { D.tells → (s : State) (refused : Bool) → HasState primary.old s → Serves
+        (course_over (K.taken sink.old) refused (coming primary.old.kept.realm reader.old (S.left source.old))
+        (told_draws (C.moments clock.old) (E.stream entropy.old)) primary.old s)
+        (D.view disk.old) (D.view disk.new) (K.taken sink.new) result }
+    ensures stays { StaysOpen D.Disk primary.old primary.new disk.new result }
+    ensures leaves { LeavesAll disk.old disk.new sink.old sink.new primary.old primary.new result }
+    ensures end { EndsIdle (K.taken sink.old) (K.taken sink.new) primary.old primary.new reader.new
+        (told_draws (C.moments clock.old) (E.stream entropy.old))
+        (told_draws (C.moments clock.new) (E.stream entropy.new)) result }
     ensures falls { IfOk result (λ turn. turn ≢ None → work_left reader.new < work_left reader.old) }
-    ensures takes { (first : Option (List ℕ)) → HasTaken first reader.old (S.left source.old)
-        → HasTaken first reader.new (S.left source.new) }
-    ensures too_long { result ≡ Err SessionHalt.InputTooLong → reader.new.taken ≡ 4294967296 }
-    ensures call { IsCall D.Disk disk.old disk.new (result ≡ Err SessionHalt.DiskFault) }
-    ensures reads { Counts (S.faults source.old) (S.faults source.new) (result ≡ Err SessionHalt.ReadFault) }
-    ensures writes { Counts (K.faults sink.old) (K.faults sink.new) (result ≡ Err SessionHalt.WriteFault) }
-    ensures draws { Counts (E.faults entropy.old) (E.faults entropy.new) (result ≡ Err SessionHalt.DrawFault) }
+    ensures takes { TakesInput reader.old reader.new (S.left source.old) (S.left source.new) result }
+    ensures causes { HasInputCauses D.Disk disk.old disk.new (S.faults source.old) (S.faults source.new)
+        (K.faults sink.old) (K.faults sink.new) (E.faults entropy.old) (E.faults entropy.new) result }
 {
     what_is_kept_is_recovered(disk);
     let realm = primary.realm().as_slice();
@@ -296,62 +246,35 @@ pub fn serve<S: Source, K: Sink, D: Disk, C: Clock, E: Entropy>(
     requires whole { primary.old.kept.broken ≡ false }
     // All is said for the state that the rows show with the master keys that were found. Where the input, the clock and
     // the random bytes are told, the replies, the place, the state and what is left of both are what is said.
-    ensures ended { (s : State) (end : Ending) → HasState primary.old s
-        → ending (course (K.taken sink.old) false (coming primary.old.kept.realm reader.old (S.left source.old))
-        (told_draws (C.moments clock.old) (E.stream entropy.old)) (seen (place_of primary.old) s)) ≡ Some end
+    ensures ended { (s : State) (end : Ending) → HasState primary.old s → ending
+        (course_over (K.taken sink.old) false (coming primary.old.kept.realm reader.old (S.left source.old))
+        (told_draws (C.moments clock.old) (E.stream entropy.old)) primary.old s) ≡ Some end
         → IfOk result (λ refused.
         EndsAs (K.taken sink.new) refused primary.new (told_draws (C.moments clock.new) (E.stream entropy.new)) end) }
     // What each line asks for was done as events of the primary's history.
-    ensures done { (s : State) → HasState primary.old s → OnOk result
-        (IsDoneWhole (course (K.taken sink.old) false (coming primary.old.kept.realm reader.old (S.left source.old))
-        (told_draws (C.moments clock.old) (E.stream entropy.old)) (seen (place_of primary.old) s))) }
-    ensures on { D.tells → OnOk result (IsOnDisk primary.new.kept (D.view disk.new)) }
-    ensures whole { OnOk result (primary.new.kept.broken ≡ false) }
+    ensures done { (s : State) → HasState primary.old s → OnOk result (IsDoneWhole
+        (course_over (K.taken sink.old) false (coming primary.old.kept.realm reader.old (S.left source.old))
+        (told_draws (C.moments clock.old) (E.stream entropy.old)) primary.old s)) }
+    ensures stays { StaysOpen D.Disk primary.old primary.new disk.new result }
 
-    // Where it stops early, each command of which a byte was answered is in every image.
-    ensures stopped { D.tells → (s : State) → HasState primary.old s → OnErr result
-        (IsStopped (Stops (course (K.taken sink.old) false (coming primary.old.kept.realm reader.old
-        (S.left source.old)) (told_draws (C.moments clock.old) (E.stream entropy.old)) (seen (place_of primary.old) s)))
-        (K.taken sink.new) (D.view disk.new)) }
+    // How it may stop early, and what a crash leaves at any moment: a place of the session, which the events of its
+    // lines reach.
+    ensures serves { D.tells → (s : State) → HasState primary.old s → Serves
+        (course_over (K.taken sink.old) false (coming primary.old.kept.realm reader.old (S.left source.old))
+        (told_draws (C.moments clock.old) (E.stream entropy.old)) primary.old s)
+        (D.view disk.old) (D.view disk.new) (K.taken sink.new) result }
 
-    // Where it stops for want of memory or of random bytes, so many commands were done, and the replies to them are
-    // written in full: no change stands without its reply, but of many that are to be rekeyed those that were before
-    // it. For want of memory, where the next line asks for a dump, a front of the lines of that may be written. For
-    // want of input, and at the limit of the input, it stops between two lines: there these exceptions are none.
-    ensures memory { D.tells → (s : State) → HasState primary.old s → result ≡ Err SessionHalt.MemoryOut
-        → IsAtRest lines_begun (course (K.taken sink.old) false (coming primary.old.kept.realm reader.old
-        (S.left source.old)) (told_draws (C.moments clock.old) (E.stream entropy.old)) (seen (place_of primary.old) s))
-        (K.taken sink.new) (D.view disk.new) }
-    ensures drawn { D.tells → (s : State) → HasState primary.old s → result ≡ Err SessionHalt.DrawFault
-        → IsAtRest nothing_begun
-        (course (K.taken sink.old) false (coming primary.old.kept.realm reader.old (S.left source.old))
-        (told_draws (C.moments clock.old) (E.stream entropy.old)) (seen (place_of primary.old) s)) (K.taken sink.new)
-        (D.view disk.new) }
-    ensures read { D.tells → (s : State) → HasState primary.old s → result ≡ Err SessionHalt.ReadFault
-        → IsBetweenLines (course (K.taken sink.old) false (coming primary.old.kept.realm reader.old (S.left source.old))
-        (told_draws (C.moments clock.old) (E.stream entropy.old)) (seen (place_of primary.old) s)) (K.taken sink.new)
-        (D.view disk.new) }
-    ensures at_limit { D.tells → (s : State) → HasState primary.old s → result ≡ Err SessionHalt.InputTooLong
-        → IsBetweenLines (course (K.taken sink.old) false (coming primary.old.kept.realm reader.old (S.left source.old))
-        (told_draws (C.moments clock.old) (E.stream entropy.old)) (seen (place_of primary.old) s)) (K.taken sink.new)
-        (D.view disk.new) }
-
-    // A crash at any moment leaves a place of the session, which the events of its lines reach.
-    ensures moments { D.tells → (s : State) → HasState primary.old s → LeavesOnly (D.view disk.old) (D.view disk.new)
-        (Leaves (course (K.taken sink.old) false (coming primary.old.kept.realm reader.old (S.left source.old))
-        (told_draws (C.moments clock.old) (E.stream entropy.old)) (seen (place_of primary.old) s))) }
+    // For want of input, and at the limit of the input, it stops between two lines.
+    ensures between { D.tells → (s : State) → HasState primary.old s → StopsBetween
+        (course_over (K.taken sink.old) false (coming primary.old.kept.realm reader.old (S.left source.old))
+        (told_draws (C.moments clock.old) (E.stream entropy.old)) primary.old s)
+        (K.taken sink.new) (D.view disk.new) result }
 
     // What was taken from the source.
     ensures over { OnOk result (IsTrue reader.new.over) }
-    ensures takes { (first : Option (List ℕ)) → HasTaken first reader.old (S.left source.old)
-        → HasTaken first reader.new (S.left source.new) }
-    ensures too_long { result ≡ Err SessionHalt.InputTooLong → reader.new.taken ≡ 4294967296 }
-
-    // The causes.
-    ensures call { IsCall D.Disk disk.old disk.new (result ≡ Err SessionHalt.DiskFault) }
-    ensures reads { Counts (S.faults source.old) (S.faults source.new) (result ≡ Err SessionHalt.ReadFault) }
-    ensures writes { Counts (K.faults sink.old) (K.faults sink.new) (result ≡ Err SessionHalt.WriteFault) }
-    ensures draws { Counts (E.faults entropy.old) (E.faults entropy.new) (result ≡ Err SessionHalt.DrawFault) }
+    ensures takes { TakesInput reader.old reader.new (S.left source.old) (S.left source.new) result }
+    ensures causes { HasInputCauses D.Disk disk.old disk.new (S.faults source.old) (S.faults source.new)
+        (K.faults sink.old) (K.faults sink.new) (E.faults entropy.old) (E.faults entropy.new) result }
 {
     what_is_kept_is_recovered(disk);
     let mut refused = false;
@@ -385,37 +308,23 @@ pub fn serve_one<K: Sink, D: Disk, C: Clock, E: Entropy>(
     requires whole { primary.old.kept.broken ≡ false }
     // As a session of this command alone.
     ensures ended { (s : State) (end : Ending) → HasState primary.old s
-        → ending (course (K.taken sink.old) false (Some (asked.now ∷ []))
-        (told_draws (C.moments clock.old) (E.stream entropy.old)) (seen (place_of primary.old) s)) ≡ Some end
+        → ending (course_over (K.taken sink.old) false (Some (asked.now ∷ []))
+        (told_draws (C.moments clock.old) (E.stream entropy.old)) primary.old s) ≡ Some end
         → IfOk result (λ refused.
         EndsAs (K.taken sink.new) refused primary.new (told_draws (C.moments clock.new) (E.stream entropy.new)) end) }
     ensures done { (s : State) → HasState primary.old s → OnOk result
-        (IsDoneWhole (course (K.taken sink.old) false (Some (asked.now ∷ []))
-        (told_draws (C.moments clock.old) (E.stream entropy.old)) (seen (place_of primary.old) s))) }
-    ensures on { D.tells → OnOk result (IsOnDisk primary.new.kept (D.view disk.new)) }
-    ensures whole { OnOk result (primary.new.kept.broken ≡ false) }
-    ensures stopped { D.tells → (s : State) → HasState primary.old s → OnErr result
-        (IsStopped (Stops (course (K.taken sink.old) false (Some (asked.now ∷ []))
-        (told_draws (C.moments clock.old) (E.stream entropy.old)) (seen (place_of primary.old) s))) (K.taken sink.new)
-        (D.view disk.new)) }
-    ensures memory { D.tells → (s : State) → HasState primary.old s → result ≡ Err SessionHalt.MemoryOut
-        → IsAtRest lines_begun (course (K.taken sink.old) false (Some (asked.now ∷ []))
-        (told_draws (C.moments clock.old) (E.stream entropy.old)) (seen (place_of primary.old) s)) (K.taken sink.new)
-        (D.view disk.new) }
-    ensures drawn { D.tells → (s : State) → HasState primary.old s → result ≡ Err SessionHalt.DrawFault
-        → IsAtRest nothing_begun (course (K.taken sink.old) false (Some (asked.now ∷ []))
-        (told_draws (C.moments clock.old) (E.stream entropy.old)) (seen (place_of primary.old) s)) (K.taken sink.new)
-        (D.view disk.new) }
-    ensures moments { D.tells → (s : State) → HasState primary.old s → LeavesOnly (D.view disk.old) (D.view disk.new)
-        (Leaves (course (K.taken sink.old) false (Some (asked.now ∷ []))
-        (told_draws (C.moments clock.old) (E.stream entropy.old)) (seen (place_of primary.old) s))) }
+        (IsDoneWhole (course_over (K.taken sink.old) false (Some (asked.now ∷ []))
+        (told_draws (C.moments clock.old) (E.stream entropy.old)) primary.old s)) }
+    ensures stays { StaysOpen D.Disk primary.old primary.new disk.new result }
+    ensures serves { D.tells → (s : State) → HasState primary.old s
+        → Serves (course_over (K.taken sink.old) false (Some (asked.now ∷ []))
+        (told_draws (C.moments clock.old) (E.stream entropy.old)) primary.old s)
+        (D.view disk.old) (D.view disk.new) (K.taken sink.new) result }
     // But for a fault of the sink itself, an error comes with nothing written; want of memory for a dump is told above.
     ensures unsaid { asked.now ≢ WritesDump
         → IfErr result (λ halt. halt ≢ SessionHalt.WriteFault → sink.new ≡ sink.old) }
-    ensures halt { IfErr result IsAnswerHalt }
-    ensures call { IsCall D.Disk disk.old disk.new (result ≡ Err SessionHalt.DiskFault) }
-    ensures writes { Counts (K.faults sink.old) (K.faults sink.new) (result ≡ Err SessionHalt.WriteFault) }
-    ensures draws { Counts (E.faults entropy.old) (E.faults entropy.new) (result ≡ Err SessionHalt.DrawFault) }
+    ensures causes { HasAnswerCauses D.Disk disk.old disk.new (K.faults sink.old) (K.faults sink.new)
+        (E.faults entropy.old) (E.faults entropy.new) result }
 {
     what_is_kept_is_recovered(disk);
     answer(alloc, primary, disk, sink, clock, entropy, asked)

@@ -42,7 +42,7 @@ use Rattle.kdb_ports.specs.Parts.{SaidPart}
 use Rattle.kdb_ports.specs.Told.{after_told, later_moments}
 use Rattle.primary_core.specs.Opened.{IsOpened, Opened, place_of}
 use Rattle.primary_core.specs.Opening.{OpeningRefused, OpensTo, place_found}
-use Rattle.primary_loading.specs.Judging.{IsDumpCause, IsForeignCause, IsRowsCause}
+use Rattle.kadm_loading.specs.Judging.{IsDumpCause, IsForeignCause, IsRowsCause}
 use Rattle.princ_record.specs.declared.princs.Princ.{Princ}
 use Rattle.princ_rows.specs.Rows.{RowLists}
 use Rattle.stash_file.proofs.Uniques.{not_bad}

@@ -24,6 +24,7 @@ use kadm_wire::parse_words;
 use kdb_base::{Blob, Etype, Field, MemoryOut, Refusal};
 use keytab_words::{KeytabWords, read_ktadd, read_ktremove};
 use made_scripts::{Script, read_script};
+use plain_keys::Password;
 use princ_name::{Realm, is_realm};
 use std::alloc::Global;
 use tab_reports::ReportKind;
@@ -177,12 +178,12 @@ fn etype_given(options: &[Given]) -> Etype
     }
 }
 
-fn password_given(alloc: Global, options: &[Given]) -> Result<Option<Blob>, MemoryOut>
+fn password_given(alloc: Global, options: &[Given]) -> Result<Option<Password>, MemoryOut>
     ensures { IfOk result (λ password. password ≡ word_given option.MasterPassword options.now) }
 {
     match find_word(OptionName::MasterPassword, options) {
         Some(word) => {
-            let password = Blob::from_bytes(alloc, word)?;
+            let password = Password::from_bytes(alloc, word)?;
             Ok(Some(password))
         }
         None => Ok(None),

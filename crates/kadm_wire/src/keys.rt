@@ -8,8 +8,8 @@ ghost use Rattle.kadm_wire.specs.Commands.{default_etypes, etypes_by, keys_by, k
 
 use kadm_options::{Given, OptionName, find_word, is_given};
 use kadm_values::read_etypes;
-use kdb_base::{Blob, Etype, MemoryOut};
-use plain_keys::{Etypes, NewKeys};
+use kdb_base::{Etype, MemoryOut};
+use plain_keys::{Etypes, NewKeys, Password};
 use std::alloc::Global;
 
 #[tactic(auto, unfolding(crate::specs::Commands::default_etypes))]
@@ -44,7 +44,7 @@ fn etypes_given(alloc: Global, options: &[Given]) -> Result<Etypes, MemoryOut>
 fn password_keys(alloc: Global, password: &[u8], etypes: Etypes) -> Result<NewKeys, MemoryOut>
     ensures { IfOk result (λ keys. keys ≡ NewKeys.Password password.now etypes) }
 {
-    let password = Blob::from_bytes(alloc, password)?;
+    let password = Password::from_bytes(alloc, password)?;
     Ok(NewKeys::Password(password, etypes))
 }
 

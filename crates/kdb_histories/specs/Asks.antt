@@ -2,7 +2,7 @@
 use Rattle.std.specs.Prelude.{ℕ, Bool, false, List, Option, Some, None, is_some}
 use Rattle.std.specs.Prelude.{if◌then◌else◌, option_map, option_and_then}
 use Rattle.std.specs.Option.{option_or}
-use Rattle.command_plans.specs.KeptEntries.{kept_entry}
+use Rattle.mkey_admin.specs.KeptEntries.{kept_entry}
 use Rattle.kadm_commands.specs.declared.commands.Command.{Command}
 use Rattle.kadm_commands.specs.declared.commands.Command.TheVariants as command
 use Rattle.kadm_commands.specs.declared.replies.Reply.{Reply}

@@ -32,7 +32,7 @@ use kdb_plain::{
     is_history_name, is_master_name, master_of, row_len, users_of,
 };
 use key_activation::active_at;
-use plain_keys::{NewKeys, is_reused, made_keys, newest_kvno};
+use plain_keys::{NewKeys, Password, is_reused, made_keys, newest_kvno};
 use policy_rules::{Numbers, has_few_classes, is_short};
 use std::alloc::Global;
 
@@ -240,7 +240,7 @@ pub(crate) fn policy_in_use(asked: &Asked) -> Option<Refusal>
 // ---- passwords
 
 /// The password that a command sets.
-pub(crate) fn password(command: &Command) -> Option<&Blob>
+pub(crate) fn password(command: &Command) -> Option<&Password>
     ensures { option_map (λ text. text.now) result ≡ password command.now }
 {
     match new_keys(command) {
@@ -268,7 +268,7 @@ pub(crate) fn password_numbers(
 }
 
 /// The password is shorter than these numbers ask.
-pub fn too_short(numbers: &Numbers, password: Option<&Blob>) -> Option<Refusal>
+pub fn too_short(numbers: &Numbers, password: Option<&Password>) -> Option<Refusal>
     ensures { result
         ≡ when (fails_by is_short numbers.now (option_map (λ text. text.now) password.entry)) Refusal.PassTooShort }
 {
@@ -279,7 +279,7 @@ pub fn too_short(numbers: &Numbers, password: Option<&Blob>) -> Option<Refusal>
 }
 
 /// The password has bytes of fewer classes than these numbers ask.
-pub fn few_classes(numbers: &Numbers, password: Option<&Blob>) -> Option<Refusal>
+pub fn few_classes(numbers: &Numbers, password: Option<&Password>) -> Option<Refusal>
     ensures { result ≡ when (fails_by has_few_classes numbers.now (option_map (λ text. text.now) password.entry))
         Refusal.PassClasses }
 {

@@ -15,7 +15,7 @@ use kdb_base::limits::MAX_KEYS;
 use kdb_base::{Blob, PlainKey, Refusal};
 use kdb_model::refusals::{few_classes, too_short};
 use kdb_plain::PlainPrinc;
-use plain_keys::{NewKeys, PlainItem, is_reused, newest_kvno};
+use plain_keys::{NewKeys, Password, PlainItem, is_reused, newest_kvno};
 use policy_rules::Numbers;
 use row_keys::policy_row;
 
@@ -44,7 +44,7 @@ pub(crate) fn is_password(keys: &NewKeys) -> bool
     }
 }
 
-fn password_of(keys: &NewKeys) -> Option<&Blob>
+fn password_of(keys: &NewKeys) -> Option<&Password>
     ensures { option_map (λ text. text.now) result ≡ password_of keys.now }
 {
     match keys {

@@ -1,6 +1,7 @@
 use first_rows::{CreateSpec, first_rows};
-use kdb_base::{Blob, Etype, Masters, PlainKey, Time};
+use kdb_base::{Etype, Masters, PlainKey, Time};
 use master_keys::wrap;
+use plain_keys::Password;
 use princ_name::{Realm, is_realm};
 use princ_record::Princ;
 use princ_rows::Rows;
@@ -26,7 +27,7 @@ fn realm(alloc: Global) -> Result<Realm, Fail> {
 
 fn created(
     rt: &HostRuntime,
-    password: Option<Blob>,
+    password: Option<Password>,
     etype: Etype,
 ) -> Result<(Rows, Masters), Fail> {
     let spec = CreateSpec::new(realm(rt.alloc())?, password, etype, 1000);
@@ -99,7 +100,7 @@ fn random_keys_stand_one_after_another(rt: HostRuntime) -> Result<(), Fail> {
 
 #[test]
 fn a_password_takes_none_of_the_block_for_its_key(rt: HostRuntime) -> Result<(), Fail> {
-    let password = Blob::from_bytes(rt.alloc(), b"masterpw")?;
+    let password = Password::from_bytes(rt.alloc(), b"masterpw")?;
     let (rows, masters) = created(&rt, Some(password), Etype::Aes256Sha2)?;
     let [one] = masters.as_slice() else {
         return Err(Fail::from("one master key"));

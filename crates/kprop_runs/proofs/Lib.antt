@@ -6,3 +6,4 @@ mod Overlong
 mod Running
 mod ByStatus
 mod Fronting
+mod Completing

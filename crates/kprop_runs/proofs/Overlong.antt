@@ -25,7 +25,7 @@ behind_long [] one = one
 behind_long (text ∷ more) one =
     record { text = one.text; among = (suc one.among.0, omega (arith, one.among.1), one.among.2); long = one.long }
 
-rounds_long : (name : List ℕ) (size n : ℕ) (s : Stage) → GivesTooMuch (after_rounds name size n s).to_come
+pub rounds_long : (name : List ℕ) (size n : ℕ) (s : Stage) → GivesTooMuch (after_rounds name size n s).to_come
     → GivesTooMuch s.to_come
 unfolding after_rounds
 rounds_long name size zero s one = one

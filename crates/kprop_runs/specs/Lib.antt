@@ -6,3 +6,4 @@ pub mod Runs
 pub mod Longs
 pub mod Halts
 pub mod Fronts
+pub mod Completeness

@@ -7,7 +7,7 @@ use Rattle.kadm_session.specs.Steps.{draws_after, is_refusal, reply_to, said, se
 use Rattle.kadm_session.specs.declared.intake.Asked.{Asked}
 use Rattle.kdb_histories.specs.Seen.{Seen, seen}
 use Rattle.kdb_plain.specs.declared.states.State.{State}
-use Rattle.primary_core.specs.Opened.{HasState, Opened, place_of}
+use Rattle.kadm_session.specs.Opened.{HasState, Opened, place_of}
 use Rattle.session_base.specs.Draws.{Draws}
 use Rattle.made_scripts.specs.Plays.{IsAnswered, IsPlayed, IsUnderWay, Progress}
 use Rattle.made_scripts.specs.Plays.{asked_line, counted, no_tally, played, progress}

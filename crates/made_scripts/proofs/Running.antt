@@ -6,7 +6,7 @@ use Rattle.kdb_base.specs.Moment.{Moment}
 use Rattle.kdb_histories.specs.Seen.{seen}
 use Rattle.kdb_ports.specs.ChaCha.{key_byte}
 use Rattle.kdb_ports.specs.Told.{always}
-use Rattle.primary_core.specs.Opened.{Opened, place_of}
+use Rattle.kadm_session.specs.Opened.{Opened, place_of}
 use Rattle.rand_chacha.specs.ChaCha.{key_of}
 use Rattle.session_base.specs.Draws.{Draws, behind_command, block_in, moment_in, told_draws}
 use Rattle.made_scripts.proofs.Playing.{lines_counted}

@@ -7,7 +7,7 @@ use Rattle.kadm_session.specs.declared.intake.Asked.{Asked}
 use Rattle.kadm_wire.specs.LineReadings.{reading}
 use Rattle.kdb_histories.specs.Seen.{Seen, seen}
 use Rattle.kdb_plain.specs.declared.states.State.{State}
-use Rattle.primary_core.specs.Opened.{HasState, Opened, place_of}
+use Rattle.kadm_session.specs.Opened.{HasState, Opened, place_of}
 use Rattle.session_base.specs.Draws.{Draws}
 use Rattle.made_scripts.specs.declared.plays.Tally.{Tally}
 

@@ -6,8 +6,8 @@ use Rattle.kdb_base.specs.declared.keys.Etype.TheVariants.{Aes256}
 use Rattle.kdb_histories.specs.Seen.{seen}
 use Rattle.kdb_places.specs.Places.{Place, point_of}
 use Rattle.kdb_ports.specs.ChaCha.{key_byte}
-use Rattle.primary_core.specs.Opened.{HasState, Opened, place_of}
-use Rattle.primary_core.specs.Opening.{first_place}
+use Rattle.kadm_session.specs.Opened.{HasState, Opened, place_of}
+use Rattle.kadm_session.specs.Opening.{first_place}
 use Rattle.rand_chacha.specs.ChaCha.{key_of}
 use Rattle.session_base.specs.Draws.{Draws, behind_command, block_in, moment_in}
 use Rattle.made_scripts.specs.Counts.{keys_in}

@@ -3,16 +3,16 @@
 ghost use Rattle.std.specs.Prelude.{◌≡◌, false, IfOk, Some, length};
 ghost use Rattle.first_rows.specs.Creation.{first_state};
 ghost use Rattle.made_scripts.specs.Runs.{IsMade, own_realm, own_spec};
-ghost use Rattle.primary_core.specs.Opened.{HasState, place_of};
-ghost use Rattle.primary_core.specs.Opening.{first_place};
+ghost use Rattle.kadm_session.specs.Opened.{HasState, place_of};
+ghost use Rattle.kadm_session.specs.Opening.{first_place};
 ghost use Rattle.session_base.specs.Draws.{Draws, told_draws};
 ghost use Rattle.store_files.specs.Kept.{IsOnDisk};
 
 use first_rows::CreateSpec;
+use kadm_session::Primary;
 use kdb_base::{Etype, MemoryOut, Time};
 use kdb_disk::Disk;
 use kdb_ports::{Clock, Entropy};
-use primary_core::Primary;
 use princ_name::Realm;
 use session_base::draw;
 use std::alloc::Global;

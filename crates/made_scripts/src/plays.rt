@@ -6,18 +6,17 @@ ghost use Rattle.kdb_histories.specs.Seen.{seen};
 ghost use Rattle.kdb_plain.specs.declared.states.State.{State};
 ghost use Rattle.made_scripts.specs.Plays.{IsAnswered, IsPlayed, asked_line, counted, no_tally, played, progress};
 ghost use Rattle.made_scripts.specs.Scripts.{line_at, lines_of};
-ghost use Rattle.primary_core.specs.Opened.{HasState, place_of};
+ghost use Rattle.kadm_session.specs.Opened.{HasState, place_of};
 ghost use Rattle.session_base.specs.Draws.{Draws, told_draws};
 ghost use Rattle.store_files.specs.Kept.{IsOnDisk};
 
 use crate::asking::read_line;
 use crate::lines::make_line;
 use crate::words::Script;
-use kadm_session::{Asked, serve_one};
+use kadm_session::{Asked, Primary, serve_one};
 use kdb_base::{Fails, MemoryOut};
 use kdb_disk::Disk;
 use kdb_ports::{Clock, Entropy, MemorySink, Sink};
-use primary_core::Primary;
 use std::alloc::Global;
 
 /// How many lines were accepted, and how many refused.

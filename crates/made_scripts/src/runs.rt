@@ -6,7 +6,7 @@ ghost use Rattle.kdb_plain.specs.declared.states.State.{State};
 ghost use Rattle.made_scripts.specs.Plays.{no_tally, played, progress};
 ghost use Rattle.made_scripts.specs.Runs.{own_draws, summary_at, summary_behind, summary_of, told_of};
 ghost use Rattle.made_scripts.specs.Scripts.{lines_of};
-ghost use Rattle.primary_core.specs.Opened.{HasState, place_of};
+ghost use Rattle.kadm_session.specs.Opened.{HasState, place_of};
 ghost use Rattle.session_base.specs.Draws.{Draws, told_draws};
 ghost use Rattle.store_files.specs.Kept.{IsOnDisk};
 
@@ -15,10 +15,10 @@ use crate::making::{create, own_spec};
 use crate::plays::{Tally, play};
 use crate::summaries::{Summary, print_summary};
 use crate::words::Script;
+use kadm_session::Primary;
 use kdb_base::{Blob, Fails, MemoryOut, Time};
 use kdb_disk::{Disk, MemoryDisk};
 use kdb_ports::{ChaChaEntropy, Clock, Entropy, MemoryClock};
-use primary_core::Primary;
 use std::alloc::Global;
 
 /// The second at which the clock stands.

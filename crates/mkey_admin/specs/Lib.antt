@@ -1,3 +1,4 @@
+pub use Rattle.command_plans.specs.KeptEntries
 pub mod Told
 pub mod KeptMasters
 pub mod Counting

@@ -5,7 +5,7 @@ use Rattle.kdb_histories.specs.Asks.{Ask, clock_of}
 use Rattle.kdb_histories.specs.Seen.{changed, did, is_due, moment_at, reset_for, reset_point}
 use Rattle.kdb_histories.specs.Stages.{Anew, places, stage}
 use Rattle.kdb_places.specs.Places.{Place, committed}
-use Rattle.performed_plans.specs.Ready.{change_places}
+use Rattle.performed_plans.specs.Changes.{change_places}
 use Rattle.princ_rows.specs.declared.entries.Op.{Op}
 
 pub places_changed : (ask : Ask) (op : Op) (p : Place) → places (changed ask op p) ≡ change_places (clock_of ask) op p

@@ -38,7 +38,7 @@ use Rattle.kdb_plain.specs.declared.changes.PlainOp.{PlainOp}
 use Rattle.kdb_plain.specs.declared.states.State.{State}
 use Rattle.mkey_admin.specs.KeptMasters.{kept_masters}
 use Rattle.performed_plans.proofs.StepLaws.{StepLaws}
-use Rattle.performed_plans.specs.Ready.{IsReady}
+use Rattle.performed_plans.specs.Changes.{IsReady}
 use Rattle.princ_rows.specs.declared.entries.Op.{Op}
 use Rattle.princ_name.specs.Names.{NameParts}
 use Rattle.princ_rows.specs.Effects.{effect}

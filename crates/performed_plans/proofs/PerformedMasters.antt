@@ -35,7 +35,7 @@ use Rattle.mkey_admin.specs.declared.planned.MasterChange.{MasterChange}
 use Rattle.performed_plans.proofs.Performed.{accepted_told, commanded_is, kept_performs, outcome_of}
 use Rattle.performed_plans.proofs.Performed.{point_is, put_performs, reads_told, step_commits}
 use Rattle.performed_plans.proofs.StepLaws.{StepLaws}
-use Rattle.performed_plans.specs.Ready.{IsReady}
+use Rattle.performed_plans.specs.Changes.{IsReady}
 use Rattle.princ_rows.specs.declared.entries.Op.{Op}
 use Rattle.princ_name.specs.Names.{NameParts}
 use Rattle.princ_rows.specs.Effects.{effect}

@@ -1,1 +1,2 @@
-pub mod Ready
+pub use Rattle.kadm_plan.specs.Ready
+pub mod Changes

@@ -19,7 +19,7 @@ ghost use Rattle.kdb_places.specs.Places.{Place};
 ghost use Rattle.kdb_plain.specs.declared.states.State.{State};
 ghost use Rattle.mkey_admin.specs.Plans.{IsMasterChange, is_master_command, reply_at};
 ghost use Rattle.mkey_admin.specs.declared.planned.MasterChange.{MasterChange};
-ghost use Rattle.performed_plans.specs.Ready.{IsReady, change_places};
+ghost use Rattle.performed_plans.specs.Changes.{IsReady, change_places};
 ghost use Rattle.princ_rows.specs.declared.entries.Op.{Op};
 ghost use Rattle.princ_name.specs.Names.{NameParts};
 

@@ -2,3 +2,5 @@
 #![tactic(auto)]
 
 pub mod laws;
+
+pub use kadm_plan::{Planned, Ready, View, plan, prepare};

@@ -7,6 +7,7 @@ ghost use Rattle.plain_keys.specs.Keys.{bytes_to_make, drawn_len, item_of, items
 ghost use Rattle.plain_keys.specs.Keys.{password_key, password_keys, random_keys, settled_salt};
 
 use crate::items::{PlainItem, PlainItems, PlainKeys};
+use crate::passwords::Password;
 use kdb_base::{Blob, Etype, MemoryOut, PlainKey, Salt};
 use krb_profile::string_to_key;
 use princ_name::Name;
@@ -57,7 +58,7 @@ impl Etypes {
 #[derive(Drop)]
 pub enum NewKeys {
     Random(Etypes),
-    Password(Blob, Etypes),
+    Password(Password, Etypes),
 }
 
 /// The bytes of a random key of this type and of its confounder.

@@ -1,5 +1,5 @@
 -- The state that is opened is the one that the rows show.
-use Rattle.std.proofs.Common.{◌≡◌, ℕ, List, Some, arith, sym, ap, subst, ◌∙◌}
+use Rattle.std.proofs.Common.{◌≡◌, ℕ, ◌<◌, ◌^◌, List, Some, arith, sym, ap, subst, ◌∙◌}
 use Rattle.std.specs.List.{AllZip}
 use Rattle.kdb_base.specs.Moment.{Moment}
 use Rattle.kdb_base.specs.declared.moments.Point.{Point}
@@ -57,7 +57,7 @@ state_is masters realm secs rows point s t f realm_is masters_are acts alone pol
     (policies_are ∙ f.shows.policies)
     (point_is ∙ sym f.point_is)
 
--- ---- the moment of every line
+-- ---- moments
 
 point_at : Moment → Point
 point_at m = record { sno = 1; time = m }
@@ -70,8 +70,8 @@ pub at_first : (m : Moment) → m ≡ record { secs = 1700000000; usecs = 0 }
 unfolding point_at
 at_first m is = ap point_at is
 
-pub moment_is : (m : Moment) → m ≡ record { secs = 1700000000; usecs = 0 } → IsMoment m
-moment_is m is = subst IsMoment (sym is) (record { secs = omega arith; usecs = omega arith })
+pub moment_is : (secs : ℕ) (m : Moment) → secs < 2 ^ 32 → m ≡ record { secs = secs; usecs = 0 } → IsMoment m
+moment_is secs m fits is = subst IsMoment (sym is) (record { secs = fits; usecs = omega arith })
 
 pub first_point_is : IsPoint (record { sno = 1; time = record { secs = 1700000000; usecs = 0 } })
 first_point_is = record { sno = omega arith; time = record { secs = omega arith; usecs = omega arith } }

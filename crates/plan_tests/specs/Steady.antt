@@ -5,6 +5,8 @@ use Rattle.command_plans.specs.declared.planned.Planned.TheVariants.{Answer, Cha
 use Rattle.kdb_model.specs.Laws.{IsPoint}
 use Rattle.kdb_plain.specs.States.{IsValidState}
 use Rattle.kdb_plain.specs.declared.states.State.{State}
+use Rattle.mkey_admin.specs.declared.planned.MasterPlan.{MasterPlan}
+use Rattle.mkey_admin.specs.declared.planned.MasterPlan.TheVariants as masters
 use Rattle.princ_rows.specs.Rows.{RowLists}
 
 -- the state is valid, and its point is one
@@ -16,3 +18,8 @@ pub record IsSteady (s : State) : Type 0 where
 abbrev pub MayBePut : RowLists → Planned → Type 0
 MayBePut rows (Answer reply) = Unit {0}
 MayBePut rows (Change op) = IsApplied rows op
+
+-- the same of a plan of master keys
+abbrev pub MastersMayBePut : RowLists → MasterPlan → Type 0
+MastersMayBePut rows (masters.Answer reply) = Unit {0}
+MastersMayBePut rows (masters.Change c) = IsApplied rows c.op

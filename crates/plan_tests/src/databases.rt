@@ -7,6 +7,7 @@ ghost use Rattle.kadm_plan.specs.Ready.{is_planned};
 ghost use Rattle.kdb_model.specs.Steps.{is_one_step};
 ghost use Rattle.plan_tests.specs.Steady.{MayBePut};
 
+use crate::masters::{answer_of_masters, is_master_command};
 use crate::opening::SECS;
 use crate::plain::{Plain, block};
 use acl_text::Acl;
@@ -19,16 +20,18 @@ use kdb_base::{Etype, Masters, Point, Refusal, Stop, Time};
 use kdb_places::laws::what_may_be_applied;
 use princ_name::{Name, Realm, is_realm, parse_name};
 use princ_rows::{Op, Rows};
+use row_keys::check_rows;
 use std::alloc::Global;
 use std::process::Abort;
 use std::test::Fail;
 
-/// The same database twice.
+/// The same database twice, and the second of the clock.
 #[derive(Drop)]
 pub(crate) struct Database {
     pub rows: Rows,
     pub masters: Masters,
     pub plain: Plain,
+    pub secs: u32,
 }
 
 /// A line, and what is answered to it, without its last line feed; nothing where nothing is answered.
@@ -41,6 +44,9 @@ pub(crate) type Case = (
     &'static str,
     &'static str,
 );
+
+/// The second of the clock, and what is given then.
+pub(crate) type Second = (u32, &'static [Case]);
 
 pub(crate) const REALM: &[u8] = b"EXAMPLE.ORG";
 
@@ -64,6 +70,7 @@ pub(crate) fn created(alloc: Global) -> Result<Database, Fail> {
         rows,
         masters,
         plain,
+        secs: SECS,
     })
 }
 
@@ -76,6 +83,19 @@ pub(crate) fn reopen(alloc: Global, database: &mut Database) -> Result<(), Fail>
 
 // ---- the rows
 
+/// The moment of a change: the later of the clock's time and that of the last change.
+pub(crate) fn moment(secs: u32, plain: &Plain) -> Time {
+    Time::new(secs, 0).later(plain.state().point.time)
+}
+
+/// The point of a change of this moment.
+pub(crate) fn point(moment: Time, plain: &Plain) -> Point {
+    Point {
+        sno: plain.state().point.sno.saturating_add(1),
+        time: moment,
+    }
+}
+
 /// What the line comes to over rows.
 #[tactic(auto, using(crate::proofs::MadeChanges::plan_may_be_put))]
 fn planned(
@@ -86,6 +106,7 @@ fn planned(
     client: &Name,
     acl: Option<&Acl>,
     command: &Command,
+    moment: Time,
 ) -> Result<Result<Planned, Stop>, Fail>
     requires command { IsCommand plain.now.realm command.now }
     requires planned { is_planned command.now ≡ true }
@@ -100,12 +121,11 @@ fn planned(
     };
     let ready = prepare(alloc, command, realm)?;
     let random = block(state.point.sno);
-    let moment = Time::new(SECS, 0);
     Ok(plan(alloc, &ready, &view, client, acl, moment, &random))
 }
 
 /// Makes the change of the rows.
-fn put(rows: &mut Rows, op: Op) -> Result<(), Fail>
+pub(crate) fn put(rows: &mut Rows, op: Op) -> Result<(), Fail>
     requires { IsApplied rows.old op }
 {
     what_may_be_applied();
@@ -114,22 +134,19 @@ fn put(rows: &mut Rows, op: Op) -> Result<(), Fail>
 }
 
 /// What is answered, once the change is made.
-fn made(rows: &mut Rows, planned: Planned, sno: u32) -> Result<Reply, Fail>
+fn made(rows: &mut Rows, planned: Planned, point: Point) -> Result<Reply, Fail>
     requires { MayBePut rows.old planned }
 {
     match planned {
         Planned::Answer(reply) => Ok(reply),
         Planned::Change(op) => {
             put(rows, op)?;
-            Ok(Reply::Done(Point {
-                sno: sno.saturating_add(1),
-                time: Time::new(SECS, 0),
-            }))
+            Ok(Reply::Done(point))
         }
     }
 }
 
-fn refused(stop: Stop) -> Result<Reply, Fail> {
+pub(crate) fn refused(stop: Stop) -> Result<Reply, Fail> {
     match stop {
         Stop::Refused(why) => Ok(Reply::Refused(why)),
         Stop::Halt(_) => Err(Fail::from("no memory")),
@@ -137,16 +154,16 @@ fn refused(stop: Stop) -> Result<Reply, Fail> {
 }
 
 /// What the line is answered over rows, once its change is made.
-fn answered(rows: &mut Rows, planned: Result<Planned, Stop>, sno: u32) -> Result<Reply, Fail>
+fn answered(rows: &mut Rows, planned: Result<Planned, Stop>, point: Point) -> Result<Reply, Fail>
     requires { IfOk planned (MayBePut rows.old) }
 {
     match planned {
-        Ok(planned) => made(rows, planned, sno),
+        Ok(planned) => made(rows, planned, point),
         Err(stop) => refused(stop),
     }
 }
 
-/// Whether rows alone decide the command, and not the files or the master keys.
+/// Whether the command is of principals and policies, and not of the files or the master keys.
 fn is_planned(command: &Command) -> bool
     ensures { result ≡ is_planned command.now }
 {
@@ -162,7 +179,35 @@ fn is_planned(command: &Command) -> bool
     }
 }
 
-/// What the line is answered over rows; nothing where they alone do not decide it.
+/// What a line of principals and policies is answered over rows, once its change is made.
+fn answer_of_planned(
+    alloc: Global,
+    database: &mut Database,
+    client: &Name,
+    acl: Option<&Acl>,
+    command: &Command,
+) -> Result<Reply, Fail>
+    requires command { IsCommand database.old.plain.realm command.now }
+    requires planned { is_planned command.now ≡ true }
+    ensures { database.new.plain ≡ database.old.plain }
+{
+    let moment = moment(database.secs, &database.plain);
+    let planned = planned(
+        alloc,
+        &database.rows,
+        &database.masters,
+        &database.plain,
+        client,
+        acl,
+        command,
+        moment,
+    )?;
+    let point = point(moment, &database.plain);
+    answered(&mut database.rows, planned, point)
+}
+
+/// What the line is answered over rows; nothing where the files decide it. A line of master keys leaves them as they
+/// are behind it.
 pub(crate) fn answer_of_rows(
     alloc: Global,
     database: &mut Database,
@@ -173,21 +218,15 @@ pub(crate) fn answer_of_rows(
     requires { IsCommand database.old.plain.realm command.now }
     ensures { database.new.plain ≡ database.old.plain }
 {
-    if !is_planned(command) {
-        return Ok(None);
+    if is_planned(command) {
+        let reply = answer_of_planned(alloc, database, client, acl, command)?;
+        return Ok(Some(reply));
     }
-    let planned = planned(
-        alloc,
-        &database.rows,
-        &database.masters,
-        &database.plain,
-        client,
-        acl,
-        command,
-    )?;
-    let sno = database.plain.state().point.sno;
-    let reply = answered(&mut database.rows, planned, sno)?;
-    Ok(Some(reply))
+    if is_master_command(command) {
+        let reply = answer_of_masters(alloc, database, client, acl, command)?;
+        return Ok(Some(reply));
+    }
+    Ok(None)
 }
 
 // ---- both
@@ -203,7 +242,7 @@ fn is_one_step(command: &Command) -> bool
     }
 }
 
-/// What is answered over the rows, where they alone decide the line, and what the model answers. The change is made on
+/// What is answered over the rows, where no file decides the line, and what the model answers. The change is made on
 /// both sides.
 fn answers(
     alloc: Global,
@@ -218,7 +257,9 @@ fn answers(
         return Err(Fail::from("a line of one step"));
     }
     let of_rows = answer_of_rows(alloc, database, client, acl, command)?;
-    let (plain, of_state) = database.plain.step(alloc, client, acl, command)?;
+    let (plain, of_state) = database
+        .plain
+        .step(alloc, client, acl, command, database.secs)?;
     database.plain = plain;
     Ok((of_rows, of_state))
 }
@@ -346,6 +387,20 @@ pub(crate) fn check_cases(
     Ok(())
 }
 
+/// Gives the lines of one second after those of another, and compares what is answered.
+pub(crate) fn check_seconds(
+    rt: &impl Abort,
+    alloc: Global,
+    database: &mut Database,
+    seconds: &[Second],
+) -> Result<(), Fail> {
+    for (secs, cases) in seconds {
+        database.secs = *secs;
+        check_cases(rt, alloc, database, cases)?;
+    }
+    Ok(())
+}
+
 /// Gives the lines of the administrator of the machine, who has no access list.
 pub(crate) fn check_turns(
     rt: &impl Abort,
@@ -396,6 +451,15 @@ pub(crate) fn is_accepted(
     let command = command_of(alloc, line, &database.plain)?;
     let (of_rows, of_state) = answers(alloc, database, &client, None, &command)?;
     are_accepted(rt, alloc, &of_rows, &of_state)
+}
+
+/// Looks whether all keys of the rows open under the master keys.
+pub(crate) fn check_sound(alloc: Global, database: &Database) -> Result<(), Fail> {
+    let state = database.plain.state();
+    let secs = state.point.time.secs();
+    let realm = state.realm.as_slice();
+    check_rows(alloc, &database.rows, &database.masters, realm, secs)?;
+    Ok(())
 }
 
 /// So many of a letter.

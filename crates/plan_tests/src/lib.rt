@@ -7,7 +7,11 @@ mod databases;
 #[cfg(test)]
 mod full;
 #[cfg(test)]
+mod lengths;
+#[cfg(test)]
 mod lists;
+#[cfg(test)]
+mod masters;
 #[cfg(test)]
 mod opening;
 #[cfg(test)]
@@ -15,6 +19,10 @@ mod order;
 #[cfg(test)]
 mod plain;
 #[cfg(test)]
+mod rollover;
+#[cfg(test)]
 mod script;
+#[cfg(test)]
+mod seconds;
 #[cfg(test)]
 mod sessions;

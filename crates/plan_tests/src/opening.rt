@@ -16,7 +16,7 @@ use row_keys::{open_princ, record_named};
 use std::alloc::Global;
 use std::test::Fail;
 
-/// The second of the creation and of every line, 2023-11-14T22:13:20Z.
+/// The second of the creation, and of every line where no other is told, 2023-11-14T22:13:20Z.
 pub(crate) const SECS: u32 = 1_700_000_000;
 
 /// The principal of a record that remembers no keys.

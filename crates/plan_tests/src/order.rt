@@ -1,8 +1,8 @@
 //! The order in which refusals are tried: each pair of neighbours that can stand together.
 
 use crate::databases::{
-    Case, Database, LOCAL, Turn, check_case, check_cases, check_created, check_turns, is_accepted,
-    push_letters,
+    Case, Database, LOCAL, Turn, check_case, check_cases, check_created, check_turns, created,
+    is_accepted, push_letters,
 };
 use std::alloc::Global;
 use std::process::Abort;
@@ -290,7 +290,7 @@ fn setting(alloc: Global, front: &str, key: u8, len: usize) -> Result<Vec<u8>, F
 }
 
 /// Sets string attributes one after another, and compares what is answered.
-fn check_strings(
+pub(crate) fn check_strings(
     rt: &impl Abort,
     alloc: Global,
     database: &mut Database,
@@ -305,7 +305,7 @@ fn check_strings(
 }
 
 /// A record has at most 16000 bytes and 16 attributes, and the latter is told first.
-const OF_BOB: [(u8, usize, &str); 19] = [
+pub(crate) const OF_BOB: [(u8, usize, &str); 19] = [
     (b'a', 1024, "ok 3 1700000000.000000"),
     (b'b', 1024, "ok 4 1700000000.000000"),
     (b'c', 1024, "ok 5 1700000000.000000"),
@@ -333,7 +333,7 @@ fn seventeenth_attribute_is_told_before_a_long_record(rt: HostRuntime) -> Result
     check_strings(&rt, rt.alloc(), &mut database, "setstr bob a", &OF_BOB)
 }
 
-const BOB: Turn = ("addprinc -nokey bob", "ok 2 1700000000.000000");
+pub(crate) const BOB: Turn = ("addprinc -nokey bob", "ok 2 1700000000.000000");
 
 /// With fifteen attributes of 1024 letters and this one, the record has 15991 bytes.
 const LAST_OF_BOB: [(u8, usize, &str); 1] = [(b'p', 480, "ok 18 1700000000.000000")];
@@ -458,4 +458,63 @@ fn full_keys_are_told_before_a_long_record(rt: HostRuntime) -> Result<(), Fail> 
     check_turns(&rt, rt.alloc(), &mut database, &FULL)?;
     check_strings(&rt, rt.alloc(), &mut database, "setstr eve k", &AGAIN)?;
     check_turns(&rt, rt.alloc(), &mut database, &LARGE)
+}
+
+// ---- master keys that are full
+
+/// Gives one version more, and compares what is answered. Each change gets the serial that its version has.
+fn check_version(
+    rt: &impl Abort,
+    alloc: Global,
+    database: &mut Database,
+    version: u32,
+) -> Result<(), Fail> {
+    let wanted = format!(in alloc; "ok {version} 1700000000.000000 mkvno {version}")?;
+    check_case(
+        rt,
+        alloc,
+        database,
+        None,
+        LOCAL,
+        b"add_mkey",
+        wanted.as_str(),
+    )
+}
+
+/// 32 versions are the most. A denial is told before that, and a version that is not there before a denial.
+const MASTERS_FULL: [Case; 6] = [
+    (None, "admin/local", "add_mkey", "err 15 TooManyMasters 32"),
+    (
+        ANY,
+        "joe",
+        "add_mkey -e aes128-sha2",
+        "err 15 TooManyMasters 32",
+    ),
+    (DENIES, "joe", "add_mkey", "err 7 Denied 1"),
+    (BARE, "joe", "add_mkey", "err 7 Denied 0"),
+    (DENIES, "joe", "use_mkey 33", "err 16 UnknownMaster 33"),
+    (DENIES, "joe", "use_mkey 32", "err 7 Denied 1"),
+];
+
+/// The newest stays, and there is room again.
+const MASTERS_AGAIN: [Turn; 2] = [
+    (
+        "purge_mkeys",
+        "- kept 1 protects 2\n- purged 2\n- purged 3\n- purged 4\n- purged 5\n- purged 6\n- purged 7\n\
+- purged 8\n- purged 9\n- purged 10\n- purged 11\n- purged 12\n- purged 13\n- purged 14\n- purged 15\n\
+- purged 16\n- purged 17\n- purged 18\n- purged 19\n- purged 20\n- purged 21\n- purged 22\n- purged 23\n\
+- purged 24\n- purged 25\n- purged 26\n- purged 27\n- purged 28\n- purged 29\n- purged 30\n- purged 31\n\
+- kept 32 newest\nok 33 1700000000.000000 30 purged",
+    ),
+    ("add_mkey", "ok 34 1700000000.000000 mkvno 33"),
+];
+
+#[test]
+fn full_master_keys_are_told_behind_a_denial(rt: HostRuntime) -> Result<(), Fail> {
+    let mut database = created(rt.alloc())?;
+    for version in 2..33 {
+        check_version(&rt, rt.alloc(), &mut database, version)?;
+    }
+    check_cases(&rt, rt.alloc(), &mut database, &MASTERS_FULL)?;
+    check_turns(&rt, rt.alloc(), &mut database, &MASTERS_AGAIN)
 }

@@ -43,13 +43,14 @@ pub(crate) fn block(sno: u32) -> [u8; 2048] {
     [(sno % 256) as u8; 2048]
 }
 
-/// What a line does to a state and answers.
+/// What a line does to a state and answers, at this second of the clock.
 fn stepped(
     alloc: Global,
     state: &State,
     client: &Name,
     acl: Option<&Acl>,
     command: &Command,
+    secs: u32,
 ) -> Result<(State, Reply), Fail>
     requires steady { IsSteady state.now }
     requires command { IsCommand state.now.realm command.now }
@@ -66,7 +67,7 @@ fn stepped(
         return Err(Fail::from("a serial"));
     }
     let random = block(state.point.sno);
-    let moment = Time::new(SECS, 0);
+    let moment = Time::new(secs, 0);
     match step_plain(alloc, state, text, command, acl, moment, &random) {
         Ok(both) => Ok(both),
         Err(_) => Err(Fail::from("no memory")),
@@ -97,18 +98,19 @@ impl Plain {
         &self.state
     }
 
-    /// What a line leaves and answers.
+    /// What a line leaves and answers, at this second of the clock.
     pub(crate) fn step(
         &self,
         alloc: Global,
         client: &Name,
         acl: Option<&Acl>,
         command: &Command,
+        secs: u32,
     ) -> Result<(Plain, Reply), Fail>
         requires command { IsCommand self.now.realm command.now }
         requires one { is_one_step command.now ≡ true }
     {
-        let (state, reply) = stepped(alloc, &self.state, client, acl, command)?;
+        let (state, reply) = stepped(alloc, &self.state, client, acl, command, secs)?;
         Ok((Plain { state }, reply))
     }
 }

@@ -64,8 +64,8 @@ const LINES: [Turn; 8] = [
     ("modprinc -maxlife x bob", "err 13 BadValue maxlife"),
 ];
 
-/// String attributes, in the byte order of their keys.
-const STRINGS: [Turn; 20] = [
+/// String attributes, in the byte order of their keys. Where sixteen are full, one has to go before another one comes.
+const STRINGS: [Turn; 25] = [
     ("addprinc -nokey bob", "ok 2 1700000000.000000"),
     ("setstr bob color blue", "ok 3 1700000000.000000"),
     ("setstr bob age \"\"", "ok 4 1700000000.000000"),
@@ -86,6 +86,15 @@ const STRINGS: [Turn; 20] = [
     ("setstr bob o o", "ok 17 1700000000.000000"),
     ("setstr bob p p", "ok 18 1700000000.000000"),
     ("setstr bob q q", "err 30 StringsFull 16"),
+    ("delstr bob color", "ok 19 1700000000.000000"),
+    ("delstr bob color", "err 31 UnknownString"),
+    ("setstr bob q q", "ok 20 1700000000.000000"),
+    ("delstr bob c", "ok 21 1700000000.000000"),
+    (
+        "getstrs bob",
+        "- age \n- d d\n- e e\n- f f\n- g g\n- h h\n- i i\n- j j\n- k k\n- l l\n- m m\n- n n\n- o o\n- p p\n\
+- q q\nok",
+    ),
 ];
 
 /// What the random bytes of a line make is its keys; the second line has the byte 1 in its block, and the third 2. A
@@ -125,6 +134,67 @@ const KEYS: [Turn; 12] = [
     ("getprivs", "- privileges admcilspe\nok"),
 ];
 
+/// Keys expire by the greatest life of their policy, one day here, unless the line itself says when. `addprinc` leaves
+/// needchange as the line says, and new keys clear it.
+const EXPIRING: [Turn; 13] = [
+    ("addpol -maxlife 1d p", "ok 2 1700000000.000000"),
+    (
+        "addprinc -policy p -pw x +needchange -expire 2030-01-01T00:00:00Z a",
+        "ok 3 1700000000.000000",
+    ),
+    (
+        "getprinc a",
+        "- principal a@EXAMPLE.ORG\n- expires 2030-01-01T00:00:00Z\n- pwexpires 2023-11-15T22:13:20Z\n\
+- pwchanged 2023-11-14T22:13:20Z\n- maxlife 0\n- maxrenewlife 0\n\
+- modified 2023-11-14T22:13:20Z admin/local@EXAMPLE.ORG\n- mkvno 1\n- flags +needchange\n- policy p\n\
+- key 1 aes256-cts-hmac-sha1-96 normal\n- key 1 aes128-cts-hmac-sha1-96 normal\nok",
+    ),
+    (
+        "addprinc -policy p -pwexpire 2024-02-29T12:00:00Z -pw x b",
+        "ok 4 1700000000.000000",
+    ),
+    (
+        "getprinc b",
+        "- principal b@EXAMPLE.ORG\n- expires never\n- pwexpires 2024-02-29T12:00:00Z\n\
+- pwchanged 2023-11-14T22:13:20Z\n- maxlife 0\n- maxrenewlife 0\n\
+- modified 2023-11-14T22:13:20Z admin/local@EXAMPLE.ORG\n- mkvno 1\n- flags none\n- policy p\n\
+- key 1 aes256-cts-hmac-sha1-96 normal\n- key 1 aes128-cts-hmac-sha1-96 normal\nok",
+    ),
+    (
+        "addprinc -policy p -pwexpire never -randkey -e aes128-sha2 c",
+        "ok 5 1700000000.000000",
+    ),
+    (
+        "getprinc c",
+        "- principal c@EXAMPLE.ORG\n- expires never\n- pwexpires never\n\
+- pwchanged 2023-11-14T22:13:20Z\n- maxlife 0\n- maxrenewlife 0\n\
+- modified 2023-11-14T22:13:20Z admin/local@EXAMPLE.ORG\n- mkvno 1\n- flags none\n- policy p\n\
+- key 1 aes128-cts-hmac-sha256-128 normal\nok",
+    ),
+    ("addprinc -policy p -nokey d", "ok 6 1700000000.000000"),
+    (
+        "getprinc d",
+        "- principal d@EXAMPLE.ORG\n- expires never\n- pwexpires never\n- pwchanged never\n- maxlife 0\n\
+- maxrenewlife 0\n- modified 2023-11-14T22:13:20Z admin/local@EXAMPLE.ORG\n- mkvno 1\n- flags none\n- policy p\nok",
+    ),
+    ("cpw -randkey -e aes256-sha2 a", "ok 7 1700000000.000000"),
+    (
+        "getprinc a",
+        "- principal a@EXAMPLE.ORG\n- expires 2030-01-01T00:00:00Z\n- pwexpires 2023-11-15T22:13:20Z\n\
+- pwchanged 2023-11-14T22:13:20Z\n- maxlife 0\n- maxrenewlife 0\n\
+- modified 2023-11-14T22:13:20Z admin/local@EXAMPLE.ORG\n- mkvno 1\n- flags none\n- policy p\n\
+- key 2 aes256-cts-hmac-sha384-192 normal\nok",
+    ),
+    ("modprinc -pwexpire never a", "ok 8 1700000000.000000"),
+    (
+        "getprinc a",
+        "- principal a@EXAMPLE.ORG\n- expires 2030-01-01T00:00:00Z\n- pwexpires never\n\
+- pwchanged 2023-11-14T22:13:20Z\n- maxlife 0\n- maxrenewlife 0\n\
+- modified 2023-11-14T22:13:20Z admin/local@EXAMPLE.ORG\n- mkvno 1\n- flags none\n- policy p\n\
+- key 2 aes256-cts-hmac-sha384-192 normal\nok",
+    ),
+];
+
 /// Policies, and what is listed.
 const LISTED: [Turn; 14] = [
     (
@@ -156,13 +226,53 @@ const LISTED: [Turn; 14] = [
     ("listprincs k*/?i*", "- kadmin/history@EXAMPLE.ORG\nok"),
 ];
 
-const SESSIONS: [&[Turn]; 6] = [&SHOWN, &NAMES, &LINES, &STRINGS, &KEYS, &LISTED];
+/// Versions of the master key, each of the newest one's type where none is named. `stash` is given to the interpreter
+/// alone.
+const MASTERS: [Turn; 12] = [
+    ("purge_mkeys", "- kept 1 protects 2\nok 0 purged"),
+    ("add_mkey", "ok 2 1700000000.000000 mkvno 2"),
+    ("add_mkey -e aes128-sha2", "ok 3 1700000000.000000 mkvno 3"),
+    (
+        "purge_mkeys",
+        "- kept 1 protects 2\n- purged 2\n- kept 3 newest\nok 4 1700000000.000000 1 purged",
+    ),
+    ("add_mkey", "ok 5 1700000000.000000 mkvno 4"),
+    (
+        "use_mkey 4 1700003600",
+        "ok 6 1700000000.000000 mkvno 4 from 2023-11-14T23:13:20Z",
+    ),
+    ("use_mkey 2", "err 16 UnknownMaster 2"),
+    ("use_mkey 1 1700003600", "err 17 NoActiveMaster"),
+    (
+        "use_mkey 3",
+        "ok 7 1700000000.000000 mkvno 3 from 2023-11-14T22:13:20Z",
+    ),
+    (
+        "list_mkeys",
+        "- 1 aes256-cts-hmac-sha1-96 2023-11-14T22:13:20Z\n\
+- 3 aes128-cts-hmac-sha256-128 2023-11-14T22:13:20Z *\n\
+- 4 aes128-cts-hmac-sha256-128 2023-11-14T23:13:20Z\nok",
+    ),
+    (
+        "purge_mkeys",
+        "- kept 1 protects 2\n- kept 3 active\n- kept 4 newest\nok 0 purged",
+    ),
+    ("stash", "ok"),
+];
+
+const SESSIONS: [&[Turn]; 7] = [&SHOWN, &NAMES, &LINES, &STRINGS, &KEYS, &LISTED, &MASTERS];
 
 #[test]
 fn lines_are_answered_alike(rt: HostRuntime) -> Result<(), Fail> {
     for turns in SESSIONS {
         check_created(&rt, rt.alloc(), turns)?;
     }
+    Ok(())
+}
+
+#[test]
+fn expirations_are_set_alike(rt: HostRuntime) -> Result<(), Fail> {
+    check_created(&rt, rt.alloc(), &EXPIRING)?;
     Ok(())
 }
 

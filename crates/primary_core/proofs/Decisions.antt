@@ -10,7 +10,7 @@ use Rattle.kadm_commands.specs.Commands.{IsCommand}
 use Rattle.kadm_commands.specs.declared.commands.Command.{Command}
 use Rattle.kadm_commands.specs.declared.replies.Reply.{Reply}
 use Rattle.kadm_commands.specs.declared.replies.Reply.TheVariants.{Done, Refused}
-use Rattle.kadm_plan.specs.Ready.{is_planned}
+use Rattle.performed_plans.specs.Ready.{is_planned}
 use Rattle.kdb_base.specs.Moment.{Moment}
 use Rattle.kdb_base.specs.Moments.{micros}
 use Rattle.kdb_base.specs.declared.moments.Point.{Point}
@@ -37,7 +37,7 @@ use Rattle.mkey_admin.specs.declared.planned.MasterPlan.{MasterPlan}
 use Rattle.mkey_admin.specs.declared.planned.MasterPlan.TheVariants as masters
 use Rattle.mkey_admin.specs.declared.planned.Told.{Told}
 use Rattle.mkey_admin.specs.declared.planned.Told.TheVariants.{Added, Used, Purged}
-use Rattle.performed_plans.specs.Ready.{IsReady}
+use Rattle.performed_plans.specs.Changes.{IsReady}
 use Rattle.primary_core.proofs.Asking.{leads_on, stays}
 use Rattle.primary_core.specs.Deciding.{Decides, change_decided, change_of, decided_as, decided_at}
 use Rattle.primary_core.specs.Deciding.{masters_changed, masters_decided_as, point_told, reply_of, rows_changed}

@@ -9,7 +9,7 @@ use Rattle.mkey_admin.specs.declared.planned.MasterChange.{MasterChange}
 use Rattle.kadm_commands.specs.declared.commands.Command.{Command}
 use Rattle.kadm_commands.specs.declared.commands.Command.TheVariants as command
 use Rattle.kadm_commands.specs.declared.replies.Reply.TheVariants.{Refused}
-use Rattle.kadm_plan.specs.Ready.{is_planned}
+use Rattle.performed_plans.specs.Ready.{is_planned}
 use Rattle.std.specs.Option.{option_or}
 use Rattle.kdb_base.specs.Moment.{Moment}
 use Rattle.kdb_base.specs.declared.outcomes.Refusal.{Refusal}

@@ -19,7 +19,7 @@ use Rattle.kdb_places.proofs.Points.{committed_point, first_point}
 use Rattle.kdb_places.specs.Places.{Place, base_marker, committed, log_anew, next_point, no_point, point_of}
 use Rattle.kdb_plain.specs.States.{IsValid}
 use Rattle.kdb_plain.specs.declared.states.State.{State}
-use Rattle.performed_plans.specs.Ready.{change_places}
+use Rattle.performed_plans.specs.Changes.{change_places}
 use Rattle.primary_core.proofs.Asked.{secs_behind}
 use Rattle.primary_core.specs.Opened.{HasState, IsOpened, IsShown, MayMake, Opened, masters_behind, place_of}
 use Rattle.primary_core.specs.declared.decided.DecidedChange.{DecidedChange}

@@ -6,7 +6,7 @@ use Rattle.kadm_commands.specs.declared.commands.Command.{Command}
 use Rattle.kadm_commands.specs.declared.replies.Reply.{Reply}
 use Rattle.kadm_commands.specs.declared.replies.Reply.TheVariants.{Done, MasterAdded, MasterUsed}
 use Rattle.kadm_commands.specs.declared.replies.Reply.TheVariants.{MastersPurged, Refused}
-use Rattle.kadm_plan.specs.Ready.{is_planned}
+use Rattle.performed_plans.specs.Ready.{is_planned}
 use Rattle.kdb_base.specs.Moment.{Moment}
 use Rattle.kdb_base.specs.declared.moments.Point.{Point}
 use Rattle.kdb_base.specs.declared.outcomes.Refusal.TheVariants.{TimeEnd}
@@ -18,7 +18,7 @@ use Rattle.mkey_admin.specs.Plans.{is_master_command, reply_at}
 use Rattle.mkey_admin.specs.declared.planned.MasterChange.{MasterChange}
 use Rattle.mkey_admin.specs.declared.planned.MasterPlan.{MasterPlan}
 use Rattle.mkey_admin.specs.declared.planned.MasterPlan.TheVariants as masters
-use Rattle.performed_plans.specs.Ready.{change_places}
+use Rattle.performed_plans.specs.Changes.{change_places}
 use Rattle.primary_core.specs.Opened.{IsDecided, MayMake, Opened, place_of}
 use Rattle.primary_core.specs.declared.decided.Decided.{Decided}
 use Rattle.primary_core.specs.declared.decided.Decided.TheVariants.{Answer, Change}

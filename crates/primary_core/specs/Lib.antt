@@ -1,3 +1,4 @@
+pub use Rattle.performed_plans.specs.Changes
 pub mod Opened
 pub mod Deciding
 pub mod Opening

@@ -12,7 +12,7 @@ ghost use Rattle.kdb_places.specs.Places.{point_of};
 ghost use Rattle.kdb_histories.specs.Seen.{is_due};
 ghost use Rattle.iprop_truths.specs.Blocks.{block_for};
 ghost use Rattle.command_plans.specs.Given.{IsApplied};
-ghost use Rattle.performed_plans.specs.Ready.{change_places};
+ghost use Rattle.performed_plans.specs.Changes.{change_places};
 ghost use Rattle.mkey_admin.specs.Plans.{reply_at};
 ghost use Rattle.primary_core.specs.Deciding.{change_decided, ends_time, masters_changed, point_for, rows_changed};
 ghost use Rattle.primary_core.specs.declared.decided.Decided.TheVariants.{Answer, Change};

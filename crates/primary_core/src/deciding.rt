@@ -6,7 +6,7 @@ ghost use Rattle.command_plans.specs.declared.planned.Planned.TheVariants.{Answe
 ghost use Rattle.kadm_commands.specs.Commands.{IsCommand};
 ghost use Rattle.kadm_commands.specs.declared.replies.Reply.{Reply as Replies};
 ghost use Rattle.kadm_commands.specs.declared.replies.Reply.TheVariants.{Refused};
-ghost use Rattle.kadm_plan.specs.Ready.{is_planned};
+ghost use Rattle.performed_plans.specs.Ready.{is_planned};
 ghost use Rattle.kdb_base.specs.declared.outcomes.Halt.{Halt as Halts};
 ghost use Rattle.kdb_base.specs.declared.outcomes.Halt.TheVariants.{MemoryOut as IsMemoryOut};
 ghost use Rattle.kdb_base.specs.declared.outcomes.Refusal.{Refusal as Refuses};
@@ -35,11 +35,11 @@ use crate::moments::{holds_moment, holds_point};
 use crate::primary::Primary;
 use acl_text::Acl;
 use kadm_commands::{Command, Reply};
-use kadm_plan::{Planned, Ready, View, plan};
 use kdb_base::{Halt, Refusal, Stop, Time};
 use kdb_plain::laws::valid_later;
 use mkey_admin::MasterPlan;
 use performed_plans::laws::{master_plans_are_performed, plans_are_performed};
+use performed_plans::{Planned, Ready, View, plan};
 use princ_name::Name;
 use std::alloc::Global;
 // What is answered where the judge stopped: a refusal is told.

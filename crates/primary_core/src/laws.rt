@@ -7,7 +7,7 @@ ghost use Rattle.iprop_truths.specs.Parts.{end_of};
 ghost use Rattle.kadm_commands.specs.declared.commands.Command.{Command};
 ghost use Rattle.kadm_commands.specs.declared.replies.Reply.{Reply};
 ghost use Rattle.kadm_commands.specs.declared.replies.Reply.TheVariants.{Refused};
-ghost use Rattle.kadm_plan.specs.Ready.{is_planned};
+ghost use Rattle.performed_plans.specs.Ready.{is_planned};
 ghost use Rattle.kdb_base.specs.Moment.{Moment};
 ghost use Rattle.kdb_base.specs.declared.outcomes.Refusal.TheVariants.{TimeEnd};
 ghost use Rattle.kdb_histories.specs.Asks.{Ask, Commanded, Replied, clock_of};

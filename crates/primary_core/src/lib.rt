@@ -18,4 +18,6 @@ pub mod renewing;
 pub mod stashing;
 
 pub use decided::{Decided, DecidedChange};
+pub use performed_plans::laws::changes_make_places;
+pub use performed_plans::{Ready, prepare};
 pub use primary::Primary;

@@ -5,10 +5,11 @@ ghost use Rattle.kdb_base.specs.declared.outcomes.Halt.TheVariants.{DiskFault as
 ghost use Rattle.kdb_base.specs.declared.outcomes.Refusal.{Refusal as Refuses};
 ghost use Rattle.kdb_base.specs.declared.outcomes.Stop.TheVariants as stops;
 ghost use Rattle.kdb_disk.specs.Frames.{IsCall, IsCrashSafe};
-ghost use Rattle.primary_core.specs.Ending.{MayEnd};
+ghost use Rattle.kdb_disk.specs.Moments.{Keeps};
+ghost use Rattle.primary_core.specs.Ending.{IsCut, MayEnd};
 ghost use Rattle.primary_disk.specs.Handing.{disk_back, ended_in};
 ghost use Rattle.primary_disk.specs.Held.{Stands, is_broken, place_in};
-ghost use Rattle.store_files.specs.Recovery.{RecoversToNone};
+ghost use Rattle.store_files.specs.Recovery.{Destroys, RecoversToNone};
 
 use crate::primary::DiskPrimary;
 use kdb_base::Stop;
@@ -21,9 +22,13 @@ impl<D: Disk> DiskPrimary<D> {
     /// # Errors
     ///
     /// `DiskFault` where the disk failed. Of a primary that is not closed, on a disk that tells of its files, nothing
-    /// is refused.
+    /// is refused. Of a closed one the files may have gone or be damaged, which is refused, and changes none of them.
     pub fn destroy(self) -> Result<D, (D, Stop)>
         ensures none { D.tells → IfOk result (λ disk. RecoversToNone (D.view disk)) }
+        ensures empty { D.tells → IfOk result (λ disk. IsCut (D.view disk)) }
+        ensures ends { IsCrashSafe D.Disk self.disk (disk_back result) (Destroys (D.view self.disk)) }
+        ensures keeps { D.tells → (why : Refuses) → ended_in result ≡ Err (stops.Refused why)
+            → Keeps (D.view self.disk) (D.view (disk_back result)) }
         ensures crash { is_broken self ≡ false
             → IsCrashSafe D.Disk self.disk (disk_back result) (MayEnd (place_in self)) }
         ensures refused { D.tells → is_broken self ≡ false → (why : Refuses)

@@ -18,9 +18,9 @@ ghost use Rattle.primary_disk.specs.Leaving.{IsDone, Leaves, MayStop};
 use crate::primary::DiskPrimary;
 use acl_text::Acl;
 use kadm_commands::{Command, Reply};
-use kadm_plan::Ready;
 use kdb_base::{Halt, Time};
 use kdb_disk::Disk;
+use primary_core::Ready;
 use princ_name::Name;
 use std::alloc::Global;
 

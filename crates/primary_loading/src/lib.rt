@@ -7,3 +7,4 @@ mod loading;
 
 pub use judging::judge_dump;
 pub use loading::load;
+pub use primary_core::Primary;

@@ -10,7 +10,7 @@ use Rattle.kdb_histories.specs.Moves.{IsLeft}
 use Rattle.kdb_histories.specs.Seen.{Seen, after_ask, entry_point, seen}
 use Rattle.kdb_places.specs.Places.{Place}
 use Rattle.kdb_plain.specs.declared.states.State.{State}
-use Rattle.performed_plans.specs.Ready.{change_places}
+use Rattle.primary_core.specs.Changes.{change_places}
 use Rattle.primary_core.proofs.Asking.{kept_so, left_so, mastered_so}
 use Rattle.primary_core.proofs.Carried.{ask_does, ask_leaves, ask_reaches}
 use Rattle.primary_core.specs.Deciding.{rows_changed}

@@ -29,7 +29,7 @@ use kadm_commands::AddPrinc;
 use kdb_base::{Blob, MemoryOut, Refusal};
 use kdb_model::heads::{blank_head, chosen, forced, keyed, limited, with_options};
 use kdb_model::refusals::{few_classes, too_short};
-use plain_keys::{NewKeys, PlainKeys};
+use plain_keys::{NewKeys, Password, PlainKeys};
 use policy_rules::Numbers;
 use princ_name::print_name;
 use princ_record::Princ;
@@ -78,7 +78,7 @@ fn numbers_for(rows: &Rows, policy: &Option<Blob>) -> Numbers
     }
 }
 
-fn password_given(keys: &Option<NewKeys>) -> Option<&Blob>
+fn password_given(keys: &Option<NewKeys>) -> Option<&Password>
     ensures { (c : Added) → c.keys ≡ keys.now → option_map (λ text. text.now) result ≡ password_given c }
 {
     match keys {

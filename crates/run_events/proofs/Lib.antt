@@ -6,3 +6,4 @@ pub mod Changing
 pub mod Ending
 pub mod Runs
 pub mod Holding
+pub mod Completing

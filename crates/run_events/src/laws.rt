@@ -1,30 +1,38 @@
 //! Laws that make events of a primary's history of what a whole run of the program says. They do no work.
 
-ghost use Rattle.std.specs.Prelude.{◌≡◌, ◌≢◌, [], ℕ, Bool, List, Option, Some, Ok};
+ghost use Rattle.std.specs.Prelude.{◌≡◌, ◌≢◌, ◌<◌, [], ℕ, Bool, List, Option, Some, Result, Ok, length};
 ghost use Rattle.first_rows.specs.Parts.{SpecParts};
+ghost use Rattle.kadm_commands.specs.declared.replies.Reply.{Reply};
 ghost use Rattle.kadm_loading.specs.Loads.{LoadEnd};
 ghost use Rattle.kadm_session.specs.declared.intake.Asked.{Asked as Asks};
-ghost use Rattle.kadm_top.specs.Openings.{AddsNew, Drawn, Ends, Loads, Makes, Opening, Opens, Renewing};
+ghost use Rattle.kadm_top.specs.Openings.{AddsNew, Drawn, Ends, Loads, Makes, Opening, Opens, Renewing, Tells};
 ghost use Rattle.kadm_top.specs.Run.{RunEnd, RunLeaves, Same, Told, run_end};
-ghost use Rattle.kadm_top.specs.Statuses.{IsRun, OnEnd};
+ghost use Rattle.kadm_top.specs.Statuses.{Faults, IsRun, OnEnd};
+ghost use Rattle.kdb_base.specs.Causes.{Rose};
+ghost use Rattle.kdb_base.specs.declared.outcomes.Halt.{Halt as Halts};
 ghost use Rattle.kdb_base.specs.declared.outcomes.Status.{Status as Ended};
 ghost use Rattle.kdb_disk.specs.Files.{Files};
 ghost use Rattle.kdb_histories.specs.Calls.{HasTimeLeft, resized};
 ghost use Rattle.kdb_histories.specs.Seen.{Seen};
 ghost use Rattle.kdb_histories.specs.Sites.{Site, SiteHolds, state_of, story_of};
 ghost use Rattle.kdb_histories.specs.Stages.{ShowsAt, epoch};
+ghost use Rattle.kdb_model.specs.Calls.{Call};
 ghost use Rattle.kdb_places.specs.Places.{Place, last_entries};
 ghost use Rattle.primary_core.specs.Opening.{OpensAt, place_found};
 ghost use Rattle.primary_events.specs.At.{StandsFor};
 ghost use Rattle.primary_events.specs.Premises.{MayOpenAt};
 ghost use Rattle.run_events.specs.Beginning.{Begins, HasOpened};
 ghost use Rattle.run_events.specs.Coming.{HasCome, HasHistory, RestsAt, RunsDown};
+ghost use Rattle.run_events.specs.Completeness.{HasStashOf, IsCaused, IsDoneOrMemoryOut, IsPerformed};
+ghost use Rattle.run_events.specs.Completeness.{IsReplyOrMemoryOut, NothingStopped, RefusesNothing, SaysNoRefusal};
+ghost use Rattle.run_events.specs.Completeness.{WasTooLong, model_reply};
 ghost use Rattle.session_base.specs.Draws.{Draws, moment_in};
-ghost use Rattle.store_files.specs.Found.{Found, recovers};
+ghost use Rattle.store_files.specs.Found.{Found, found_in, recovers};
 
 use dump_text::laws::what_is_judged_a_dump_is_spelled_so;
 use kdb_disk::Disk;
 use kdb_plain::laws::valid_later;
+use primary_events::laws::openings_are_events;
 use row_keys::laws::sound_rows_show_one_state;
 
 /// Whatever a crash leaves at some moment of a run comes of the site on which it began: events of the primary's history
@@ -117,4 +125,45 @@ pub fn openings_are_there()
         → HasOpened s size files draws }
 {
     valid_later();
+}
+
+/// Completeness: a run of which nothing is refused is done, or wants memory, where no count of faults rose and the
+/// input was not too long. It is said of any run of `run_local`: its clause `run` gives the first premise, and its
+/// clauses `causes` and `input` the second.
+pub fn runs_complete<D: Disk>(_before: &D, _after: &D)
+    ensures done { (before after : Told) (o : Opening) (first last : Faults) (result : Ended)
+        → IsRun o (D.view _before.now) (D.view _after.now) before after result
+        → IsCaused before after first last result
+        → RefusesNothing o before → NothingStopped before after first last → IsDoneOrMemoryOut result }
+    // Where a database is opened and asked, nothing is refused where no reply is a refusal. Neither is anything of a
+    // text that is told, of a creation, whose clock and random bytes are told, or of an end.
+    ensures lines { (begin : Place) (made : List Place) (at : Seen) (asked : Option Asks) (before : Told)
+        → SaysNoRefusal asked before at → RefusesNothing (Opens begin made at asked) before }
+    ensures tells { (text : List ℕ) (drawn : Drawn) (before : Told) → RefusesNothing (Tells text drawn) before }
+    ensures makes { (spec : SpecParts) (before : Told) (draws : Draws) → before.draws ≡ Some draws
+        → RefusesNothing (Makes spec) before }
+    ensures ends { (before : Told) → RefusesNothing Ends before }
+    // An input of fewer bytes is not too long.
+    ensures short { (before after : Told) (text : List ℕ) → before.left ≡ Some text → length text < 4294967296
+        → WasTooLong before after → ⊥ }
+{}
+
+/// Completeness of one command: it is answered by the reply of the model's step, in the state that the rows show, or
+/// wants memory, where the disk's count of faults did not rise. It is said of any call of `perform` of a primary, by
+/// its clauses `does` and `call`.
+pub fn commands_complete()
+    ensures { (call : Call) (at : Seen) (later : Place) (first last : ℕ) (result : Result Reply Halts)
+        → IsPerformed call at later first last result → (Rose first last → ⊥)
+        → IsReplyOrMemoryOut (model_reply call at) result }
+{}
+
+/// Completeness of openings: what files of a history stand for opens with the master keys that the history comes to, by
+/// a stash whose first key that K/M lists is one of them. This is what the clause `complete` of `recover` of a primary
+/// asks, by which it then opens, wants memory, or met a fault of the disk.
+pub fn histories_open()
+    ensures { (s : Site) (c : Files) (f : Found) → HasHistory s → StandsFor s c → found_in c ≡ Ok f
+        → HasStashOf (state_of s).masters (place_found f) → OpensAt (place_found f) (state_of s).masters }
+{
+    valid_later();
+    openings_are_events();
 }

@@ -2,7 +2,7 @@ use Rattle.std.proofs.Common.{refl}
 use Rattle.kdb_histories.specs.Seen.{made_at, seen}
 use Rattle.kdb_histories.specs.Stages.{places}
 use Rattle.primary_core.specs.Opened.{place_of}
-use Rattle.performed_plans.specs.Ready.{change_places}
+use Rattle.primary_core.specs.Changes.{change_places}
 use Rattle.kadm_keytabs.proofs.Carried.{crash_changing, crash_still, places_are}
 use Rattle.kadm_keytabs.proofs.Carried.{shows_changed, stands_changed, stands_still}
 use Rattle.kadm_keytabs.proofs.judging.carry_out.Goals as goal

@@ -1,7 +1,7 @@
 use Rattle.std.proofs.Common.{refl}
 use Rattle.kadm_loading.proofs.Ends.{bad_stops, has_bad, idle_leaves, idle_some}
 use Rattle.kadm_loading.proofs.answering.answer.Goals as goal
-use Rattle.primary_core.specs.Opened.{place_of}
+use Rattle.primary_loading.specs.Opened.{place_of}
 
 pub returns-in-Err-clause-comes : goal.returns-in-Err-clause-comes
 returns-in-Err-clause-comes g c =

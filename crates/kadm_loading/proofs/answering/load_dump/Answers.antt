@@ -2,7 +2,7 @@ use Rattle.std.proofs.Common.{refl}
 use Rattle.kadm_loading.proofs.Ends.{idle_leaves, idle_some, stops_unsaid}
 use Rattle.kadm_loading.proofs.answering.load_dump.Goals as goal
 use Rattle.kadm_loading.specs.Loads.{places_loaded}
-use Rattle.primary_core.specs.Opened.{place_of}
+use Rattle.primary_loading.specs.Opened.{place_of}
 
 pub returns-in-Err-clause-stopped : goal.returns-in-Err-clause-stopped
 returns-in-Err-clause-stopped g c = λ tells end to.

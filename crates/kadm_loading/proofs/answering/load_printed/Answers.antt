@@ -5,7 +5,7 @@ use Rattle.kadm_loading.proofs.Ends.{idle_some, if_loaded_as, if_loaded_stops, i
 use Rattle.kadm_loading.proofs.Ends.{if_refused_stops, leaves_some, loaded_leaves, stops_unsaid}
 use Rattle.kadm_loading.proofs.answering.load_printed.Goals as goal
 use Rattle.kdb_histories.specs.Stages.{no_state}
-use Rattle.primary_core.specs.Opened.{place_of}
+use Rattle.primary_loading.specs.Opened.{place_of}
 
 pub returns-in-Err-Refused-clause-ended : goal.returns-in-Err-Refused-clause-ended
 returns-in-Err-Refused-clause-ended g c = λ end to.

@@ -6,7 +6,7 @@ use Rattle.kadm_loading.specs.Loads.{LoadsAs, load_stage, places_loaded}
 use Rattle.session_base.specs.Stages.{IsStopped}
 use Rattle.kdb_base.specs.Moment.{Moment}
 use Rattle.kdb_disk.specs.Moments.{LeavesOnly}
-use Rattle.primary_core.specs.Opened.{place_of}
+use Rattle.primary_loading.specs.Opened.{place_of}
 use Rattle.store_files.specs.Recovery.{LeavesPart}
 
 pub returns-in-Err-clause-stopped : goal.returns-in-Err-clause-stopped

@@ -2,7 +2,7 @@ use Rattle.std.proofs.Common.{◌∙◌, ap, refl}
 use Rattle.kdb_histories.specs.Calls.{Perform}
 use Rattle.kdb_places.specs.Places.{Place}
 use Rattle.primary_core.specs.Opened.{place_of}
-use Rattle.performed_plans.specs.Ready.{change_places}
+use Rattle.primary_core.specs.Changes.{change_places}
 use Rattle.kadm_session.proofs.Leaving.{may_still}
 use Rattle.kadm_session.proofs.Making.{change_realm, crash_changing, places_are}
 use Rattle.kadm_session.proofs.Making.{shows_changed, stands_changed, stands_still}

@@ -19,19 +19,22 @@ returns-in-Ok-print-clause-decided g c = λ s has.
     (told_draws (g.C.Clock.moments c.rekey_matching.new.clock) (g.E.Entropy.stream c.rekey_matching.new.entropy)))
     (sym c.in-Ok-print.ensures.reply) (c.in-Ok.ensures.decided s has)
 
-pub returns-in-Err-print-clause-memory : goal.returns-in-Err-print-clause-memory
-returns-in-Err-print-clause-memory g c = λ s has is.
-    halfway_done g.D.Disk c.rekey_matching.new.disk c.args.glob.now
-    (told_draws (g.C.Clock.moments c.args.clock.now) (g.E.Entropy.stream c.args.entropy.now))
-    (told_draws (g.C.Clock.moments c.rekey_matching.new.clock) (g.E.Entropy.stream c.rekey_matching.new.entropy))
-    (seen (place_of c.args.primary.now) s) (Some c.in-Ok.reply) c.rekey_matching.new.primary
-    (c.in-Ok.ensures.decided s has)
-    (λ told. c.what_is_kept_is_recovered.ensures c.rekey_matching.new.primary.kept (c.in-Ok.ensures.on told))
+pub returns-in-Err-print-clause-rests : goal.returns-in-Err-print-clause-rests
+returns-in-Err-print-clause-rests g c = λ s has. record {
+  memory = λ is.
+      halfway_done g.D.Disk c.rekey_matching.new.disk c.args.glob.now
+      (told_draws (g.C.Clock.moments c.args.clock.now) (g.E.Entropy.stream c.args.entropy.now))
+      (told_draws (g.C.Clock.moments c.rekey_matching.new.clock) (g.E.Entropy.stream c.rekey_matching.new.entropy))
+      (seen (place_of c.args.primary.now) s) (Some c.in-Ok.reply) c.rekey_matching.new.primary
+      (c.in-Ok.ensures.decided s has)
+      (λ told. c.what_is_kept_is_recovered.ensures c.rekey_matching.new.primary.kept (c.in-Ok.ensures.stays.on told));
+  drawn = λ is. absurd cc;
+}
 
-pub returns-in-Err-clause-memory : goal.returns-in-Err-clause-memory
-returns-in-Err-clause-memory g c = λ s has is. c.rekey_matching.ensures.memory s has
-    (err_on c.rekey_matching.result _ _ c.in-Err.halt MemoryOut c.in-Err.is refl refl is)
-
-pub returns-in-Err-clause-drawn : goal.returns-in-Err-clause-drawn
-returns-in-Err-clause-drawn g c = λ s has is. c.rekey_matching.ensures.drawn s has
-    (err_on c.rekey_matching.result _ _ c.in-Err.halt DrawFault c.in-Err.is refl refl is)
+pub returns-in-Err-clause-rests : goal.returns-in-Err-clause-rests
+returns-in-Err-clause-rests g c = λ s has. record {
+  memory = λ is. (c.rekey_matching.ensures.rests s has).memory
+      (err_on c.rekey_matching.result _ _ c.in-Err.halt MemoryOut c.in-Err.is refl refl is);
+  drawn = λ is. (c.rekey_matching.ensures.rests s has).drawn
+      (err_on c.rekey_matching.result _ _ c.in-Err.halt DrawFault c.in-Err.is refl refl is);
+}

@@ -1,8 +1,8 @@
-use Rattle.std.proofs.Common.{[], ◌∙◌, ◌∷◌, ◌+◌, drop, refl, sym, ap, arith, Ok, Err}
+use Rattle.std.proofs.Common.{ℕ, [], ◌≡◌, ◌∙◌, ◌∷◌, ◌+◌, List, drop, false, refl, sym, ap, arith, Ok, Err}
 use Rattle.std.proofs.lemmas.List.{drop_all}
 use Rattle.kdb_histories.specs.Seen.{seen}
 use Rattle.primary_core.specs.Opened.{Opened, place_of}
-use Rattle.princ_name.specs.Printed.{IsPrinted}
+use Rattle.princ_name.specs.Printed.{IsPrinted, is_master}
 use Rattle.session_base.specs.declared.halts.SessionHalt.TheVariants.{MemoryOut, DrawFault}
 use Rattle.kadm_session.proofs.Leaving.{crash_still}
 use Rattle.kadm_session.proofs.Moving.{rekeyed_all, rekeyed_part, rekeyed_refused, step_ok, stopped_safe, underway_as}
@@ -27,16 +27,17 @@ loop-name-init g c = record {
   entropy = omega arith;
 }
 
-pub rekey_one-requires-clause-printed : goal.rekey_one-requires-clause-printed
-rekey_one-requires-clause-printed g c =
-    word_has IsPrinted c.args.names.now c.loop-name.name-index c.name-item.result c.as_slice.result.now
-    c.requires.printed c.loop-name-test.true c.name-item.is c.as_slice.ensures
-
-pub rekey_one-requires-clause-ring : goal.rekey_one-requires-clause-ring
-rekey_one-requires-clause-ring g c = c.requires.ring ∙ sym c.loop-name.invariant.masters
-
-pub rekey_one-requires-clause-few : goal.rekey_one-requires-clause-few
-rekey_one-requires-clause-few g c = omega (arith, c.loop-name.invariant.few, c.loop-name-test.true, c.requires.few)
+pub rekey_one-requires-clause-may : goal.rekey_one-requires-clause-may
+rekey_one-requires-clause-may g c = record {
+  printed =
+      word_has IsPrinted c.args.names.now c.loop-name.name-index c.name-item.result c.as_slice.result.now
+      c.requires.printed c.loop-name-test.true c.name-item.is c.as_slice.ensures;
+  other =
+      word_has (λ (name : List ℕ). is_master name ≡ false) c.args.names.now c.loop-name.name-index c.name-item.result
+      c.as_slice.result.now c.requires.others c.loop-name-test.true c.name-item.is c.as_slice.ensures;
+  ring = c.requires.ring ∙ sym c.loop-name.invariant.masters;
+  few = omega (arith, c.loop-name.invariant.few, c.loop-name-test.true, c.requires.few);
+}
 
 pub rekey_one-requires-clause-on : goal.rekey_one-requires-clause-on
 rekey_one-requires-clause-on g c = λ told. c.loop-name.invariant.on told
@@ -69,15 +70,15 @@ loop-name-preserved g c =
         arith,
         was.few,
         step_ok c.rekey_one.result _ c.in-Ok-Ok.field-0 (Ok c.in-Ok-Ok.more) c.in-Ok-Ok.is c.in-Ok-Ok.field-0-is
-            c.rekey_one.ensures.few,
+            c.rekey_one.ensures.counts.few,
       );
-      on = λ told. one.on told;
-      whole = one.whole;
-      realm = one.realm ∙ was.realm;
-      masters = one.masters ∙ was.masters;
-      same = one.call.same ∙ was.same;
-      disk = omega (arith, was.disk, one.call.later);
-      entropy = omega (arith, was.entropy, one.faults.later);
+      on = λ told. one.stays.on told;
+      whole = one.stays.whole;
+      realm = one.stays.realm ∙ was.realm;
+      masters = one.counts.masters ∙ was.masters;
+      same = one.causes.call.same ∙ was.same;
+      disk = omega (arith, was.disk, one.causes.call.later);
+      entropy = omega (arith, was.entropy, one.causes.draws.later);
     }
 
 pub returns-clause-done : goal.returns-clause-done
@@ -146,14 +147,14 @@ returns-in-Err-clause-memory g c = λ s has is.
     (drop c.loop-name.name-index c.args.names.now) c.args.now (g.E.Entropy.stream c.args.entropy.now)
     (seen (place_of c.args.primary.now) s) c.loop-name.totals c.loop-name.primary c.rekey_one.new.primary
     (g.E.Entropy.stream c.loop-name.entropy)
-    (c.loop-name.invariant.goes s has) (c.rekey_one.ensures.memory_place halted)
+    (c.loop-name.invariant.goes s has) (c.rekey_one.ensures.rests.memory_place halted)
     (λ told. c.what_is_kept_is_recovered-in-Err.ensures c.rekey_one.new.primary.kept
-    (c.rekey_one.ensures.memory told halted))
+    (c.rekey_one.ensures.rests.memory told halted))
 
 pub returns-in-Err-clause-drawn : goal.returns-in-Err-clause-drawn
 returns-in-Err-clause-drawn g c = λ s has is.
     let halted = err_on c.rekey_one.result _ _ c.in-Err.halt DrawFault c.in-Err.is refl refl is in
-    let same = c.rekey_one.ensures.drawn halted in
+    let same = c.rekey_one.ensures.rests.drawn halted in
     rekeyed_part g.D.Disk c.args.disk.now c.loop-name.disk c.rekey_one.new.disk c.args.names.now
     (drop c.loop-name.name-index c.args.names.now) c.args.now (g.E.Entropy.stream c.args.entropy.now)
     (seen (place_of c.args.primary.now) s) c.loop-name.totals c.loop-name.primary c.rekey_one.new.primary

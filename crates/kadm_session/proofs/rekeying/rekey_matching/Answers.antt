@@ -30,23 +30,26 @@ returns-in-Err-clause-safe g c = λ s has.
     (seen (place_of c.args.primary.now) s) refl
     (λ told. c.what_is_kept_is_recovered.ensures c.args.primary.now.kept (c.requires.on told))
 
-pub returns-in-Err-clause-memory : goal.returns-in-Err-clause-memory
-returns-in-Err-clause-memory g c = λ s has is.
-    halfway_still g.D.Disk c.args.disk.now c.args.disk.now
-    (Rekeys c.args.glob.now) (told_draws (g.C.Clock.moments c.args.clock.now) (g.E.Entropy.stream c.args.entropy.now))
-    (seen (place_of c.args.primary.now) s) refl
-    (λ told. c.what_is_kept_is_recovered.ensures c.args.primary.now.kept (c.requires.on told))
+pub returns-in-Err-clause-rests : goal.returns-in-Err-clause-rests
+returns-in-Err-clause-rests g c = λ s has. record {
+  memory = λ is.
+      halfway_still g.D.Disk c.args.disk.now c.args.disk.now (Rekeys c.args.glob.now)
+      (told_draws (g.C.Clock.moments c.args.clock.now) (g.E.Entropy.stream c.args.entropy.now))
+      (seen (place_of c.args.primary.now) s) refl
+      (λ told. c.what_is_kept_is_recovered.ensures c.args.primary.now.kept (c.requires.on told));
+  drawn = λ is. absurd cc;
+}
 
-pub returns-in-Ok-clause-memory : goal.returns-in-Ok-clause-memory
-returns-in-Ok-clause-memory g c = λ s has is.
-    halfway_rekeyed g.D.Disk c.rekey_all.new.disk c.args.glob.now c.as_slice.result.now
-    (g.C.Clock.moments c.args.clock.now) (g.E.Entropy.stream c.args.entropy.now) c.now-now.result c.args.primary.now s
-    (c.as_slice.ensures.value ∙ c.in-Ok.ensures.names s has) c.now-now.ensures.first
-    (c.rekey_all.ensures.memory s has is)
-
-pub returns-in-Ok-clause-drawn : goal.returns-in-Ok-clause-drawn
-returns-in-Ok-clause-drawn g c = λ s has is.
-    halfway_rekeyed g.D.Disk c.rekey_all.new.disk c.args.glob.now c.as_slice.result.now
-    (g.C.Clock.moments c.args.clock.now) (g.E.Entropy.stream c.args.entropy.now) c.now-now.result c.args.primary.now s
-    (c.as_slice.ensures.value ∙ c.in-Ok.ensures.names s has) c.now-now.ensures.first
-    (c.rekey_all.ensures.drawn s has is)
+pub returns-in-Ok-clause-rests : goal.returns-in-Ok-clause-rests
+returns-in-Ok-clause-rests g c = λ s has. record {
+  memory = λ is.
+      halfway_rekeyed g.D.Disk c.rekey_all.new.disk c.args.glob.now c.as_slice.result.now
+      (g.C.Clock.moments c.args.clock.now) (g.E.Entropy.stream c.args.entropy.now) c.now-now.result c.args.primary.now s
+      (c.as_slice.ensures.value ∙ c.in-Ok.ensures.names s has) c.now-now.ensures.first
+      (c.rekey_all.ensures.memory s has is);
+  drawn = λ is.
+      halfway_rekeyed g.D.Disk c.rekey_all.new.disk c.args.glob.now c.as_slice.result.now
+      (g.C.Clock.moments c.args.clock.now) (g.E.Entropy.stream c.args.entropy.now) c.now-now.result c.args.primary.now s
+      (c.as_slice.ensures.value ∙ c.in-Ok.ensures.names s has) c.now-now.ensures.first
+      (c.rekey_all.ensures.drawn s has is);
+}

@@ -12,6 +12,7 @@ loop-now_refused-init g c = record {
   run = λ told s has. leaves_here _ _ _ _ _ _ (c.what_is_kept_is_recovered.ensures _ (c.requires.on told));
   on = λ told. c.requires.on told;
   whole = c.requires.whole;
+  realm = refl;
   same = refl;
   takes = λ first takes. takes;
   source = omega arith;
@@ -33,16 +34,18 @@ loop-now_refused-preserved-then-refused g c =
           (c.turn.ensures.next before.state c.loop-now_refused.refused before.has)));
       run = λ told s has.
           let before = was.goes s has in
-          then_on (was.run told s has) (c.turn.ensures.moments told before.state c.loop-now_refused.refused before.has)
+          then_on (was.run told s has)
+          (c.turn.ensures.serves told before.state c.loop-now_refused.refused before.has).moments
           before.follows.leaves;
-      on = λ told. turn.on told;
-      whole = turn.whole;
-      same = turn.call.same ∙ was.same;
-      takes = λ first takes. turn.takes first (was.takes first takes);
-      source = omega (arith, was.source, turn.reads.later);
-      sink = omega (arith, was.sink, turn.writes.later);
-      disk = omega (arith, was.disk, turn.call.later);
-      entropy = omega (arith, was.entropy, turn.draws.later);
+      on = λ told. turn.stays.on told;
+      whole = turn.stays.whole;
+      realm = turn.stays.realm ∙ was.realm;
+      same = turn.causes.call.same ∙ was.same;
+      takes = λ first takes. turn.takes.takes first (was.takes first takes);
+      source = omega (arith, was.source, turn.causes.reads.later);
+      sink = omega (arith, was.sink, turn.causes.writes.later);
+      disk = omega (arith, was.disk, turn.causes.call.later);
+      entropy = omega (arith, was.entropy, turn.causes.draws.later);
     }
 
 pub loop-now_refused-preserved : goal.loop-now_refused-preserved
@@ -58,16 +61,18 @@ loop-now_refused-preserved g c =
           (c.turn.ensures.next before.state c.loop-now_refused.refused before.has)));
       run = λ told s has.
           let before = was.goes s has in
-          then_on (was.run told s has) (c.turn.ensures.moments told before.state c.loop-now_refused.refused before.has)
+          then_on (was.run told s has)
+          (c.turn.ensures.serves told before.state c.loop-now_refused.refused before.has).moments
           before.follows.leaves;
-      on = λ told. turn.on told;
-      whole = turn.whole;
-      same = turn.call.same ∙ was.same;
-      takes = λ first takes. turn.takes first (was.takes first takes);
-      source = omega (arith, was.source, turn.reads.later);
-      sink = omega (arith, was.sink, turn.writes.later);
-      disk = omega (arith, was.disk, turn.call.later);
-      entropy = omega (arith, was.entropy, turn.draws.later);
+      on = λ told. turn.stays.on told;
+      whole = turn.stays.whole;
+      realm = turn.stays.realm ∙ was.realm;
+      same = turn.causes.call.same ∙ was.same;
+      takes = λ first takes. turn.takes.takes first (was.takes first takes);
+      source = omega (arith, was.source, turn.causes.reads.later);
+      sink = omega (arith, was.sink, turn.causes.writes.later);
+      disk = omega (arith, was.disk, turn.causes.call.later);
+      entropy = omega (arith, was.entropy, turn.causes.draws.later);
     }
 
 pub returns-in-Ok-None-clause-ended : goal.returns-in-Ok-None-clause-ended
@@ -75,8 +80,8 @@ returns-in-Ok-None-clause-ended g c = λ s end has e.
     let before = c.loop-now_refused.invariant.goes s has in
     let none = goes_none _ _ c.in-Ok-None.field-0 c.in-Ok-None.is c.in-Ok-None.field-0-is
     (c.turn.ensures.next before.state c.loop-now_refused.refused before.has) in
-    let stays = c.turn.ensures.end (c.in-Ok-None.is ∙ ap Ok c.in-Ok-None.field-0-is) in
-    rw (stays.0, stays.1, c.turn.ensures.end_draws (c.in-Ok-None.is ∙ ap Ok c.in-Ok-None.field-0-is))
+    let stays = c.turn.ensures.end.end (c.in-Ok-None.is ∙ ap Ok c.in-Ok-None.field-0-is) in
+    rw (stays.0, stays.1, c.turn.ensures.end.end_draws (c.in-Ok-None.is ∙ ap Ok c.in-Ok-None.field-0-is))
     (ended_from _ _ _ c.loop-now_refused.refused _ _ end before none e)
 
 pub returns-in-Ok-None-clause-done : goal.returns-in-Ok-None-clause-done
@@ -86,50 +91,48 @@ returns-in-Ok-None-clause-done g c = λ s has.
     (goes_none _ _ c.in-Ok-None.field-0 c.in-Ok-None.is c.in-Ok-None.field-0-is
     (c.turn.ensures.next before.state c.loop-now_refused.refused before.has))
 
-pub returns-in-Ok-None-clause-moments : goal.returns-in-Ok-None-clause-moments
-returns-in-Ok-None-clause-moments g c = λ told s has.
+pub returns-in-Ok-None-clause-serves : goal.returns-in-Ok-None-clause-serves
+returns-in-Ok-None-clause-serves g c = λ told s has.
     let was = c.loop-now_refused.invariant in
     let before = was.goes s has in
-    then_on (was.run told s has) (c.turn.ensures.moments told before.state c.loop-now_refused.refused before.has)
-    before.follows.leaves
+    let turn = c.turn.ensures.serves told before.state c.loop-now_refused.refused before.has in
+    record {
+      stopped = tt;
+      memory = λ is. absurd cc;
+      drawn = λ is. absurd cc;
+      moments = then_on (was.run told s has) turn.moments before.follows.leaves;
+    }
 
-pub returns-in-Err-clause-moments : goal.returns-in-Err-clause-moments
-returns-in-Err-clause-moments g c = λ told s has.
+pub returns-in-Err-clause-serves : goal.returns-in-Err-clause-serves
+returns-in-Err-clause-serves g c = λ told s has.
     let was = c.loop-now_refused.invariant in
     let before = was.goes s has in
-    then_on (was.run told s has) (c.turn.ensures.moments told before.state c.loop-now_refused.refused before.has)
-    before.follows.leaves
+    let turn = c.turn.ensures.serves told before.state c.loop-now_refused.refused before.has in
+    record {
+      stopped =
+          stopped_from _ _ _ _ _ _ _ _ before
+          (c.in-Err.ensures.serves told before.state c.loop-now_refused.refused before.has).stopped;
+      memory = λ is.
+          rests_on _ _ _ _ _ _ _ _ _ before
+          (turn.memory (err_on c.turn.result _ _ c.in-Err.halt MemoryOut c.in-Err.is refl refl is));
+      drawn = λ is.
+          rests_on _ _ _ _ _ _ _ _ _ before
+          (turn.drawn (err_on c.turn.result _ _ c.in-Err.halt DrawFault c.in-Err.is refl refl is));
+      moments = then_on (was.run told s has) turn.moments before.follows.leaves;
+    }
 
-pub returns-in-Err-clause-stopped : goal.returns-in-Err-clause-stopped
-returns-in-Err-clause-stopped g c = λ told s has.
-    let before = c.loop-now_refused.invariant.goes s has in
-    stopped_from _ _ _ _ _ _ _ _ before
-    (c.in-Err.ensures.stopped told before.state c.loop-now_refused.refused before.has)
-
-pub returns-in-Err-clause-memory : goal.returns-in-Err-clause-memory
-returns-in-Err-clause-memory g c = λ told s has is.
-    let before = c.loop-now_refused.invariant.goes s has in
-    rests_on _ _ _ _ _ _ _ _ _ before
-    (c.turn.ensures.memory told before.state c.loop-now_refused.refused before.has
-    (err_on c.turn.result _ _ c.in-Err.halt MemoryOut c.in-Err.is refl refl is))
-
-pub returns-in-Err-clause-drawn : goal.returns-in-Err-clause-drawn
-returns-in-Err-clause-drawn g c = λ told s has is.
-    let before = c.loop-now_refused.invariant.goes s has in
-    rests_on _ _ _ _ _ _ _ _ _ before
-    (c.turn.ensures.drawn told before.state c.loop-now_refused.refused before.has
-    (err_on c.turn.result _ _ c.in-Err.halt DrawFault c.in-Err.is refl refl is))
-
-pub returns-in-Err-clause-read : goal.returns-in-Err-clause-read
-returns-in-Err-clause-read g c = λ told s has is.
+pub returns-in-Err-clause-between : goal.returns-in-Err-clause-between
+returns-in-Err-clause-between g c = λ told s has.
     let was = c.loop-now_refused.invariant in
-    let same = c.turn.ensures.read (err_on c.turn.result _ _ c.in-Err.halt ReadFault c.in-Err.is refl refl is) in
-    rw (same.0, same.1) (between_from _ _ _ _ _ _ _ (was.goes s has)
-    (c.what_is_kept_is_recovered-in-loop-now_refused.ensures _ (was.on told)))
-
-pub returns-in-Err-clause-at_limit : goal.returns-in-Err-clause-at_limit
-returns-in-Err-clause-at_limit g c = λ told s has is.
-    let was = c.loop-now_refused.invariant in
-    let same = c.turn.ensures.at_limit (err_on c.turn.result _ _ c.in-Err.halt InputTooLong c.in-Err.is refl refl is) in
-    rw (same.0, same.1) (between_from _ _ _ _ _ _ _ (was.goes s has)
-    (c.what_is_kept_is_recovered-in-loop-now_refused.ensures _ (was.on told)))
+    record {
+      read = λ is.
+          let same = c.turn.ensures.leaves.read
+          (err_on c.turn.result _ _ c.in-Err.halt ReadFault c.in-Err.is refl refl is) in
+          rw (same.0, same.1) (between_from _ _ _ _ _ _ _ (was.goes s has)
+          (c.what_is_kept_is_recovered-in-loop-now_refused.ensures _ (was.on told)));
+      at_limit = λ is.
+          let same = c.turn.ensures.leaves.at_limit
+          (err_on c.turn.result _ _ c.in-Err.halt InputTooLong c.in-Err.is refl refl is) in
+          rw (same.0, same.1) (between_from _ _ _ _ _ _ _ (was.goes s has)
+          (c.what_is_kept_is_recovered-in-loop-now_refused.ensures _ (was.on told)));
+    }

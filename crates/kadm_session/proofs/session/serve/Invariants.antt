@@ -26,6 +26,7 @@ invariant-loop-now_refused g l = record {
       (told_draws (g.C.Clock.moments l.fn.clock) (g.E.Entropy.stream l.fn.entropy)) (seen (place_of l.fn.primary) s)));
   on : g.D.Disk.tells → IsOnDisk l.primary.kept (g.D.Disk.view l.disk);
   whole : l.primary.kept.broken ≡ false;
+  realm : l.primary.kept.realm ≡ l.fn.primary.kept.realm;
   same : g.D.Disk.loans l.disk ≡ g.D.Disk.loans l.fn.disk;
   takes : (first : Option (List ℕ)) → HasTaken first l.fn.reader (g.S.Source.left l.fn.source)
       → HasTaken first l.reader (g.S.Source.left l.source);

@@ -13,10 +13,9 @@ returns-clause-course g c = λ tells left s has.
     let draws = told_draws (g.C.Clock.moments c.args.clock.now) (g.E.Entropy.stream c.args.entropy.now) in
     let its = course (g.K.Sink.taken c.args.sink.now) false (Some (c.args.asked.now ∷ [])) draws
     (seen (place_of c.args.opened) s) in
+    let serves = c.serve_one-answered.ensures.serves tells s has in
     one_run {c = its} c.serve_one-answered.new.primary c.serve_one-answered.result
     (λ end e. c.serve_one-answered.ensures.ended s end has e)
     (on_ok_weaker c.serve_one-answered.result (c.what_is_kept_is_recovered.ensures _)
-    (c.serve_one-answered.ensures.on tells))
-    (c.serve_one-answered.ensures.stopped tells s has) (c.serve_one-answered.ensures.memory tells s has)
-    (c.serve_one-answered.ensures.drawn tells s has)
-    c.serve_one-answered.ensures.halt (c.serve_one-answered.ensures.moments tells s has)
+    (c.serve_one-answered.ensures.stays.on tells))
+    serves.stopped serves.memory serves.drawn c.serve_one-answered.ensures.causes.halt serves.moments

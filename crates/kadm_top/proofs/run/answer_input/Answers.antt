@@ -16,6 +16,8 @@ returns-clause-course g c = λ tells s has.
     let at = seen (place_of c.args.opened) s in
     let its = course (g.K.Sink.taken c.args.sink.now) false
     (coming at.place.realm c.args.reader.now (g.S.Source.left c.args.source.now)) draws at in
+    let serves = c.serve-answered.ensures.serves tells s has in
+    let between = c.serve-answered.ensures.between tells s has in
     subst (λ (x : Course). HasCourse x (g.D.Disk.view c.args.disk.now) (g.D.Disk.view c.serve-answered.new.disk)
     (told (g.K.Sink.taken c.serve-answered.new.sink) (g.S.Source.left c.serve-answered.new.source)
     (told_draws (g.C.Clock.moments c.serve-answered.new.clock) (g.E.Entropy.stream c.serve-answered.new.entropy)))
@@ -24,29 +26,31 @@ returns-clause-course g c = λ tells s has.
     (seen (place_of c.args.opened) s) c.requires.front)
     (course_run {c = its} c.serve-answered.new.primary c.serve-answered.result
     (λ end e. c.serve-answered.ensures.ended s end has e)
-    (on_ok_weaker c.serve-answered.result (c.what_is_kept_is_recovered.ensures _) (c.serve-answered.ensures.on tells))
-    (c.serve-answered.ensures.stopped tells s has) (c.serve-answered.ensures.memory tells s has)
-    (c.serve-answered.ensures.drawn tells s has)
-    (λ is. between_rests _ _ _ _ (c.serve-answered.ensures.read tells s has is))
-    (λ is. between_rests _ _ _ _ (c.serve-answered.ensures.at_limit tells s has is))
-    (c.serve-answered.ensures.moments tells s has))
+    (on_ok_weaker c.serve-answered.result (c.what_is_kept_is_recovered.ensures _)
+    (c.serve-answered.ensures.stays.on tells))
+    serves.stopped serves.memory serves.drawn
+    (λ is. between_rests _ _ _ _ (between.read is)) (λ is. between_rests _ _ _ _ (between.at_limit is))
+    serves.moments)
 
 pub returns-clause-read : goal.returns-clause-read
 returns-clause-read g c =
     read_whole c.serve-answered.result (g.S.Source.left c.args.source.now) _ _
-    (c.serve-answered.ensures.takes (g.S.Source.left c.args.source.now) (fresh_taken _ _ c.requires.front))
+    (c.serve-answered.ensures.takes.takes (g.S.Source.left c.args.source.now) (fresh_taken _ _ c.requires.front))
     c.serve-answered.ensures.over
 
 pub returns-clause-too_long : goal.returns-clause-too_long
 returns-clause-too_long g c = λ is.
     were_taken 4294967296 (g.S.Source.left c.args.source.now) _ _
-    (c.serve-answered.ensures.takes (g.S.Source.left c.args.source.now) (fresh_taken _ _ c.requires.front))
-    (c.serve-answered.ensures.too_long is)
+    (c.serve-answered.ensures.takes.takes (g.S.Source.left c.args.source.now) (fresh_taken _ _ c.requires.front))
+    (c.serve-answered.ensures.takes.too_long is)
 
 pub returns-clause-causes : goal.returns-clause-causes
 returns-clause-causes g c = record {
-  reads = c.serve-answered.ensures.reads;
-  writes = c.serve-answered.ensures.writes;
-  calls = record { later = c.serve-answered.ensures.call.later; cause = c.serve-answered.ensures.call.cause };
-  draws = c.serve-answered.ensures.draws;
+  reads = c.serve-answered.ensures.causes.reads;
+  writes = c.serve-answered.ensures.causes.writes;
+  calls = record {
+    later = c.serve-answered.ensures.causes.call.later;
+    cause = c.serve-answered.ensures.causes.call.cause;
+  };
+  draws = c.serve-answered.ensures.causes.draws;
 }

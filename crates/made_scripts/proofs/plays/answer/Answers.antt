@@ -2,7 +2,7 @@ use Rattle.std.proofs.Common.{[], ◌∷◌, false}
 use Rattle.kdb_histories.specs.Seen.{seen}
 use Rattle.kadm_session.specs.Courses.{end_with}
 use Rattle.kadm_session.specs.Steps.{said}
-use Rattle.primary_core.specs.Opened.{place_of}
+use Rattle.kadm_session.specs.Opened.{place_of}
 use Rattle.made_scripts.proofs.Playing.{answered_so, ends_told}
 use Rattle.made_scripts.proofs.plays.answer.Goals as goal
 

@@ -2,7 +2,7 @@ use Rattle.std.proofs.Common.{◌≡◌, ◌+◌, ◌-◌, false}
 use Rattle.std.specs.Prelude.{Some}
 use Rattle.kdb_histories.specs.Seen.{seen}
 use Rattle.kdb_plain.specs.declared.states.State.{State}
-use Rattle.primary_core.specs.Opened.{HasState, place_of}
+use Rattle.kadm_session.specs.Opened.{HasState, place_of}
 use Rattle.session_base.specs.Draws.{Draws, told_draws}
 use Rattle.store_files.specs.Kept.{IsOnDisk}
 use Rattle.made_scripts.specs.Plays.{IsUnderWay, no_tally, played, progress}

@@ -2,7 +2,7 @@ use Rattle.std.proofs.Common.{◌∙◌, List, ℕ, ap, subst}
 use Rattle.std.specs.Prelude.{IfOk}
 use Rattle.kdb_histories.specs.Seen.{seen}
 use Rattle.kadm_session.specs.declared.intake.Asked.{Asked}
-use Rattle.primary_core.specs.Opened.{place_of}
+use Rattle.kadm_session.specs.Opened.{place_of}
 use Rattle.session_base.specs.Draws.{told_draws}
 use Rattle.made_scripts.specs.Plays.{IsAnswered, asked_line}
 use Rattle.made_scripts.proofs.plays.play_line.Goals as goal

@@ -12,5 +12,5 @@ returns-in-Ok c =
     let serial : s.point.sno < 4294967295 = search rules in
     step_steady s text _ _ _ _ c.in-Ok.both.0 c.step_keeps_states_valid.ensures.valid
     c.step_keeps_states_valid.ensures.point printed c.requires.steady serial
-    c.requires.command (moment_is c.new-moment.result c.new-moment.ensures) (search rules)
+    c.requires.command (moment_is c.args.secs c.new-moment.result c.ranges.secs.fits c.new-moment.ensures) (search rules)
     (behind_ok s text _ _ _ _ c.step_plain.result c.in-Ok.both c.in-Ok.is c.step_plain.ensures.state)

@@ -6,7 +6,7 @@ use Rattle.kdb_histories.specs.Asks.{Moved, NotMoved}
 use Rattle.kdb_histories.specs.Moves.{IsLeft}
 use Rattle.kdb_histories.specs.Seen.{entry_point}
 use Rattle.kdb_plain.specs.Lengths.{in_64_bits}
-use Rattle.performed_plans.specs.Ready.{change_places}
+use Rattle.primary_core.specs.Changes.{change_places}
 use Rattle.primary_core.proofs.Carried.{stays}
 use Rattle.primary_core.specs.Deciding.{ends_time}
 use Rattle.primary_core.specs.Opened.{place_of}

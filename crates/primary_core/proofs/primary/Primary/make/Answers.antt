@@ -6,7 +6,7 @@ use Rattle.kdb_disk.specs.Frames.{IsCrashSafe}
 use Rattle.kdb_histories.specs.Calls.{HasTimeLeft}
 use Rattle.kdb_histories.specs.Moves.{IsLeft}
 use Rattle.kdb_histories.specs.Seen.{entry_point, is_due}
-use Rattle.performed_plans.specs.Ready.{change_places}
+use Rattle.performed_plans.specs.Changes.{change_places}
 use Rattle.primary_core.proofs.Shown.{any_open, any_state}
 use Rattle.primary_core.proofs.primary.Primary.make.Goals as goal
 use Rattle.primary_core.specs.Opened.{MayMake, Opened, masters_behind, place_of}
