@@ -1,5 +1,6 @@
 pub mod Losing
 pub mod Causing
+pub mod Beginning
 pub mod Rising
 pub mod Opening
 pub mod Adding
