@@ -19,6 +19,7 @@ ghost use Rattle.aes_cts.specs.Stealing.{cts};
 pub use crate::block_key::BlockKey;
 pub use crate::key128::Key128;
 pub use crate::key256::Key256;
+pub use crate::schedule::expand;
 use thiserror::Error;
 
 /// A text too short for ciphertext stealing: it has fewer than 16 bytes.
@@ -41,6 +42,3 @@ pub fn texts_are_told()
     ensures text { (key a b : List ℕ) → IsKeyLong key → AreBytes key → AreBytes a → AreBytes b → 16 ≤ length a
         → cts key a ≡ cts key b → a ≡ b }
 {}
-
-#[cfg(test)]
-mod tests;

@@ -65,7 +65,8 @@ fn next_key(back: [u32; 4], turned: u32) -> [u32; 4]
     [a, b, c, d]
 }
 
-/// Fills the round keys from `stride` on, where those before it are the key.
+/// The key expansion (FIPS 197, 5.2): fills the round keys from `stride` on, where those before it
+/// are the key.
 pub fn expand<const N: usize>(keys: &mut [[u32; 4]; N], stride: usize)
     requires some { 1 ≤ stride }
     requires few { stride ≤ 2 }

@@ -2,7 +2,5 @@
 #![tactic(auto)]
 
 pub mod status;
-#[cfg(test)]
-mod tests;
 
 pub use status::{Status4, sno_status};

@@ -30,14 +30,15 @@ begun_of part.Pieces updates text = Pieces text
 abbrev pub begun : Progress → Begun
 begun p = begun_of p.part p.updates.items p.text.items
 
-abbrev pub HasUpdates : Part → List Entry → Type 0
-HasUpdates part.Nothing updates = Unit {0}
-HasUpdates (part.Updates asked left) updates = (0 < left) × All IsSent updates
-HasUpdates part.Pieces updates = Unit {0}
+-- Of what the frames of one message brought, no more is kept than is to be handed out with it: behind the head of a
+-- reply its updates, which have a spelling, while others are still to come; of a dump its text; else nothing.
+abbrev pub KeepsOnly : Part → List Entry → List ℕ → Type 0
+KeepsOnly part.Nothing updates text = (updates ≡ []) × (text ≡ [])
+KeepsOnly (part.Updates asked left) updates text = (0 < left) × (All IsSent updates × (text ≡ []))
+KeepsOnly part.Pieces updates text = updates ≡ []
 
--- updates are still to come, and those that came have a spelling
 abbrev pub IsBegun : Progress → Type 0
-IsBegun p = HasUpdates p.part p.updates.items
+IsBegun p = KeepsOnly p.part p.updates.items p.text.items
 
 -- a frame led to this, unless memory ran out
 abbrev pub Closes : Result (Option Message) FrameFault → State → Begun → Type 0

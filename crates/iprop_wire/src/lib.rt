@@ -13,6 +13,3 @@ pub use decoder::Decoder;
 pub use due::Due;
 pub use faults::FrameFault;
 pub use messages::{Message, write_message};
-
-#[cfg(test)]
-mod tests;

@@ -146,6 +146,7 @@ impl Progress {
     /// Takes the first frame of a reply.
     fn take_head(&mut self, alloc: Global, behind: &[u8]) -> Result<Option<Message>, FrameFault>
         requires nothing { begun self.old ≡ Nothing }
+        requires kept { IsBegun self.old }
         ensures closes { Closes result (or_broken (whole head_at behind.now) after_head) (begun self.new) }
         ensures kept { OnOk result (IsBegun self.new) }
     {
@@ -174,6 +175,7 @@ impl Progress {
     ) -> Result<Option<Message>, FrameFault>
         requires sent { IsSent entry }
         requires before { All IsSent self.old.updates.items }
+        requires no_text { self.old.text.items ≡ [] }
         requires some { 0 < left }
         ensures closes { Closes result (after_update asked left self.old.updates.items entry) (begun self.new) }
         ensures kept { OnOk result (IsBegun self.new) }
@@ -202,6 +204,7 @@ impl Progress {
         behind: &[u8],
     ) -> Result<Option<Message>, FrameFault>
         requires before { All IsSent self.old.updates.items }
+        requires no_text { self.old.text.items ≡ [] }
         requires some { 0 < left }
         ensures closes { Closes result (after_update_frame asked left self.old.updates.items kind behind.now)
             (begun self.new) }
@@ -218,6 +221,7 @@ impl Progress {
 
     /// Takes a piece of a dump.
     fn put_piece(&mut self, piece: &[u8]) -> Result<Option<Message>, FrameFault>
+        requires { self.old.updates.items ≡ [] }
         ensures closes { Closes result (after_piece self.old.text.items piece.now) (begun self.new) }
         ensures kept { OnOk result (IsBegun self.new) }
     {
@@ -231,6 +235,7 @@ impl Progress {
 
     /// Takes the frame that ends a dump.
     fn take_total(&mut self, alloc: Global, behind: &[u8]) -> Result<Option<Message>, FrameFault>
+        requires { self.old.updates.items ≡ [] }
         ensures closes { Closes result (or_broken (whole (big_at 8) behind.now) (after_total self.old.text.items))
             (begun self.new) }
         ensures kept { OnOk result (IsBegun self.new) }
@@ -252,6 +257,7 @@ impl Progress {
         kind: u8,
         behind: &[u8],
     ) -> Result<Option<Message>, FrameFault>
+        requires { self.old.updates.items ≡ [] }
         ensures closes { Closes result (after_dump_frame self.old.text.items kind behind.now) (begun self.new) }
         ensures kept { OnOk result (IsBegun self.new) }
     {
@@ -270,7 +276,9 @@ impl Progress {
         kind: u8,
         behind: &[u8],
     ) -> Result<Option<Message>, FrameFault>
-        requires { begun self.old ≡ Nothing }
+        requires nothing { begun self.old ≡ Nothing }
+        requires kept { IsBegun self.old }
+        requires no_updates { self.old.updates.items ≡ [] }
         ensures closes { Closes result (after_first_frame kind behind.now) (begun self.new) }
         ensures kept { OnOk result (IsBegun self.new) }
     {

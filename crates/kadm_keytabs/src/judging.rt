@@ -46,6 +46,22 @@ fn renew_command(alloc: Global, name: &Name, etypes: &[Etype]) -> Result<Command
     }))
 }
 
+// The command with all that it wants before it is judged.
+fn ready_renewal(
+    alloc: Global,
+    realm: &[u8],
+    name: &Name,
+    etypes: &[Etype],
+) -> Result<Ready, MemoryOut>
+    requires name { IsOwnName realm.now name.now }
+    requires etypes { AreEtypes etypes.now }
+    ensures { IfOk result (λ ready. ready.command ≡ renew_command name.now etypes.now) }
+{
+    let command = renew_command(alloc, name, etypes)?;
+    let ready = prepare(alloc, &command, realm)?;
+    Ok(ready)
+}
+
 // What a command that is ready comes to, at a moment of the clock and with a block of random bytes.
 fn judge_ready(
     alloc: Global,
@@ -95,8 +111,7 @@ pub(crate) fn judge_renewal(
         (λ j. IsDecided primary.now (ask_for (wanted client.now name.now etypes.now) now random.now) j.reply j.change) }
     ensures may { (change : Changes) → IfOk result (λ j. j.change ≡ Some change → MayMake primary.now now change) }
 {
-    let command = renew_command(alloc, name, etypes)?;
-    let ready = prepare(alloc, &command, primary.realm().as_slice())?;
+    let ready = ready_renewal(alloc, primary.realm().as_slice(), name, etypes)?;
     judge_ready(alloc, primary, client, &ready, now, random)
 }
 

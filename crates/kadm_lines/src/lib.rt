@@ -4,8 +4,6 @@
 
 pub mod laws;
 pub mod readers;
-#[cfg(test)]
-mod tests;
 mod windows;
 
 pub use readers::{IntakeFault, LineReader, NextLine};

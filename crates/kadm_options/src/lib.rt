@@ -6,8 +6,6 @@ pub mod arguments;
 pub mod laws;
 pub mod options;
 pub mod settings;
-#[cfg(test)]
-mod tests;
 
 pub use arguments::{LeadingOptions, read_options};
 pub use options::{

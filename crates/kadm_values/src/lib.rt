@@ -9,8 +9,6 @@ pub mod flags;
 pub mod globs;
 pub mod numbers;
 pub mod points;
-#[cfg(test)]
-mod tests;
 pub mod times;
 
 pub use durations::{Unit, read_duration};

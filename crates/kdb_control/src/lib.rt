@@ -18,6 +18,3 @@ pub use erasing::erase;
 pub use force::{Force, Slot};
 pub use reading::{ControlStop, read};
 pub use switching::switch;
-
-#[cfg(test)]
-mod tests;

@@ -22,6 +22,3 @@ pub use memory::MemoryDisk;
 pub use reader::FileReader;
 pub use record::Pick;
 pub use whole::{FILES, empty_file, replace_file, settle_all};
-
-#[cfg(test)]
-mod tests;

@@ -16,6 +16,3 @@ pub use counted::Counted;
 pub use faults::{FormatFault, Malformed};
 pub use format::{Format, read_inside, read_next, read_padded, read_whole};
 pub use reader::Reader;
-
-#[cfg(test)]
-mod tests;

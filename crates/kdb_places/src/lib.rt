@@ -5,6 +5,3 @@ pub mod applying;
 pub mod laws;
 
 pub use applying::may_apply;
-
-#[cfg(test)]
-mod tests;

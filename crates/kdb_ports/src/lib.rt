@@ -9,8 +9,6 @@ pub mod entropies;
 pub mod links;
 pub mod sinks;
 pub mod sources;
-#[cfg(test)]
-mod tests;
 pub mod writing;
 
 pub use chacha::{ChaChaEntropy, SeededEntropy};

@@ -52,6 +52,30 @@ pub(crate) fn holds_rows(rows: &Rows)
     let _ = rows.princs();
 }
 
+// Plans what is written into the unit of a change, and begins the change in the rows.
+fn begin_parts(
+    alloc: Global,
+    cells: &mut Cells,
+    rows: &mut Rows,
+    op: &Op,
+) -> Result<(UnitWrite, Begun), MemoryOut>
+    requires op { IsOp (Some op.now) }
+    requires room { IsRoom (effect (Some op.now) rows.old) }
+    requires name { IsNewName op.now rows.old }
+    ensures plan { IfOk result (λ p. IsPlan p.0 op.now (units cells.old) rows.old) }
+    ensures given { IfOk result (λ p. IsGivenTo p.0 cells.new) }
+    ensures finished { IfOk result (λ p. finished p.1 rows.new ≡ effect (Some op.now) rows.old) }
+    ensures back { IfOk result (λ p. undone p.1 rows.new ≡ rows.old) }
+    ensures begun { IfOk result (λ p. IsBegun p.1 rows.new) }
+    ensures err { OnErr result (rows.new ≡ rows.old) }
+    ensures alike { LeadsAlike cells.old cells.new }
+{
+    let write = plan(alloc, cells, rows, op)?;
+    let copy = copy_op(alloc, op)?;
+    let begun = rows.begin(copy)?;
+    Ok((write, begun))
+}
+
 /// Plans a change at this point, and begins it in the rows.
 pub(crate) fn begin_change(
     alloc: Global,
@@ -72,9 +96,7 @@ pub(crate) fn begin_change(
     ensures err { OnErr result (rows.new ≡ rows.old) }
     ensures alike { LeadsAlike cells.old cells.new }
 {
-    let write = plan(alloc, cells, rows, &op)?;
-    let copy = copy_op(alloc, &op)?;
-    let begun = rows.begin(copy)?;
+    let (write, begun) = begin_parts(alloc, cells, rows, &op)?;
     Ok(Planned {
         entry: Entry {
             point,

@@ -1,5 +1,5 @@
 mod Calls
 mod Edits
 mod Latest
-mod Order
+pub mod Order
 mod Single

@@ -5,6 +5,3 @@ pub mod activations;
 pub mod laws;
 
 pub use activations::{active_at, drop_version, set};
-
-#[cfg(test)]
-mod tests;

@@ -12,6 +12,7 @@ use kdb_plain::{
 use plain_keys::{PlainItem, PlainItems, PlainSets, items_of};
 use policy_rules::Policy;
 use std::alloc::Global;
+use std::process::Abort;
 use std::test::Fail;
 use tagged_data::StringAttributes;
 
@@ -48,6 +49,20 @@ fn salt_of(alloc: Global, len: usize) -> Result<Salt, MemoryOut> {
     Ok(Salt::Special(Blob::from_vec(bytes)))
 }
 
+/// One key more, with a salt of so many bytes.
+fn push_item(
+    alloc: Global,
+    items: &mut Vec<PlainItem>,
+    kvno: u16,
+    etype: Etype,
+    salt: usize,
+) -> Result<(), MemoryOut> {
+    let salt = salt_of(alloc, salt)?;
+    let key = key_of(etype, 1);
+    items.push(PlainItem { kvno, salt, key })?;
+    Ok(())
+}
+
 /// So many keys of each of these types, with a salt of so many bytes.
 fn items(
     alloc: Global,
@@ -58,14 +73,24 @@ fn items(
     let mut items = Vec::new(alloc);
     for kvno in 0..count {
         for etype in etypes {
-            items.push(PlainItem {
-                kvno: count - kvno,
-                salt: salt_of(alloc, salt)?,
-                key: key_of(*etype, 1),
-            })?;
+            push_item(alloc, &mut items, count - kvno, *etype, salt)?;
         }
     }
     Ok(PlainItems::from_vec(items))
+}
+
+/// A principal with so many keys of each of these types.
+fn with_items(
+    alloc: Global,
+    name: &[u8],
+    count: u16,
+    etypes: &[Etype],
+    salt: usize,
+) -> Result<PlainPrinc, MemoryOut> {
+    let keys = items(alloc, count, etypes, salt)?;
+    let mut princ = bare(alloc, name, 1)?;
+    princ.keys = keys;
+    Ok(princ)
 }
 
 #[test]
@@ -102,8 +127,7 @@ fn rows_have_their_lengths(rt: HostRuntime) -> Result<(), Fail> {
         ),
     ];
     for (name, master, count, etypes, salt, len) in &rows {
-        let mut princ = bare(alloc, name, 1)?;
-        princ.keys = items(alloc, *count, etypes, *salt)?;
+        let princ = with_items(alloc, name, *count, etypes, *salt)?;
         assert_eq!(rt; row_len(*master, Etype::Aes256, &princ), *len, "{name:?}");
     }
     Ok(())
@@ -157,8 +181,9 @@ fn with_key(
     mkvno: u16,
     policy: Option<Blob>,
 ) -> Result<PlainPrinc, MemoryOut> {
+    let keys = password_items(alloc, 1, 7)?;
     let mut princ = bare(alloc, name, mkvno)?;
-    princ.keys = password_items(alloc, 1, 7)?;
+    princ.keys = keys;
     princ.policy = policy;
     Ok(princ)
 }
@@ -193,45 +218,91 @@ fn state(alloc: Global, mkvno: u16) -> Result<State, Fail> {
     })
 }
 
-#[test]
-fn names_are_found(rt: HostRuntime) -> Result<(), Fail> {
-    let alloc = rt.alloc();
-    let state = copy_state(alloc, &state(alloc, 1)?)?;
+/// A copy of the state.
+fn copied(alloc: Global) -> Result<State, Fail> {
+    let state = state(alloc, 1)?;
+    Ok(copy_state(alloc, &state)?)
+}
+
+/// What is there of the state, and what is not.
+fn check_names(rt: &impl Abort, alloc: Global, state: &State) -> Result<(), Fail> {
     assert!(rt; princ_named(&state.princs, b"alice@EXAMPLE.ORG").is_some());
     assert!(rt; princ_named(&state.princs, b"bob@EXAMPLE.ORG").is_none());
     assert!(rt; has_policy(&state.policies, b"std"));
     assert!(rt; policy_named(&state.policies, b"default").is_none());
     assert_eq!(rt; users_of(&state.princs, b"std"), 1);
-    assert!(rt; history_key(alloc, &state)? == Some(key_of(Etype::Aes256, 7)));
+    assert!(rt; history_key(alloc, state)? == Some(key_of(Etype::Aes256, 7)));
     assert!(rt; master_of(&state.masters, 2) == Some(key_of(Etype::Aes256Sha2, 2)));
-    let others = vec![in alloc; bare(alloc, b"b@R", 1)?, bare(alloc, b"a@R", 1)?]?;
-    assert!(rt; PlainPrincs::from_vec(others).is_none());
     // Two activations, and the key of type 20, which has 62 bytes under that of type 18.
     assert_eq!(rt; chain_len(&state.masters, &state.activations), 8 + 12 + 68);
     Ok(())
 }
 
+/// Two principals out of their order.
+fn disordered(alloc: Global) -> Result<Vec<PlainPrinc>, Fail> {
+    let later = bare(alloc, b"b@R", 1)?;
+    let earlier = bare(alloc, b"a@R", 1)?;
+    Ok(vec![in alloc; later, earlier]?)
+}
+
 #[test]
-fn attributes_are_set_and_taken_away(rt: HostRuntime) -> Result<(), Fail> {
-    let alloc = rt.alloc();
+fn names_are_found(rt: HostRuntime) -> Result<(), Fail> {
+    let others = disordered(rt.alloc())?;
+    assert!(rt; PlainPrincs::from_vec(others).is_none());
+    let state = copied(rt.alloc())?;
+    check_names(&rt, rt.alloc(), &state)
+}
+
+/// The key of an attribute, which is this letter, and its value.
+fn attribute(alloc: Global, letter: u8) -> Result<(Blob, Blob), Fail> {
+    let key = Blob::from_bytes(alloc, &[letter])?;
+    let value = Blob::from_bytes(alloc, b"x")?;
+    Ok((key, value))
+}
+
+/// The attributes with that of this letter.
+fn with_letter(
+    alloc: Global,
+    strings: StringAttributes,
+    letter: u8,
+) -> Result<StringAttributes, Fail> {
+    let (key, value) = attribute(alloc, letter)?;
+    Ok(with_string(strings, key, value)?)
+}
+
+/// The attributes of the letters up to p.
+fn sixteen(alloc: Global) -> Result<StringAttributes, Fail> {
     let mut strings = StringAttributes::new(alloc);
     for letter in b'a'..=b'p' {
-        let key = Blob::from_bytes(alloc, &[letter])?;
-        strings = with_string(strings, key, Blob::from_bytes(alloc, b"x")?)?;
+        strings = with_letter(alloc, strings, letter)?;
     }
+    Ok(strings)
+}
+
+/// A principal with these attributes but for that of c.
+fn without_c(alloc: Global, strings: StringAttributes) -> Result<PlainPrinc, Fail> {
+    let mut princ = bare(alloc, b"alice@EXAMPLE.ORG", 1)?;
+    princ.strings = without_string(strings, b"c");
+    Ok(princ)
+}
+
+/// The principal's head with keys.
+fn whole_of(alloc: Global, princ: &PlainPrinc) -> Result<PlainPrinc, Fail> {
+    let keys = password_items(alloc, 1, 1)?;
+    let head = plain_head(alloc, princ)?;
+    Ok(plain_of(head, keys, PlainSets::from_vec(Vec::new(alloc))))
+}
+
+#[test]
+fn attributes_are_set_and_taken_away(rt: HostRuntime) -> Result<(), Fail> {
+    let strings = sixteen(rt.alloc())?;
     assert_eq!(rt; strings.as_slice().len(), 16);
     assert!(rt; has_room_for(&strings, b"c"));
     assert!(rt; !has_room_for(&strings, b"q"));
-    let mut princ = bare(alloc, b"alice@EXAMPLE.ORG", 1)?;
-    princ.strings = without_string(strings, b"c");
+    let princ = without_c(rt.alloc(), strings)?;
     assert!(rt; !has_string(&princ.strings, b"c"));
     assert_eq!(rt; princ.strings.as_slice().len(), 15);
-    let keys = password_items(alloc, 1, 1)?;
-    let whole = plain_of(
-        plain_head(alloc, &princ)?,
-        keys,
-        PlainSets::from_vec(Vec::new(alloc)),
-    );
+    let whole = whole_of(rt.alloc(), &princ)?;
     assert!(rt; whole.strings == princ.strings);
     Ok(())
 }

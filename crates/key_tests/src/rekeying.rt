@@ -5,8 +5,9 @@ ghost use Rattle.princ_record.specs.Princs.{IsPrinc};
 use kdb_base::{Etype, Master, Masters, MemoryOut, PlainKey};
 use kdb_plain::master_of;
 use princ_record::{Princ, decode};
-use rekey_work::{Settled, Taken, rewrap_outside, settle, take};
+use rekey_work::{Rewrapped, Settled, Taken, rewrap_outside, settle, take};
 use std::alloc::Global;
+use std::process::Abort;
 use std::test::Fail;
 
 /// joe@R under version 1, without keys.
@@ -53,20 +54,60 @@ fn take_bare(
     Ok(found)
 }
 
-#[test]
-fn a_record_is_taken_and_settled(rt: HostRuntime) -> Result<(), Fail> {
-    let masters = two_masters(rt.alloc())?;
-    let princ = decode(rt.alloc(), ROW)?;
-    assert!(rt; take_bare(&rt, &princ, &masters, 1)?.is_none());
-    let taken = take_bare(&rt, &princ, &masters, 2)?.ok_or("a record")?;
-    assert_eq!(rt; taken.version(), 2);
-    let made = match rewrap_outside(rt.alloc(), taken, &[7; 512]) {
-        Ok(made) => made,
-        Err(_) => return Err(Fail::from("no memory")),
-    };
-    match settle(rt.alloc(), Some(&princ), &masters, 2, made)? {
+/// Whether the record stays under its own version.
+fn stays(rt: &HostRuntime, princ: &Princ, masters: &Masters) -> Result<bool, Fail>
+    requires { IsPrinc princ.now }
+{
+    let taken = take_bare(rt, princ, masters, 1)?;
+    Ok(taken.is_none())
+}
+
+/// The record, taken for version 2.
+fn taken_for_2(rt: &HostRuntime, princ: &Princ, masters: &Masters) -> Result<Taken, Fail>
+    requires { IsPrinc princ.now }
+{
+    match take_bare(rt, princ, masters, 2)? {
+        Some(taken) => Ok(taken),
+        None => Err(Fail::from("a record")),
+    }
+}
+
+fn rewrapped(alloc: Global, taken: Taken) -> Result<Rewrapped, Fail> {
+    match rewrap_outside(alloc, taken, &[7; 512]) {
+        Ok(made) => Ok(made),
+        Err(_) => Err(Fail::from("no memory")),
+    }
+}
+
+fn check_stored(rt: &impl Abort, settled: &Settled) -> Result<(), Fail> {
+    match settled {
         Settled::Updated(stored) => assert_eq!(rt; stored.mkvno, 2),
         _ => return Err(Fail::from("not stored")),
     }
     Ok(())
+}
+
+/// What was taken is stored under version 2.
+fn check_settled(
+    rt: &impl Abort,
+    alloc: Global,
+    princ: &Princ,
+    masters: &Masters,
+    taken: Taken,
+) -> Result<(), Fail>
+    requires { IsPrinc princ.now }
+{
+    let made = rewrapped(alloc, taken)?;
+    let settled = settle(alloc, Some(princ), masters, 2, made)?;
+    check_stored(rt, &settled)
+}
+
+#[test]
+fn a_record_is_taken_and_settled(rt: HostRuntime) -> Result<(), Fail> {
+    let masters = two_masters(rt.alloc())?;
+    let princ = decode(rt.alloc(), ROW)?;
+    assert!(rt; stays(&rt, &princ, &masters)?);
+    let taken = taken_for_2(&rt, &princ, &masters)?;
+    assert_eq!(rt; taken.version(), 2);
+    check_settled(&rt, rt.alloc(), &princ, &masters, taken)
 }

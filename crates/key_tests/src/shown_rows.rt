@@ -16,6 +16,7 @@ use row_keys::{
     settled_keys,
 };
 use std::alloc::Global;
+use std::process::Abort;
 use std::test::*;
 
 fn key_of(etype: Etype, byte: u8) -> PlainKey {
@@ -40,17 +41,17 @@ fn block() -> [u8; 256] {
 }
 
 /// The blob of a key whose confounder stands at this place of the block.
-fn blob_at(rt: &HostRuntime, master: &PlainKey, key: &PlainKey, at: usize) -> Result<Blob, Fail> {
+fn blob_at(alloc: Global, master: &PlainKey, key: &PlainKey, at: usize) -> Result<Blob, Fail> {
     let bytes = block();
     let mut confounder = [0; 16];
     let behind = bytes.get(at..).ok_or("in the block")?;
     confounder.copy_from_slice(behind.get(..16).ok_or("in the block")?);
-    Ok(wrap(rt.alloc(), master, key, &confounder)?)
+    Ok(wrap(alloc, master, key, &confounder)?)
 }
 
 /// New keys and old ones, wrapped with the bytes of the block.
 fn rekeyed(
-    rt: &HostRuntime,
+    alloc: Global,
     master: &PlainKey,
     drawn: bool,
     fresh: &[PlainItem],
@@ -61,24 +62,55 @@ fn rekeyed(
     }
     keys_take_little_of_a_block();
     let master = MasterKey::new(master);
-    Ok(rekeyed_items(rt.alloc(), &master, drawn, &block(), fresh, kept)?)
+    Ok(rekeyed_items(alloc, &master, drawn, &block(), fresh, kept)?)
+}
+
+/// The key is wrapped with the confounder at this place.
+fn check_place(
+    rt: &impl Abort,
+    alloc: Global,
+    kept: &KeyItem,
+    key: &PlainKey,
+    at: usize,
+) -> Result<(), Fail> {
+    let master = key_of(Etype::Aes256, 1);
+    let blob = blob_at(alloc, &master, key, at)?;
+    assert_eq!(rt; kept.wrapped.as_slice(), blob.as_slice());
+    Ok(())
+}
+
+/// The master key opens the three keys.
+fn check_opening(rt: &impl Abort, alloc: Global, wrapped: &[KeyItem]) -> Result<(), Fail> {
+    let master = MasterKey::new(&key_of(Etype::Aes256, 1));
+    let opened = open_items(alloc, &master, wrapped)?;
+    assert!(rt; opened.as_slice().len() == 3);
+    Ok(())
+}
+
+/// Each key is wrapped with the confounder of its place.
+fn check_places(
+    rt: &impl Abort,
+    alloc: Global,
+    drawn: bool,
+    places: [usize; 3],
+    fresh: &[PlainItem],
+    kept: &[PlainItem],
+) -> Result<(), Fail> {
+    let wrapped = rekeyed(alloc, &key_of(Etype::Aes256, 1), drawn, fresh, kept)?;
+    assert!(rt; wrapped.len() == 3);
+    for ((kept, plain), at) in wrapped.iter().zip(fresh.iter().chain(kept)).zip(places) {
+        check_place(rt, alloc, kept, &plain.key, at)?;
+    }
+    check_opening(rt, alloc, &wrapped)
 }
 
 #[test]
 fn each_key_has_the_confounder_of_its_place(rt: HostRuntime) -> Result<(), Fail> {
-    let master = key_of(Etype::Aes256, 1);
     let fresh = [item(2, Etype::Aes256, 3), item(2, Etype::Aes128, 4)];
     let kept = [item(1, Etype::Aes128Sha2, 5)];
     // A drawn key has its own bytes before its confounder.
     for (drawn, places) in [(true, [32, 64, 80]), (false, [0, 16, 32])] {
-        let wrapped = rekeyed(&rt, &master, drawn, &fresh, &kept)?;
-        assert!(rt; wrapped.len() == 3);
-        for ((kept, plain), at) in wrapped.iter().zip(fresh.iter().chain(&kept)).zip(places) {
-            let blob = blob_at(&rt, &master, &plain.key, at)?;
-            assert_eq!(rt; kept.wrapped.as_slice(), blob.as_slice());
-        }
-        let opened = open_items(rt.alloc(), &MasterKey::new(&master), &wrapped)?;
-        assert!(rt; opened.as_slice().len() == 3);
+        check_places(&rt, rt.alloc(), drawn, places, &fresh, &kept)?;
     }
     Ok(())
 }
@@ -102,20 +134,56 @@ fn no_sets(rt: &HostRuntime) -> OldSets {
     OldSets::from_vec(Vec::new(rt.alloc()))
 }
 
-#[test]
-fn a_history_of_three_remembers_two_passwords(rt: HostRuntime) -> Result<(), Fail> {
-    let history = key_of(Etype::Aes128Sha2, 7);
-    let first = [item(1, Etype::Aes256, 1), item(1, Etype::Aes128, 2)];
-    let second = [item(2, Etype::Aes256, 3)];
-    let third = [item(3, Etype::Aes256, 4)];
-    let sets = remembered(&rt, &history, 3, &first, no_sets(&rt))?;
-    let sets = remembered(&rt, &history, 3, &second, sets)?;
-    let sets = remembered(&rt, &history, 3, &third, sets)?;
-    let [newest, older] = sets.as_slice() else {
+/// The first password, of two keys.
+fn first_remembered(rt: &HostRuntime, history: &PlainKey) -> Result<OldSets, Fail> {
+    let keys = [item(1, Etype::Aes256, 1), item(1, Etype::Aes128, 2)];
+    remembered(rt, history, 3, &keys, no_sets(rt))
+}
+
+/// One more, of one key.
+fn next_remembered(
+    rt: &HostRuntime,
+    history: &PlainKey,
+    kvno: u16,
+    byte: u8,
+    sets: OldSets,
+) -> Result<OldSets, Fail> {
+    let keys = [item(kvno, Etype::Aes256, byte)];
+    remembered(rt, history, 3, &keys, sets)
+}
+
+fn three_remembered(rt: &HostRuntime, history: &PlainKey) -> Result<OldSets, Fail> {
+    let sets = first_remembered(rt, history)?;
+    let sets = next_remembered(rt, history, 2, 3, sets)?;
+    next_remembered(rt, history, 3, 4, sets)
+}
+
+/// Whether the key was used before, where another one stands.
+fn check_used(
+    rt: &impl Abort,
+    alloc: Global,
+    ready: &MasterKey,
+    sets: &[OldSet],
+    key: PlainKey,
+    used: bool,
+) -> Result<(), Fail> {
+    let plain = open_sets(alloc, ready, sets)?;
+    let standing = [item(4, Etype::Aes256, 5)];
+    assert_eq!(rt; is_reused(&[key], &standing, plain.as_slice()), used);
+    Ok(())
+}
+
+/// What is left of three passwords.
+fn check_sets(
+    rt: &impl Abort,
+    alloc: Global,
+    ready: &MasterKey,
+    sets: &[OldSet],
+) -> Result<(), Fail> {
+    let [newest, older] = sets else {
         return Err(Fail::from("two sets stay"));
     };
     assert!(rt; newest.kvno == 3 && older.kvno == 2);
-    let ready = MasterKey::new(&history);
     for (key, used) in [
         (key_of(Etype::Aes256, 3), true),
         (key_of(Etype::Aes256, 5), true),
@@ -123,34 +191,73 @@ fn a_history_of_three_remembers_two_passwords(rt: HostRuntime) -> Result<(), Fai
         (key_of(Etype::Aes256Sha2, 3), false),
         (key_of(Etype::Aes256, 1), false),
     ] {
-        let standing = [item(4, Etype::Aes256, 5)];
-        let plain = open_sets(rt.alloc(), &ready, sets.as_slice())?;
-        assert_eq!(rt; is_reused(&[key], &standing, plain.as_slice()), used);
+        check_used(rt, alloc, ready, sets, key, used)?;
     }
     Ok(())
 }
 
 #[test]
-fn keys_stay_and_settle_as_they_are_wrapped(rt: HostRuntime) -> Result<(), Fail> {
-    let alloc = rt.alloc();
-    let master = key_of(Etype::Aes128, 1);
-    let plain = [item(3, Etype::Aes256, 3), item(2, Etype::Aes256, 2)];
-    let wrapped = rekeyed(&rt, &master, false, &plain, &[])?;
-    let blob = blob_at(&rt, &master, &plain[0].key, 0)?;
+fn a_history_of_three_remembers_two_passwords(rt: HostRuntime) -> Result<(), Fail> {
+    let history = key_of(Etype::Aes128Sha2, 7);
+    let sets = three_remembered(&rt, &history)?;
+    let ready = MasterKey::new(&history);
+    check_sets(&rt, rt.alloc(), &ready, sets.as_slice())
+}
+
+/// What stays from version 3 on, once the keys are settled.
+fn left_of(alloc: Global, wrapped: &[KeyItem]) -> Result<Keys, Fail> {
     let name = parse_name(alloc, b"host/a", b"R")?;
-    let settled = settled_keys(alloc, &name, &wrapped)?;
-    let left = kept_from(3, settled);
-    let [only] = left.as_slice() else {
+    let settled = settled_keys(alloc, &name, wrapped)?;
+    Ok(kept_from(3, settled))
+}
+
+/// The key of version 3 alone is left, as it was wrapped, and with a salt of its own.
+fn check_left(rt: &impl Abort, left: &[KeyItem], blob: &[u8]) -> Result<(), Fail> {
+    let [only] = left else {
         return Err(Fail::from("one key is of version 3 or later"));
     };
-    assert!(rt; newest_version(left.as_slice()) == 3 && only.wrapped.as_slice() == blob.as_slice());
+    assert!(rt; newest_version(left) == 3 && only.wrapped.as_slice() == blob);
     // RFC 4120, section 4: the realm and the components.
     assert!(rt;
         matches!(&only.salt, Salt::Special(salt) if salt.as_slice() == b"Rhosta".as_slice())
     );
-    let opened = open_items(alloc, &MasterKey::new(&master), &wrapped)?;
-    assert!(rt; matches!(opened.as_slice(), [one, _] if one.kvno == 3 && one.key == plain[0].key));
     Ok(())
+}
+
+/// The master key opens the two keys, the first of which is this one.
+fn check_first(
+    rt: &impl Abort,
+    alloc: Global,
+    master: &PlainKey,
+    wrapped: &[KeyItem],
+    key: &PlainKey,
+) -> Result<(), Fail> {
+    let master = MasterKey::new(master);
+    let opened = open_items(alloc, &master, wrapped)?;
+    assert!(rt; matches!(opened.as_slice(), [one, _] if one.kvno == 3 && one.key == *key));
+    Ok(())
+}
+
+/// What is left of the wrapped keys, the first of which is this one.
+fn check_settled(
+    rt: &impl Abort,
+    alloc: Global,
+    master: &PlainKey,
+    wrapped: &[KeyItem],
+    key: &PlainKey,
+) -> Result<(), Fail> {
+    let blob = blob_at(alloc, master, key, 0)?;
+    let left = left_of(alloc, wrapped)?;
+    check_left(rt, left.as_slice(), blob.as_slice())
+}
+
+#[test]
+fn keys_stay_and_settle_as_they_are_wrapped(rt: HostRuntime) -> Result<(), Fail> {
+    let master = key_of(Etype::Aes128, 1);
+    let plain = [item(3, Etype::Aes256, 3), item(2, Etype::Aes256, 2)];
+    let wrapped = rekeyed(rt.alloc(), &master, false, &plain, &[])?;
+    check_settled(&rt, rt.alloc(), &master, &wrapped, &plain[0].key)?;
+    check_first(&rt, rt.alloc(), &master, &wrapped, &plain[0].key)
 }
 
 // ---- rows
@@ -175,10 +282,50 @@ fn push_key(out: &mut Vec<u8>, wrapped: &[u8]) -> Result<(), Fail> {
     push_text(out, wrapped)
 }
 
+/// What stands before the keys of a record of this name under version 1 of the master key, with this tagged list behind
+/// the version's item.
+fn push_front(out: &mut Vec<u8>, name: &[u8], tags: &[u8]) -> Result<(), Fail> {
+    push_text(out, name)?;
+    // No attributes and lives; a modification by a@R in 1700000000.
+    out.extend_from_slice(&[0; 20])?;
+    out.extend_from_slice(if tags.is_empty() {
+        b"\0\x02"
+    } else {
+        b"\0\x04"
+    })?;
+    out.extend_from_slice(b"\0\x02\0\x08\0\xf1\x53\x65a@R\0\0\x08\0\x02\x01\0")?;
+    out.extend_from_slice(tags)?;
+    Ok(())
+}
+
+fn push_keys(out: &mut Vec<u8>, keys: &[Blob]) -> Result<(), Fail> {
+    push_count(out, keys.len())?;
+    for key in keys {
+        push_key(out, key.as_slice())?;
+    }
+    Ok(())
+}
+
+/// A remembered key of type 18.
+fn push_old_key(out: &mut Vec<u8>, wrapped: &[u8]) -> Result<(), Fail> {
+    out.extend_from_slice(b"\0\x12")?;
+    push_text(out, wrapped)
+}
+
+/// Remembered keys of one set.
+fn push_old(out: &mut Vec<u8>, old: &[Blob]) -> Result<(), Fail> {
+    out.extend_from_slice(b"\0\0\0\x01\0\x01")?;
+    push_count(out, old.len())?;
+    for key in old {
+        push_old_key(out, key.as_slice())?;
+    }
+    Ok(())
+}
+
 /// A record of this name under version 1 of the master key, with this tagged list behind the version's item, these keys
 /// and these remembered keys of one set.
 fn record(
-    rt: &HostRuntime,
+    alloc: Global,
     name: &[u8],
     tags: &[u8],
     keys: &[Blob],
@@ -186,28 +333,11 @@ fn record(
 ) -> Result<Princ, Fail>
     ensures { IfOk result (λ p. IsRow p) }
 {
-    let mut bytes = Vec::new(rt.alloc());
-    push_text(&mut bytes, name)?;
-    // No attributes and lives; a modification by a@R in 1700000000.
-    bytes.extend_from_slice(&[0; 20])?;
-    bytes.extend_from_slice(if tags.is_empty() {
-        b"\0\x02"
-    } else {
-        b"\0\x04"
-    })?;
-    bytes.extend_from_slice(b"\0\x02\0\x08\0\xf1\x53\x65a@R\0\0\x08\0\x02\x01\0")?;
-    bytes.extend_from_slice(tags)?;
-    push_count(&mut bytes, keys.len())?;
-    for key in keys {
-        push_key(&mut bytes, key.as_slice())?;
-    }
-    bytes.extend_from_slice(b"\0\0\0\x01\0\x01")?;
-    push_count(&mut bytes, old.len())?;
-    for key in old {
-        bytes.extend_from_slice(b"\0\x12")?;
-        push_text(&mut bytes, key.as_slice())?;
-    }
-    let princ = decode(rt.alloc(), &bytes)?;
+    let mut bytes = Vec::new(alloc);
+    push_front(&mut bytes, name, tags)?;
+    push_keys(&mut bytes, keys)?;
+    push_old(&mut bytes, old)?;
+    let princ = decode(alloc, &bytes)?;
     if encoded_len(&princ) > MAX_ROW_LEN {
         return Err(Fail::from("too long"));
     }
@@ -235,25 +365,46 @@ struct Case {
     secs: u32,
 }
 
+/// K/M, of which version 1 is active from the second 5 on, and has no auxiliary keys.
+fn put_master(alloc: Global, rows: &mut Rows) -> Result<(), Fail> {
+    let master = key_of(Etype::Aes256, 1);
+    let chain = b"\0\x09\0\x06\x01\0\x05\0\0\0\0\x0a\0\0";
+    let keys = [blob_at(alloc, &master, &master, 0)?];
+    let princ = record(alloc, b"K/M@R", chain, &keys, &[])?;
+    put(rows, princ)
+}
+
+/// a@R with a key and a remembered one.
+fn put_own(alloc: Global, rows: &mut Rows, case: &Case) -> Result<(), Fail> {
+    let own = [blob_at(alloc, &case.under, &key_of(Etype::Aes256, 3), 0)?];
+    let old = [blob_at(alloc, &case.history, &key_of(Etype::Aes256, 4), 0)?];
+    let princ = record(alloc, b"a@R", &[], &own, &old)?;
+    put(rows, princ)
+}
+
+/// kadmin/history with its key.
+fn put_history(alloc: Global, rows: &mut Rows) -> Result<(), Fail> {
+    let master = key_of(Etype::Aes256, 1);
+    let history = key_of(Etype::Aes256, 2);
+    let keys = [blob_at(alloc, &master, &history, 0)?];
+    let princ = record(alloc, b"kadmin/history@R", &[], &keys, &[])?;
+    put(rows, princ)
+}
+
+fn put_all(alloc: Global, rows: &mut Rows, case: &Case) -> Result<(), Fail> {
+    put_master(alloc, rows)?;
+    put_own(alloc, rows, case)?;
+    if case.keys > 0 {
+        put_history(alloc, rows)?;
+    }
+    Ok(())
+}
+
 /// K/M, a@R with a key and a remembered one, and kadmin/history where it has keys.
 fn rows_of(rt: &HostRuntime, case: &Case) -> Result<Rows, Fail> {
     let alloc = rt.alloc();
-    let master = key_of(Etype::Aes256, 1);
-    let history = key_of(Etype::Aes256, 2);
-    let own = blob_at(rt, &case.under, &key_of(Etype::Aes256, 3), 0)?;
-    let old = blob_at(rt, &case.history, &key_of(Etype::Aes256, 4), 0)?;
     let mut rows = Rows::from_vecs(Vec::new(alloc), Vec::new(alloc)).ok_or("no rows")?;
-    // Version 1 is active from the second 5 on, and there are no auxiliary keys.
-    let chain = b"\0\x09\0\x06\x01\0\x05\0\0\0\0\x0a\0\0";
-    let km = blob_at(rt, &master, &master, 0)?;
-    put(&mut rows, record(rt, b"K/M@R", chain, &[km], &[])?)?;
-    put(&mut rows, record(rt, b"a@R", &[], &[own], &[old])?)?;
-    if case.keys > 0 {
-        let blob = blob_at(rt, &master, &history, 0)?;
-        let mut keys = Vec::new(alloc);
-        keys.push(blob)?;
-        put(&mut rows, record(rt, b"kadmin/history@R", &[], &keys, &[])?)?;
-    }
+    put_all(alloc, &mut rows, case)?;
     Ok(rows)
 }
 
@@ -293,6 +444,30 @@ fn the_first_record_at_fault_is_told(rt: HostRuntime) -> Result<(), Fail> {
     Ok(())
 }
 
+/// The key of the record and the one that it remembers.
+fn check_plain(rt: &impl Abort, alloc: Global, case: &Case, found: &Princ) -> Result<(), Fail> {
+    let master = MasterKey::new(&case.under);
+    let history = MasterKey::new(&case.history);
+    let plain = open_princ(alloc, &master, &history, found)?;
+    assert!(rt;
+        matches!(plain.keys.as_slice(), [k] if k.kvno == 1 && k.key == key_of(Etype::Aes256, 3))
+    );
+    assert!(rt; plain.old.as_slice().len() == 1);
+    Ok(())
+}
+
+/// The records that are there, and those that are not.
+fn check_found(rt: &impl Abort, alloc: Global, case: &Case, rows: &Rows) -> Result<(), Fail> {
+    assert!(rt; record_named(rows, b"b@R").is_none());
+    let found = record_named(rows, b"a@R").ok_or("a@R is there")?;
+    check_plain(rt, alloc, case, found)?;
+    assert_eq!(rt; records_under(rows, b"R", 1), 2);
+    assert_eq!(rt; records_under(rows, b"OTHER", 1), 3);
+    assert_eq!(rt; records_with_policy(rows, b"p"), 0);
+    assert!(rt; !has_policy_row(rows, b"p"));
+    Ok(())
+}
+
 #[test]
 fn records_are_found_and_opened(rt: HostRuntime) -> Result<(), Fail> {
     let master = key_of(Etype::Aes256, 1);
@@ -304,21 +479,5 @@ fn records_are_found_and_opened(rt: HostRuntime) -> Result<(), Fail> {
         secs: 5,
     };
     let rows = rows_of(&rt, &case)?;
-    assert!(rt; record_named(&rows, b"b@R").is_none());
-    let found = record_named(&rows, b"a@R").ok_or("a@R is there")?;
-    let plain = open_princ(
-        rt.alloc(),
-        &MasterKey::new(&master),
-        &MasterKey::new(&history),
-        found,
-    )?;
-    assert!(rt;
-        matches!(plain.keys.as_slice(), [k] if k.kvno == 1 && k.key == key_of(Etype::Aes256, 3))
-    );
-    assert!(rt; plain.old.as_slice().len() == 1);
-    assert_eq!(rt; records_under(&rows, b"R", 1), 2);
-    assert_eq!(rt; records_under(&rows, b"OTHER", 1), 3);
-    assert_eq!(rt; records_with_policy(&rows, b"p"), 0);
-    assert!(rt; !has_policy_row(&rows, b"p"));
-    Ok(())
+    check_found(&rt, rt.alloc(), &case, &rows)
 }

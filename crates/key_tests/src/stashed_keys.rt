@@ -5,6 +5,7 @@ use princ_rows::Rows;
 use stash_file::write_stash;
 use stash_opening::find_masters;
 use std::alloc::Global;
+use std::process::Abort;
 use std::test::*;
 
 const SECS: u32 = 1_700_000_000;
@@ -18,10 +19,15 @@ fn realm(alloc: Global) -> Result<Realm, Fail> {
     Ok(Realm::from_bytes(alloc, REALM)?)
 }
 
+fn spec(alloc: Global) -> Result<CreateSpec, Fail> {
+    let realm = realm(alloc)?;
+    Ok(CreateSpec::new(realm, None, Etype::Aes256, 1000))
+}
+
 /// The rows of a new database, and its master keys.
-fn created(rt: &HostRuntime) -> Result<(Rows, Masters), Fail> {
-    let spec = CreateSpec::new(realm(rt.alloc())?, None, Etype::Aes256, 1000);
-    Ok(first_rows(rt.alloc(), &spec, Time::new(SECS, 0), &[7; 2048])?)
+fn created(alloc: Global) -> Result<(Rows, Masters), Fail> {
+    let spec = spec(alloc)?;
+    Ok(first_rows(alloc, &spec, Time::new(SECS, 0), &[7; 2048])?)
 }
 
 /// The stash of one master key of this version.
@@ -33,41 +39,83 @@ fn stash_of(rt: &HostRuntime, version: u16, byte: u8) -> Result<Blob, Fail> {
     Ok(write_stash(rt.alloc(), REALM, SECS, &masters)?)
 }
 
-/// Why the rows of a new database are refused with this stash, which stands in file 5.
-fn refusal(rt: &HostRuntime, stash: Option<&[u8]>, secs: u32) -> Result<Option<Refusal>, Fail> {
-    let (rows, _) = created(rt)?;
-    match find_masters(rt.alloc(), &rows, REALM, stash, 5, secs) {
+/// Why the rows are refused with this stash, which stands in file 5.
+fn refusal_of(
+    alloc: Global,
+    rows: &Rows,
+    stash: Option<&[u8]>,
+    secs: u32,
+) -> Result<Option<Refusal>, Fail> {
+    match find_masters(alloc, rows, REALM, stash, 5, secs) {
         Ok(_) => Ok(None),
         Err(Stop::Refused(why)) => Ok(Some(why)),
         Err(Stop::Halt(_)) => Err(Fail::from("memory was given")),
     }
 }
 
-#[test]
-fn a_new_database_is_opened_by_its_stash(rt: HostRuntime) -> Result<(), Fail> {
-    let (rows, masters) = created(&rt)?;
-    let stash = write_stash(rt.alloc(), REALM, SECS, &masters)?;
-    assert_eq!(rt; stash.len(), 76);
-    let front = b"\x05\x02\0\0\0\x46\0\x02\0\x0bEXAMPLE.ORG\0\x01K\0\x01M\0\0\0\x01";
-    assert!(rt; stash.as_slice().starts_with(front));
-    let Ok(found) = find_masters(rt.alloc(), &rows, REALM, Some(stash.as_slice()), 5, SECS) else {
+/// Why the rows of a new database are refused with this stash.
+fn refusal(alloc: Global, stash: Option<&[u8]>, secs: u32) -> Result<Option<Refusal>, Fail> {
+    let (rows, _) = created(alloc)?;
+    refusal_of(alloc, &rows, stash, secs)
+}
+
+/// The stash opens the rows to these master keys.
+fn check_found(
+    rt: &impl Abort,
+    alloc: Global,
+    rows: &Rows,
+    masters: &Masters,
+    stash: &[u8],
+) -> Result<(), Fail> {
+    let Ok(found) = find_masters(alloc, rows, REALM, Some(stash), 5, SECS) else {
         return Err(Fail::from("the stash opens the rows"));
     };
     assert!(rt; found.as_slice() == masters.as_slice());
+    Ok(())
+}
+
+/// The stash of the master keys of a new database with these rows.
+fn check_stash(rt: &impl Abort, alloc: Global, rows: &Rows, masters: &Masters) -> Result<(), Fail> {
+    let stash = write_stash(alloc, REALM, SECS, masters)?;
+    assert_eq!(rt; stash.len(), 76);
+    let front = b"\x05\x02\0\0\0\x46\0\x02\0\x0bEXAMPLE.ORG\0\x01K\0\x01M\0\0\0\x01";
+    assert!(rt; stash.as_slice().starts_with(front));
+    check_found(rt, alloc, rows, masters, stash.as_slice())?;
     // One second earlier no version of the master key is active.
-    let early = refusal(&rt, Some(stash.as_slice()), SECS - 1)?;
+    let early = refusal(alloc, Some(stash.as_slice()), SECS - 1)?;
     assert_eq!(rt; early, Some(Refusal::StashWrong));
     Ok(())
 }
 
 #[test]
-fn stashes_are_refused_for_their_causes(rt: HostRuntime) -> Result<(), Fail> {
-    let good = stash_of(&rt, 1, 7)?;
-    let other = stash_of(&rt, 9, 7)?;
-    let wrong = stash_of(&rt, 1, 8)?;
-    let short = good.as_slice().get(..75).ok_or("a stash")?;
+fn a_new_database_is_opened_by_its_stash(rt: HostRuntime) -> Result<(), Fail> {
+    let (rows, masters) = created(rt.alloc())?;
+    check_stash(&rt, rt.alloc(), &rows, &masters)
+}
+
+/// The rows of a new database are refused with this stash for this cause, or for none.
+fn check_refusal(
+    rt: &impl Abort,
+    alloc: Global,
+    stash: Option<&[u8]>,
+    answer: Option<Refusal>,
+) -> Result<(), Fail> {
+    let found = refusal(alloc, stash, SECS)?;
+    assert_eq!(rt; found, answer);
+    Ok(())
+}
+
+/// A stash that is good, one of another version, and one of another key.
+fn check_stashes<'a>(
+    rt: &impl Abort,
+    alloc: Global,
+    good: &'a [u8],
+    other: &'a [u8],
+    wrong: &'a [u8],
+) -> Result<(), Fail> {
+    let short = good.get(..75).ok_or("a stash")?;
     let cases: [(Option<&[u8]>, Option<Refusal>); 9] = [
-        (Some(good.as_slice()), None),
+        (Some(good), None),
         (None, Some(Refusal::StashMissing)),
         (Some(b"\x05\x02"), Some(Refusal::StashMissing)),
         (Some(b"\x05\x02\0\0\0\0"), Some(Refusal::StashMissing)),
@@ -77,15 +125,25 @@ fn stashes_are_refused_for_their_causes(rt: HostRuntime) -> Result<(), Fail> {
             Some(Refusal::Damaged { file: 5, place: 0 }),
         ),
         (Some(short), Some(Refusal::Damaged { file: 5, place: 2 })),
-        (
-            Some(other.as_slice()),
-            Some(Refusal::UnknownMaster { version: 9 }),
-        ),
-        (Some(wrong.as_slice()), Some(Refusal::StashWrong)),
+        (Some(other), Some(Refusal::UnknownMaster { version: 9 })),
+        (Some(wrong), Some(Refusal::StashWrong)),
     ];
     for (stash, answer) in cases {
-        let found = refusal(&rt, stash, SECS)?;
-        assert_eq!(rt; found, answer);
+        check_refusal(rt, alloc, stash, answer)?;
     }
     Ok(())
+}
+
+#[test]
+fn stashes_are_refused_for_their_causes(rt: HostRuntime) -> Result<(), Fail> {
+    let good = stash_of(&rt, 1, 7)?;
+    let other = stash_of(&rt, 9, 7)?;
+    let wrong = stash_of(&rt, 1, 8)?;
+    check_stashes(
+        &rt,
+        rt.alloc(),
+        good.as_slice(),
+        other.as_slice(),
+        wrong.as_slice(),
+    )
 }

@@ -5,18 +5,19 @@ use Rattle.std.specs.Prelude.{Result}
 use Rattle.kdb_disk.proofs.Runs.{weaken}
 use Rattle.kdb_disk.specs.Frames.{IsCrashSafe}
 use Rattle.kdb_disk.specs.declared.disk.Disk.{Ghosts}
-use Rattle.kdb_places.specs.Places.{Place}
+use Rattle.iprop_truths.specs.Polls.{nothing_new, reply_of}
+use Rattle.kdb_places.specs.Places.{Place, no_point}
 use Rattle.dump_text.specs.Judged.{judged as dump_judged, judged_from, nothing}
 use Rattle.dump_text.specs.Reader.{ReaderState, answer_of, fresh, judged_with}
 use Rattle.dump_text.specs.declared.dumps.Dump.{Dump}
 use Rattle.dump_text.specs.declared.stops.DumpStop.{DumpStop}
 use Rattle.dump_text.specs.declared.stops.DumpStop.TheVariants as stop
-use Rattle.kprop_rounds.specs.Rounds.{EndsAs, IsReadAs, LeavesSome, RoundEnd, ended}
+use Rattle.kprop_rounds.specs.Rounds.{EndsAs, IsOfRound, IsReadAs, LeavesSome, RoundEnd, ended}
 use Rattle.kprop_rounds.specs.declared.words.RoundWord.{RoundWord}
 use Rattle.replica_core.proofs.Moments.{nothing_made}
 use Rattle.replica_core.specs.Opened.{IsHeldOn, LeavesMade, place_in}
 use Rattle.store_files.specs.Kept.{Kept}
-use Rattle.replica_steps.specs.Replicas.{Reopen, Task, task_makes}
+use Rattle.replica_steps.specs.Replicas.{Take, Task, task_makes}
 
 abbrev word_or_none : {E : Type 0} → Result (Option RoundWord) E → Option RoundWord
 word_or_none (Ok w) = w
@@ -55,10 +56,12 @@ read_stopped reader text r stop.MemoryOut is e bad never = tt
 -- ---- what a crash leaves
 
 pub crash_some : {D : Type 0} (g : Ghosts D) (old new : D) (size : ℕ) (place : Option Place) (task : Task)
-    → IsCrashSafe g old new (LeavesMade place (task_makes size place task))
+    → IsOfRound task → IsCrashSafe g old new (LeavesMade place (task_makes size place task))
     → IsCrashSafe g old new (LeavesSome size place)
-crash_some g old new size place task safe =
-    record { told = λ tells. weaken (safe.told tells) (λ c is. record { task = task; leaves = is }) }
+crash_some g old new size place task of_round safe =
+    record {
+      told = λ tells. weaken (safe.told tells) (λ c is. record { task = task; of_round = of_round; leaves = is });
+    }
 
 -- where nothing is done, the files stand for what is held
 pub nothing_safe : {D : Type 0} (g : Ghosts D) (now : D) (o : Option Kept) (made : List Place)
@@ -70,8 +73,8 @@ pub nothing_some : {D : Type 0} (g : Ghosts D) (now : D) (size : ℕ) (o : Optio
     → (g.tells → IsHeldOn o (g.view now))
     → IsCrashSafe g now now (LeavesSome size (place_in o))
 nothing_some g now size o on =
-    crash_some g now now size (place_in o) (Reopen size)
-    (nothing_safe g now o (task_makes size (place_in o) (Reopen size)) on)
+    let idle : Task = Take (reply_of nothing_new no_point []) in
+    crash_some g now now size (place_in o) idle tt (nothing_safe g now o (task_makes size (place_in o) idle) on)
 
 -- ---- a round that ends with no change
 

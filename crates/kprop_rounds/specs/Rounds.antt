@@ -24,7 +24,7 @@ use Rattle.replica_core.specs.Opened.{LeavesMade, told_dump}
 use Rattle.replica_core.specs.Taking.{told_reply}
 use Rattle.replica_steps.specs.Bridges.{MayBePart}
 use Rattle.replica_steps.specs.Judging.{judged, point_in}
-use Rattle.replica_steps.specs.Replicas.{Install, Take, Task, place_after, task_makes}
+use Rattle.replica_steps.specs.Replicas.{Install, Reopen, Take, Task, place_after, task_makes}
 
 -- ---- its end
 
@@ -121,9 +121,16 @@ abbrev pub IsRound : Result RoundWord RoundHalt → List ℕ → ℕ → Wire �
 IsRound result name size before old new after =
     IsRoundOf result name (round_end size old (first_of before.to_come)) before old new after
 
+-- a round takes a reply or loads a dump, and opens nothing anew
+abbrev pub IsOfRound : Task → Type 0
+IsOfRound (Take r) = Unit {0}
+IsOfRound (Install dump) = Unit {0}
+IsOfRound (Reopen size) = ⊥
+
 -- the files stand for what there was, or for a place that a reply or a dump makes
 pub record LeavesSome (size : ℕ) (place : Option Place) (files : Files) : Type 0 where
   pub task : Task
+  pub of_round : IsOfRound task
   pub leaves : LeavesMade place (task_makes size place task) files
 
 -- how a dump was read

@@ -15,7 +15,7 @@ use Rattle.kdb_ports.specs.Parts.{SaidPart}
 use Rattle.kdb_ports.specs.Told.{after_told}
 use Rattle.kprop_runs.specs.Halts.{OnEnd, OnStop, status_after}
 use Rattle.kprop_runs.specs.Openings.{Opening}
-use Rattle.kprop_runs.specs.Runs.{EndsAs, HasRefusal, HasRun, IsRefusal, IsRun, RunStops, Stands, run_end}
+use Rattle.kprop_runs.specs.Runs.{EndsAs, HasRefusal, HasRun, IsRefusal, IsRun, RunHolds, RunStops, Stands, run_end}
 use Rattle.kprop_runs.specs.declared.halts.RunHalt.{RunHalt}
 use Rattle.kprop_runs.specs.declared.halts.RunHalt.TheVariants as run
 
@@ -96,6 +96,7 @@ module _ (s : Status) (r : Result Bool RunHalt) (is : s ≡ status_after r) wher
       subst (λ (x : Status). IsRun o found w taken old now told out x) (sym is) (record {
         ended = on_end r (λ refused. EndsAs (run_end o w taken) told out refused × Stands o w taken old now) has.ended;
         stopped = on_stop r (RunStops o w taken (sent_in told) out) has.stopped;
+        holds = on_stop r (RunHolds o w taken out now) has.holds;
         moments = has.moments;
       })
 

@@ -11,8 +11,8 @@ use Rattle.kdb_places.specs.Places.{Place}
 use Rattle.kdb_ports.specs.Links.{Wire, first_of}
 use Rattle.kprop_rounds.specs.Rounds.{GivesNoEnd, LeavesSome, round_end}
 use Rattle.kprop_runs.specs.Longs.{AllEnd, StopsLong, StopsLongIn}
-use Rattle.kprop_runs.specs.Stages.{LeavesRounds, LeavesUntold, MayCome, MayLead, Stage, StandsAt}
-use Rattle.kprop_runs.specs.Stages.{StopsIn, StopsRound, after_round, after_rounds, end_at, stage_of}
+use Rattle.kprop_runs.specs.Stages.{HoldsIn, HoldsRound, LeavesRounds, LeavesUntold, MayCome, MayLead, Stage}
+use Rattle.kprop_runs.specs.Stages.{StandsAt, StopsIn, StopsRound, after_round, after_rounds, end_at, stage_of}
 use Rattle.replica_core.proofs.Moments.{nothing_made}
 use Rattle.replica_core.specs.Opened.{IsHeldOn, LeavesMade, place_in}
 use Rattle.store_files.specs.Kept.{Kept}
@@ -122,6 +122,18 @@ module _ (name : List ℕ) (size done : ℕ) (s : Stage) (k : ℕ) (same : k ≡
           subst (λ (t : Stage). StopsRound name (suc done) (end_at size t) t sent said) here
           (subst (λ (m : ℕ). StopsRound name (suc done) (end_at m Here) Here sent said) same
           (subst (λ (i : ℕ). StopsRound name i (end_at k Here) Here sent said) (add-one done) stops));
+    }
+
+    pub holds_here : (said : Option (List ℕ)) (now : View)
+        → HoldsRound (done + 1) (round_end k place (first_of w.to_come)) Here said now
+        → HoldsIn name size count s said now
+    holds_here said now holds = record {
+      done = done;
+      few = few;
+      holds =
+          subst (λ (t : Stage). HoldsRound (suc done) (end_at size t) t said now) here
+          (subst (λ (m : ℕ). HoldsRound (suc done) (end_at m Here) Here said now) same
+          (subst (λ (i : ℕ). HoldsRound i (end_at k Here) Here said now) (add-one done) holds));
     }
 
     pub long_here : (sent : Option (List (List ℕ))) → StopsLong name k Here sent → StopsLongIn name size count s sent

@@ -19,9 +19,10 @@ use Rattle.kdb_ports.specs.Told.{after_told}
 use Rattle.kprop_runs.proofs.Saying.{said_nothing}
 use Rattle.kprop_runs.specs.Longs.{AllEnd, RunRoundsEnd, RunStopsLong, StopsLongIn}
 use Rattle.kprop_runs.specs.Openings.{Opening, Opens, Refuses, opens_with}
-use Rattle.kprop_runs.specs.Runs.{EndsAs, HasRefusal, HasRounds, HasRun, RunLeaves, RunLeavesSome}
+use Rattle.kprop_runs.specs.Runs.{EndsAs, HasRefusal, HasRounds, HasRun, HoldsRounds, RunHolds}
+use Rattle.kprop_runs.specs.Runs.{RunLeaves, RunLeavesSome}
 use Rattle.kprop_runs.specs.Runs.{StandsFor, end_behind, first_stage, last_stage, refusal_end}
-use Rattle.kprop_runs.specs.Stages.{LeavesRounds, LeavesUntold, Stage, StandsAt, StopsIn, after_rounds}
+use Rattle.kprop_runs.specs.Stages.{HoldsIn, LeavesRounds, LeavesUntold, Stage, StandsAt, StopsIn, after_rounds}
 use Rattle.kprop_runs.specs.declared.halts.RunHalt.{RunHalt}
 use Rattle.kprop_runs.specs.declared.words.Asked.{Asked}
 use Rattle.replica_core.proofs.Moments.{nothing_made}
@@ -89,6 +90,21 @@ module _ (a : Asked) (s : Stage) (name : List ℕ) (size : ℕ) (name_is : name 
       each = λ c here. subst (λ (p : Option Place). LeavesMade p [] c) (is ∙ at_last.place_is)
           (at_end (nothing_made o [] now held) c here);
     }
+
+    pub ran_holds : (point : Point) → point ≡ point_in place → (o : Option Kept) → place_in o ≡ place → (now : View)
+        → IsHeldOn o now → (r : Result Bool RunHalt) (out : Option (List ℕ))
+        → OnErr r (SaidPart (done_text point) taken out) → OnErr r (HoldsRounds a s out now)
+    ran_holds point is o held_is now held (Ok answer) out part = tt
+    ran_holds point is o held_is now held (Err halt) out part = inr (
+      subst (λ (text : List ℕ). SaidPart text (last_stage a s).out out) (point_last point is)
+          (subst (λ (t : Option (List ℕ)). SaidPart (done_text point) t out) at_last.out_is part),
+      stands o held_is now held,
+    )
+
+  pub rounds_hold : (out : Option (List ℕ)) (now : View) → HoldsIn name size a.rounds s out now
+      → HoldsRounds a s out now
+  rounds_hold out now holds = inl (subst (λ (m : ℕ). HoldsIn a.name m a.rounds s out now) size_is
+      (subst (λ (n : List ℕ). HoldsIn n size a.rounds s out now) name_is holds))
 
   pub rounds_stopped : (wire : Option Wire) (out : Option (List ℕ)) (halt : RunHalt)
       → StopsIn name size a.rounds s (sent_in wire) out → HasRounds (Err halt) a s wire out
@@ -188,6 +204,7 @@ refusal_run why found w taken old now wire out r told keeps said value part = re
   ended = both r (λ refused. EndsAs (refusal_end why w taken) wire out refused) (Keeps old now)
       (ends_refused why w taken wire out r told said value) (ok_of r keeps);
   stopped = on_err r (λ p. inr (ap sent_in told, p)) part;
+  holds = on_err r (λ p. tt) part;
   moments = keeps_like old now keeps;
 }
 
@@ -199,6 +216,11 @@ refusal_is text taken out (Err halt) said value part = record { ended = tt; stop
 
 -- ---- a run
 
+-- nothing was written
+none_held : (o : Opening) (w : Wire) (taken : Option (List ℕ)) (now : View) → RunHolds o w taken taken now
+none_held (Refuses why) w taken now = tt
+none_held (Opens a place) w taken now = inl refl
+
 module _ (a : Asked) (found : Result Place Refusal) (old mid : View)
     (opening : LeavesOnly old mid (MayOpen old a.size found)) where
   -- It was opened, and the rounds came behind.
@@ -206,15 +228,17 @@ module _ (a : Asked) (found : Result Place Refusal) (old mid : View)
     pub opened_run : (w : Wire) (taken : Option (List ℕ)) (wire : Option Wire) (out : Option (List ℕ))
         (r : Result Bool RunHalt)
         → HasRounds r a (first_stage w taken (place_of o)) wire out
+        → OnErr r (HoldsRounds a (first_stage w taken (place_of o)) out new)
         → OnOk r (StandsFor (last_stage a (first_stage w taken (place_of o))).place new)
         → LeavesOnly mid new (LeavesRounds a.name a.size a.rounds (first_stage w taken (place_of o)))
         → HasRun (opens_with a found) found w taken old new wire out r
-    opened_run w taken wire out r has stands leaves =
+    opened_run w taken wire out r has holds stands leaves =
         subst (λ (x : Opening). HasRun x found w taken old new wire out r) (sym (opens_as a o found is)) (record {
           ended =
               both r (λ refused. EndsAs (end_behind (last_stage a (first_stage w taken (place_of o)))) wire out refused)
               (StandsFor (last_stage a (first_stage w taken (place_of o))).place new) has.ended stands;
           stopped = on_err r (λ stops. inr stops) has.stopped;
+          holds = on_err r (λ h. inr h) holds;
           moments = then_on {P = RunLeaves (Opens a (place_of o)) found w taken old}
               (weaken opening (λ c here. inl here)) leaves (λ c here. inr here);
         })
@@ -243,6 +267,7 @@ module _ (a : Asked) (found : Result Place Refusal) (old mid : View)
   halted_run w taken wire halt told = record {
     ended = tt;
     stopped = inl (ap sent_in told, refl);
+    holds = none_held (opens_with a found) w taken mid;
     moments = weaken opening (opening_leaves a found w taken old);
   }
 
@@ -271,6 +296,7 @@ pub idle_run : (o : Opening) (found : Result Place Refusal) (w : Wire) (taken : 
 idle_run o found w taken now wire halt told = record {
   ended = tt;
   stopped = inl (ap sent_in told, refl);
+  holds = none_held o w taken now;
   moments = started now (RunLeaves o found w taken now) (idle_leaves o found w taken now);
 }
 

@@ -1,5 +1,5 @@
 -- A round and its line.
-use Rattle.std.proofs.Common.{◌≡◌, ℕ, Bool, ◌||◌, List, Option, Some, None, Ok, Err, inl, inr, refl, ap, subst, ◌∙◌}
+use Rattle.std.proofs.Common.{◌≡◌, ℕ, Bool, ◌||◌, List, [], Option, Some, None, Ok, Err, inl, inr, refl, ap, subst, ◌∙◌}
 use Rattle.std.specs.Prelude.{Result, IfOk, OnErr, OnOk}
 use Rattle.iprop_links.specs.Asking.{sent_in}
 use Rattle.kdb_base.specs.declared.moments.Point.{Point}
@@ -15,10 +15,11 @@ use Rattle.kprop_rounds.specs.Rounds.{IsRound, LeavesSome, round_end}
 use Rattle.kprop_rounds.specs.declared.words.RoundHalt.{RoundHalt}
 use Rattle.kprop_rounds.specs.declared.words.RoundWord.{RoundWord}
 use Rattle.kprop_runs.specs.Lines.{is_refused, round_line}
-use Rattle.kprop_runs.specs.Stages.{MayCome, StandsAt, StopsRound, after_round, end_at, line_at, stage_of}
+use Rattle.kprop_runs.specs.Stages.{HoldsRound, MayCome, StandsAt, StopsRound, after_round, end_at, line_at, stage_of}
 use Rattle.kprop_runs.specs.declared.halts.RunHalt.{RunHalt}
 use Rattle.replica_core.proofs.Crashes.{part_left}
-use Rattle.replica_core.specs.Opened.{IsHeldOn, place_in}
+use Rattle.replica_core.proofs.Moments.{nothing_made}
+use Rattle.replica_core.specs.Opened.{IsHeldOn, LeavesMade, place_in}
 use Rattle.replica_core.specs.Opening.{place_found}
 use Rattle.replica_steps.specs.Bridges.{MayBePart}
 use Rattle.replica_steps.specs.Judging.{point_in}
@@ -60,7 +61,26 @@ module _ (name : List ℕ) (size number : ℕ) (w : Wire) (taken : Option (List 
     turn_stopped (Ok now) out part = tt
     turn_stopped (Err halt) out part = inr (is.said, subst (λ (text : List ℕ). SaidPart text taken out) line_is part)
 
+    pub turn_holds : (o : Option Kept) → place_in o ≡ new → (now : View) → IsHeldOn o now
+        → (r : Result Bool RunHalt) (out : Option (List ℕ))
+        → OnErr r (SaidPart (round_line number word point) taken out)
+        → OnErr r (HoldsRound number (round_end size place (first_of w.to_come)) (stage_of w taken place refused) out
+        now)
+    turn_holds o held_is now held (Ok bad) out part = tt
+    turn_holds o held_is now held (Err halt) out part = inr (
+      subst (λ (text : List ℕ). SaidPart text taken out) line_is part,
+      record {
+        each = λ c here. subst (λ (p : Option Place). LeavesMade p [] c) (held_is ∙ is.ends.place_is)
+            (at_end (nothing_made o [] now held) c here);
+      },
+    )
+
   -- it was stopped
+  pub round_holds : (old now : View)
+      → LeavesOnly old now (LeavesMade place (round_end size place (first_of w.to_come)).made)
+      → HoldsRound number (round_end size place (first_of w.to_come)) (stage_of w taken place refused) taken now
+  round_holds old now run = inl (refl, record { each = λ c here. at_end run c here })
+
   pub round_stopped : (new : Option Place) (wire : Option Wire) (halt : RoundHalt)
       → IsRound (Err halt) name size w place new wire
       → StopsRound name number (round_end size place (first_of w.to_come)) (stage_of w taken place refused)
@@ -82,6 +102,7 @@ came size place o old now run held here =
     let some = at_end run now.seen here in
     record {
       task = some.task;
+      of_round = some.of_round;
       part = subst (MayBePart place (task_makes size place some.task)) (found_held o now now.seen held here)
           (part_left place (task_makes size place some.task) now.seen some.leaves);
     }

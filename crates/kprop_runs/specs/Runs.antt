@@ -14,10 +14,10 @@ use Rattle.kdb_ports.specs.Parts.{SaidPart}
 use Rattle.kdb_ports.specs.Told.{after_told}
 use Rattle.kprop_runs.specs.Halts.{OnEnd, OnStop}
 use Rattle.kprop_runs.specs.Openings.{Opening, Opens, Refuses}
-use Rattle.kprop_runs.specs.Stages.{LeavesRounds, LeavesUntold, Stage, StopsBehind, StopsIn, after_rounds, stage_of}
+use Rattle.kprop_runs.specs.Stages.{HoldsBehind, HoldsIn, LeavesRounds, LeavesUntold, Stage, StandsFrom}
+use Rattle.kprop_runs.specs.Stages.{StopsBehind, StopsIn, after_rounds, stage_of}
 use Rattle.kprop_runs.specs.declared.halts.RunHalt.{RunHalt}
 use Rattle.kprop_runs.specs.declared.words.Asked.{Asked}
-use Rattle.replica_core.specs.Opened.{LeavesMade}
 use Rattle.replica_core.specs.Opening.{MayOpen}
 use Rattle.replica_steps.specs.Judging.{point_in}
 use Rattle.store_files.specs.Recovery.{IsLike}
@@ -49,8 +49,8 @@ run_end (Refuses why) w taken = refusal_end why w taken
 run_end (Opens a place) w taken = end_behind (last_stage a (first_stage w taken place))
 
 -- whatever a crash then leaves stands for the place
-pub record StandsFor (place : Option Place) (now : View) : Type 0 where
-  pub each : (c : Files) → now.images c → LeavesMade place [] c
+abbrev pub StandsFor : Option Place → View → Type 0
+StandsFor place now = StandsFrom place [] now
 
 -- what stands then: what stood before a refusal, or the last place
 abbrev pub Stands : Opening → Wire → Option (List ℕ) → View → View → Type 0
@@ -75,6 +75,15 @@ StopsFrom (Opens a place) w taken sent out = StopsRounds a (first_stage w taken 
 -- before its opening was done, when nothing was sent or written, or after it
 abbrev pub RunStops : Opening → Wire → Option (List ℕ) → Option (List (List ℕ)) → Option (List ℕ) → Type 0
 RunStops o w taken sent out = ((sent ≡ Some w.sent) × (out ≡ taken)) ⊎ StopsFrom o w taken sent out
+
+-- What the disk has goes with what was written: where a front of a round's line was, the place behind that round.
+abbrev pub HoldsRounds : Asked → Stage → Option (List ℕ) → View → Type 0
+HoldsRounds a s out now = HoldsIn a.name a.size a.rounds s out now ⊎ HoldsBehind (last_stage a s) out now
+
+-- nothing was written, and its opening was not done, or it goes with what was written
+abbrev pub RunHolds : Opening → Wire → Option (List ℕ) → Option (List ℕ) → View → Type 0
+RunHolds (Refuses why) w taken out now = Unit {0}
+RunHolds (Opens a place) w taken out now = (out ≡ taken) ⊎ HoldsRounds a (first_stage w taken place) out now
 
 -- ---- what a crash may leave at any moment of it
 
@@ -104,6 +113,7 @@ pub record HasRun (o : Opening) (found : Result Place Refusal) (w : Wire) (taken
     (out : Option (List ℕ)) (result : Result Bool RunHalt) : Type 0 where
   pub ended : IfOk result (λ refused. EndsAs (run_end o w taken) told out refused × Stands o w taken old now)
   pub stopped : OnErr result (RunStops o w taken (sent_in told) out)
+  pub holds : OnErr result (RunHolds o w taken out now)
   pub moments : LeavesOnly old now (RunLeaves o found w taken old)
 
 -- the same by its status
@@ -115,6 +125,8 @@ pub record IsRun (o : Opening) (found : Result Place Refusal) (w : Wire) (taken 
   pub ended : OnEnd result (λ refused. EndsAs (run_end o w taken) told out refused × Stands o w taken old now)
   -- where it was stopped: a front of these bytes
   pub stopped : OnStop result (RunStops o w taken (sent_in told) out)
+  -- and the disk then has a place that goes with what was written
+  pub holds : OnStop result (RunHolds o w taken out now)
   -- at any moment of it
   pub moments : LeavesOnly old now (RunLeaves o found w taken old)
 

@@ -3,11 +3,12 @@ use Rattle.std.specs.Prelude.{ℕ, zero, suc, ◌≡◌, ◌<◌, ◌⊎◌, Boo
 use Rattle.iprop_links.specs.Asking.{MaySay, later_in, sent_in}
 use Rattle.kadm_replies.specs.Texts.{done_text}
 use Rattle.kdb_disk.specs.Files.{Files}
+use Rattle.kdb_disk.specs.View.{View}
 use Rattle.kdb_places.specs.Places.{Place}
 use Rattle.kdb_ports.specs.Links.{Wire, behind_first, first_of}
 use Rattle.kdb_ports.specs.Parts.{SaidPart}
 use Rattle.kdb_ports.specs.Told.{after_told}
-use Rattle.kprop_rounds.specs.Rounds.{LeavesSome, RoundEnd, round_end, round_text}
+use Rattle.kprop_rounds.specs.Rounds.{IsOfRound, LeavesSome, RoundEnd, round_end, round_text}
 use Rattle.kprop_runs.specs.Lines.{is_refused, round_line}
 use Rattle.replica_core.specs.Opened.{LeavesMade}
 use Rattle.replica_steps.specs.Bridges.{MayBePart}
@@ -87,6 +88,30 @@ pub record StopsIn (name : List ℕ) (size count : ℕ) (s : Stage) (sent : Opti
 abbrev pub StopsBehind : Stage → Option (List (List ℕ)) → Option (List ℕ) → Type 0
 StopsBehind s sent out = (sent ≡ Some s.sent) × SaidPart (done_text (point_in s.place)) s.out out
 
+-- ---- what stands on the disk where it was stopped
+
+-- whatever a crash then leaves stands for this place, or for one of those that are made of it
+pub record StandsFrom (place : Option Place) (made : List Place) (now : View) : Type 0 where
+  pub each : (c : Files) → now.images c → LeavesMade place made c
+
+-- A round with this end was stopped: nothing of its line was written, and the disk has a place of the round; or a front
+-- of its line was, and the disk has the last of them.
+abbrev pub HoldsRound : ℕ → RoundEnd → Stage → Option (List ℕ) → View → Type 0
+HoldsRound number end s out now =
+    ((out ≡ s.out) × StandsFrom s.place end.made now)
+    ⊎ (SaidPart (line_at number end s) s.out out × StandsFrom (place_behind end s) [] now)
+
+-- one of so many rounds was stopped so
+pub record HoldsIn (name : List ℕ) (size count : ℕ) (s : Stage) (out : Option (List ℕ)) (now : View) : Type 0 where
+  pub done : ℕ
+  pub few : done < count
+  pub holds : HoldsRound (suc done) (end_at size (after_rounds name size done s))
+      (after_rounds name size done s) out now
+
+-- or the last line was, with all of them done
+abbrev pub HoldsBehind : Stage → Option (List ℕ) → View → Type 0
+HoldsBehind s out now = SaidPart (done_text (point_in s.place)) s.out out × StandsFrom s.place [] now
+
 -- ---- what a crash leaves
 
 -- the files stand for a place that one of so many rounds begins at or makes
@@ -104,6 +129,7 @@ LeavesRounds name size count s files = LeavesMade s.place [] files ⊎ LeavesIn 
 -- a reply or a dump leads from the one place to the other, or stops there on its way
 pub record MayCome (size : ℕ) (old new : Option Place) : Type 0 where
   pub task : Task
+  pub of_round : IsOfRound task
   pub part : MayBePart old (task_makes size old task) new
 
 -- so many of them do, one after another

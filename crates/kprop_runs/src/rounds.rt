@@ -7,8 +7,8 @@ ghost use Rattle.kdb_disk.specs.Frames.{IsCall, IsCrashSafe};
 ghost use Rattle.kdb_ports.specs.Links.{Wire, first_of};
 ghost use Rattle.kprop_rounds.specs.Rounds.{GivesNoEnd, LeavesSome, round_end};
 ghost use Rattle.kprop_runs.specs.Longs.{AllEnd, GivesTooMuch, StopsLong, StopsLongIn};
-ghost use Rattle.kprop_runs.specs.Stages.{LeavesRounds, LeavesUntold, MayCome, MayLead, StandsAt, StopsIn};
-ghost use Rattle.kprop_runs.specs.Stages.{StopsRound, after_round, after_rounds, end_at, stage_of};
+ghost use Rattle.kprop_runs.specs.Stages.{HoldsIn, HoldsRound, LeavesRounds, LeavesUntold, MayCome, MayLead};
+ghost use Rattle.kprop_runs.specs.Stages.{StandsAt, StopsIn, StopsRound, after_round, after_rounds, end_at, stage_of};
 ghost use Rattle.replica_core.specs.Opened.{IsHeldOn, LeavesMade, is_broken, place_of};
 
 use crate::halts::RunHalt;
@@ -40,6 +40,9 @@ fn turn<L: Link, K: Sink, D: Disk>(
         → OnErr result
         (StopsRound name.now number (round_end replica.old.size (place_of replica.old) (first_of w.to_come))
         (stage_of w (K.taken sink.old) (place_of replica.old) refused) (sent_in (L.wire link.new)) (K.taken sink.new)) }
+    ensures holds { D.tells → (w : Wire) (refused : Bool) → L.wire link.old ≡ Some w
+        → OnErr result (HoldsRound number (round_end replica.old.size (place_of replica.old) (first_of w.to_come))
+        (stage_of w (K.taken sink.old) (place_of replica.old) refused) (K.taken sink.new) (D.view disk.new)) }
     ensures crash { (w : Wire) → L.wire link.old ≡ Some w
         → IsCrashSafe D.Disk disk.old disk.new (LeavesMade (place_of replica.old)
         (round_end replica.old.size (place_of replica.old) (first_of w.to_come)).made) }
@@ -95,6 +98,9 @@ pub(crate) fn all_rounds<L: Link, K: Sink, D: Disk>(
     ensures stopped { (w : Wire) → L.wire link.old ≡ Some w
         → OnErr result (StopsIn name.now replica.old.size count
         (stage_of w (K.taken sink.old) (place_of replica.old) false) (sent_in (L.wire link.new)) (K.taken sink.new)) }
+    ensures holds { D.tells → (w : Wire) → L.wire link.old ≡ Some w
+        → OnErr result (HoldsIn name.now replica.old.size count
+        (stage_of w (K.taken sink.old) (place_of replica.old) false) (K.taken sink.new) (D.view disk.new)) }
     ensures crash { (w : Wire) → L.wire link.old ≡ Some w
         → IsCrashSafe D.Disk disk.old disk.new
         (LeavesRounds name.now replica.old.size count (stage_of w (K.taken sink.old) (place_of replica.old) false)) }

@@ -1,5 +1,5 @@
 //! A replica's run.
-ghost use Rattle.std.specs.Prelude.{◌≡◌, ◌≢◌, Err, IfSome, None, OnOk, Some, false, map};
+ghost use Rattle.std.specs.Prelude.{◌≡◌, ◌≢◌, Err, IfSome, None, OnErr, OnOk, Some, false, map};
 ghost use Rattle.iprop_links.specs.Arriving.{Counts};
 ghost use Rattle.iprop_links.specs.Asking.{sent_in};
 ghost use Rattle.kadm_replies.specs.Refusals.{refusal_text};
@@ -9,7 +9,7 @@ ghost use Rattle.kdb_ports.specs.Links.{Wire};
 ghost use Rattle.kprop_runs.specs.Halts.{OnEnd};
 ghost use Rattle.kprop_runs.specs.Longs.{AllEnd, GivesTooMuch, RunRoundsEnd, RunStopsLong, StopsLongIn};
 ghost use Rattle.kprop_runs.specs.Openings.{opening, opening_by, opens_with};
-ghost use Rattle.kprop_runs.specs.Runs.{HasRefusal, HasRounds, HasRun, IsRefusal, IsRun};
+ghost use Rattle.kprop_runs.specs.Runs.{HasRefusal, HasRounds, HasRun, HoldsRounds, IsRefusal, IsRun};
 ghost use Rattle.kprop_runs.specs.Runs.{RunLeavesSome, StandsFor, first_stage, last_stage};
 ghost use Rattle.kprop_runs.specs.Stages.{LeavesRounds, LeavesUntold};
 ghost use Rattle.kprop_runs.specs.Words.{IsAsked, asked_in};
@@ -42,6 +42,9 @@ fn run_rounds<L: Link, K: Sink, D: Disk>(
     ensures rounds { (w : Wire) → L.wire link.old ≡ Some w
         → HasRounds result asked.now (first_stage w (K.taken sink.old) (place_of replica.old)) (L.wire link.new)
         (K.taken sink.new) }
+    ensures holds { D.tells → (w : Wire) → L.wire link.old ≡ Some w
+        → OnErr result (HoldsRounds asked.now (first_stage w (K.taken sink.old) (place_of replica.old))
+        (K.taken sink.new) (D.view disk.new)) }
     ensures stands { D.tells → (w : Wire) → L.wire link.old ≡ Some w
         → OnOk result (StandsFor (last_stage asked.now (first_stage w (K.taken sink.old) (place_of replica.old))).place
         (D.view disk.new)) }
@@ -149,8 +152,9 @@ fn run_asked<L: Link, K: Sink, D: Disk>(
 /// round's number, its word, and the replica's point after it. The last line is `ok` and the point.
 ///
 /// The status is `Done` where all rounds were done and none was refused, `Refused` where a refusal was written. Where
-/// it was stopped, a front of the bytes was sent and written. A crash at any moment leaves a place of the opening, or
-/// one that a round begins at or makes.
+/// it was stopped, a front of the bytes was sent and written, and where that has some of a round's line, the disk has
+/// the place behind that round. A crash at any moment leaves a place of the opening, or one that a round begins at or
+/// makes.
 pub fn run_replica<L: Link, K: Sink, D: Disk>(
     alloc: Global,
     words: &[Vec<u8>],

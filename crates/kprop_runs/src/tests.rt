@@ -47,13 +47,22 @@ const UPDATES: &[u8] =
 /// The words of a run.
 const WORDS: &str = "replica/one@EXAMPLE.ORG 2 1000";
 
+/// The frames of a dump.
+fn frames_of(alloc: Global, dump: &[u8]) -> Result<Blob, Fail> {
+    let message = Message::DumpText(Blob::from_bytes(alloc, dump)?);
+    Ok(write_message(alloc, &message)?)
+}
+
 /// The reply that the whole database has to be loaded, and this dump behind it.
 fn resync(alloc: Global, dump: &[u8]) -> Result<Blob, Fail> {
-    let message = Message::DumpText(Blob::from_bytes(alloc, dump)?);
-    let frames = write_message(alloc, &message)?;
-    let mut text = RESYNC.to_vec(alloc)?;
-    text.extend_from_slice(frames.as_slice())?;
-    Ok(Blob::from_vec(text))
+    let frames = frames_of(alloc, dump)?;
+    behind_resync(alloc, frames.as_slice())
+}
+
+fn push_given(alloc: Global, gives: &mut VecDeque<Blob>, given: &[u8]) -> Result<(), Fail> {
+    let given = Blob::from_bytes(alloc, given)?;
+    gives.push_back(given)?;
+    Ok(())
 }
 
 /// What the connections of a link give: this first, and then each of the others.
@@ -61,7 +70,7 @@ fn gives_of(alloc: Global, first: Blob, others: &[&[u8]]) -> Result<VecDeque<Blo
     let mut gives = VecDeque::new(alloc);
     gives.push_back(first)?;
     for other in others {
-        gives.push_back(Blob::from_bytes(alloc, other)?)?;
+        push_given(alloc, &mut gives, other)?;
     }
     Ok(gives)
 }
@@ -80,7 +89,34 @@ fn words_of(alloc: Global, line: &str) -> Result<Vec<Vec<u8>>, Fail> {
     Ok(words)
 }
 
+/// Runs on an empty disk: how it ended.
+fn run(
+    alloc: Global,
+    words: &[Vec<u8>],
+    link: &mut MemoryLink,
+    sink: &mut MemorySink,
+) -> Result<Status, Fail> {
+    let mut disk = MemoryDisk::new(alloc, Fails::none(alloc))?;
+    Ok(run_replica(alloc, words, link, sink, &mut disk))
+}
+
 /// Runs on an empty disk, and compares what was written.
+fn check_run(
+    rt: &impl Abort,
+    alloc: Global,
+    words: &[Vec<u8>],
+    link: &mut MemoryLink,
+    status: Status,
+    text: &[u8],
+) -> Result<(), Fail> {
+    let mut sink = MemorySink::new(alloc, Fails::none(alloc))?;
+    let ended = run(alloc, words, link, &mut sink)?;
+    assert_eq!(rt; sink.written(), text);
+    assert_eq!(rt; ended, status);
+    Ok(())
+}
+
+/// The same with the words of this line.
 fn check(
     rt: &impl Abort,
     alloc: Global,
@@ -90,11 +126,15 @@ fn check(
     text: &[u8],
 ) -> Result<(), Fail> {
     let words = words_of(alloc, line)?;
-    let mut sink = MemorySink::new(alloc, Fails::none(alloc))?;
-    let mut disk = MemoryDisk::new(alloc, Fails::none(alloc))?;
-    let ended = run_replica(alloc, &words, link, &mut sink, &mut disk);
-    assert_eq!(rt; sink.written(), text);
-    assert_eq!(rt; ended, status);
+    check_run(rt, alloc, &words, link, status, text)
+}
+
+/// A run over a link that gives this dump, and then that there is nothing new.
+fn check_loaded(rt: &impl Abort, alloc: Global, dump: &[u8], text: &[u8]) -> Result<(), Fail> {
+    let mut link = link_of(alloc, resync(alloc, dump)?, &[NIL])?;
+    check(rt, alloc, WORDS, &mut link, Status::Done, text)?;
+    assert!(rt; link.sent(1).is_some());
+    assert!(rt; link.sent(2).is_none());
     Ok(())
 }
 
@@ -104,25 +144,29 @@ fn a_dump_is_loaded_and_nothing_comes_behind(rt: HostRuntime) -> Result<(), Fail
     let text = b"- round 1 loaded 4 1700000000.000000\n\
 - round 2 nil 4 1700000000.000000\nok 4 1700000000.000000\n";
     for dump in [DUMP, OLD_DUMP] {
-        let mut link = link_of(alloc, resync(alloc, dump)?, &[NIL])?;
-        check(&rt, alloc, WORDS, &mut link, Status::Done, text)?;
-        assert!(rt; link.sent(1).is_some());
-        assert!(rt; link.sent(2).is_none());
+        check_loaded(&rt, alloc, dump, text)?;
     }
     Ok(())
 }
 
-#[test]
-fn what_is_refused_is_told(rt: HostRuntime) -> Result<(), Fail> {
-    let alloc = rt.alloc();
+fn check_bad(rt: &impl Abort, alloc: Global) -> Result<(), Fail> {
     let mut link = link_of(alloc, resync(alloc, BAD)?, &[b"\x00\x00\x00\x00"])?;
     let text = b"- round 1 refused DumpBad 3 0 0.000000\n\
 - round 2 refused BadFrame 0 0.000000\nok 0 0.000000\n";
-    check(&rt, alloc, WORDS, &mut link, Status::Refused, text)?;
+    check(rt, alloc, WORDS, &mut link, Status::Refused, text)
+}
+
+fn check_cut(rt: &impl Abort, alloc: Global) -> Result<(), Fail> {
     let mut link = link_of(alloc, resync(alloc, DUMP)?, &[RESYNC])?;
     let text = b"- round 1 loaded 4 1700000000.000000\n\
 - round 2 cut 4 1700000000.000000\nok 4 1700000000.000000\n";
-    check(&rt, alloc, WORDS, &mut link, Status::Done, text)
+    check(rt, alloc, WORDS, &mut link, Status::Done, text)
+}
+
+#[test]
+fn what_is_refused_is_told(rt: HostRuntime) -> Result<(), Fail> {
+    check_bad(&rt, rt.alloc())?;
+    check_cut(&rt, rt.alloc())
 }
 
 /// The reply that the whole database has to be loaded, and these bytes behind it.
@@ -164,12 +208,25 @@ const FRONTS: [(&[u8], bool, bool); 8] = [
     ),
 ];
 
+/// The front where a reply is due, and where a dump is.
+fn check_front(
+    rt: &impl Abort,
+    alloc: Global,
+    front: &[u8],
+    by_poll: bool,
+    by_asking: bool,
+) -> Result<(), Fail> {
+    let given = Blob::from_bytes(alloc, front)?;
+    check_word(rt, alloc, given, by_poll)?;
+    let given = behind_resync(alloc, front)?;
+    check_word(rt, alloc, given, by_asking)
+}
+
 #[test]
 fn another_message_is_refused_at_its_kind(rt: HostRuntime) -> Result<(), Fail> {
     let alloc = rt.alloc();
     for (front, by_poll, by_asking) in FRONTS {
-        check_word(&rt, alloc, Blob::from_bytes(alloc, front)?, by_poll)?;
-        check_word(&rt, alloc, behind_resync(alloc, front)?, by_asking)?;
+        check_front(&rt, alloc, front, by_poll, by_asking)?;
     }
     Ok(())
 }
@@ -185,42 +242,74 @@ fn updates_are_taken_once(rt: HostRuntime) -> Result<(), Fail> {
     check(&rt, alloc, words, &mut link, Status::Refused, text)
 }
 
-#[test]
-fn a_dump_that_ends_early_loads_nothing(rt: HostRuntime) -> Result<(), Fail> {
-    let alloc = rt.alloc();
+/// The first bytes of the reply with a dump.
+fn cut_dump(rt: &impl Abort, alloc: Global) -> Result<Option<Blob>, Fail> {
     let whole = resync(alloc, DUMP)?;
     let part = whole.as_slice().first_chunk::<60>();
     assert!(rt; part.is_some());
-    let Some(part) = part else { return Ok(()) };
-    let mut link = link_of(alloc, Blob::from_bytes(alloc, part)?, &[NIL])?;
+    let Some(part) = part else { return Ok(None) };
+    Ok(Some(Blob::from_bytes(alloc, part)?))
+}
+
+#[test]
+fn a_dump_that_ends_early_loads_nothing(rt: HostRuntime) -> Result<(), Fail> {
+    let alloc = rt.alloc();
+    let Some(part) = cut_dump(&rt, alloc)? else {
+        return Ok(());
+    };
+    let mut link = link_of(alloc, part, &[NIL])?;
     let text = b"- round 1 cut 0 0.000000\n\
 - round 2 refused WrongPoint 0 0.000000\nok 0 0.000000\n";
     check(&rt, alloc, WORDS, &mut link, Status::Refused, text)
 }
 
+/// A link that gives a dump and then nothing new, and of which this call fails.
+fn failing_link(alloc: Global, call: u64) -> Result<MemoryLink, Fail> {
+    let fails = Fails::from_vec([call].to_vec(alloc)?);
+    let gives = gives_of(alloc, resync(alloc, DUMP)?, &[NIL])?;
+    Ok(MemoryLink::new(alloc, gives, fails)?)
+}
+
+/// A run of which this call of the link fails.
+fn check_failing(rt: &impl Abort, alloc: Global, words: &[Vec<u8>], call: u64) -> Result<(), Fail> {
+    let whole = b"- round 1 loaded 4 1700000000.000000\n\
+- round 2 nil 4 1700000000.000000\nok 4 1700000000.000000\n";
+    let mut link = failing_link(alloc, call)?;
+    let mut sink = MemorySink::new(alloc, Fails::none(alloc))?;
+    let ended = run(alloc, words, &mut link, &mut sink)?;
+    assert!(rt; whole.starts_with(sink.written()));
+    let awaited = if call < 9 {
+        Status::LinkFault
+    } else {
+        Status::Done
+    };
+    assert_eq!(rt; ended, awaited);
+    Ok(())
+}
+
 #[test]
 fn a_call_of_the_link_that_fails_ends_the_run(rt: HostRuntime) -> Result<(), Fail> {
     let alloc = rt.alloc();
-    let whole = b"- round 1 loaded 4 1700000000.000000\n\
-- round 2 nil 4 1700000000.000000\nok 4 1700000000.000000\n";
     let words = words_of(alloc, WORDS)?;
     // Two rounds make nine calls, of which one each receives: the dump came with the reply that asks for it.
     for call in 0..12 {
-        let gives = gives_of(alloc, resync(alloc, DUMP)?, &[NIL])?;
-        let mut fails = Vec::new(alloc);
-        fails.push(call)?;
-        let mut link = MemoryLink::new(alloc, gives, Fails::from_vec(fails))?;
-        let mut sink = MemorySink::new(alloc, Fails::none(alloc))?;
-        let mut disk = MemoryDisk::new(alloc, Fails::none(alloc))?;
-        let ended = run_replica(alloc, &words, &mut link, &mut sink, &mut disk);
-        assert!(rt; whole.starts_with(sink.written()));
-        let awaited = if call < 9 {
-            Status::LinkFault
-        } else {
-            Status::Done
-        };
-        assert_eq!(rt; ended, awaited);
+        check_failing(&rt, alloc, &words, call)?;
     }
+    Ok(())
+}
+
+/// A run with the words of this line asks nothing.
+fn check_refused(rt: &impl Abort, alloc: Global, line: &str) -> Result<(), Fail> {
+    let mut link = link_of(alloc, resync(alloc, DUMP)?, &[NIL])?;
+    check(
+        rt,
+        alloc,
+        line,
+        &mut link,
+        Status::Refused,
+        b"err 1 BadLine\n",
+    )?;
+    assert!(rt; link.sent(0).is_none());
     Ok(())
 }
 
@@ -236,16 +325,7 @@ fn other_words_are_refused(rt: HostRuntime) -> Result<(), Fail> {
         "replica/one@EXAMPLE.ORG 2 10001",
         "replica/one@EXAMPLE.ORG -1 1000",
     ] {
-        let mut link = link_of(alloc, resync(alloc, DUMP)?, &[NIL])?;
-        check(
-            &rt,
-            alloc,
-            line,
-            &mut link,
-            Status::Refused,
-            b"err 1 BadLine\n",
-        )?;
-        assert!(rt; link.sent(0).is_none());
+        check_refused(&rt, alloc, line)?;
     }
     Ok(())
 }

@@ -8,7 +8,7 @@ use kdb_ports::WriterSink;
 use princ_record::encode;
 use std::alloc::Global;
 use std::io::{Read, Write};
-use std::time::CpuClock;
+use std::time::{CpuClock, Duration};
 
 /// Rows of the dump.
 const ROWS: u32 = 50_000;
@@ -52,17 +52,30 @@ fn read(alloc: Global, text: &[u8]) -> Result<Dump> {
     Ok(reader.finish()?)
 }
 
-/// Prints all figures of dumps.
-pub fn report<R: CpuClock + Print>(rt: &R, alloc: Global) -> Result<()> {
-    println!(rt; "a dump of principals with two keys")?;
+/// The dump of the sample.
+fn sample_text(alloc: Global) -> Result<Vec<u8>> {
     let princ = records::sample(alloc)?;
     let row = encode(alloc, &princ)?;
-    let text = dump_of(alloc, row.as_slice())?;
+    dump_of(alloc, row.as_slice())
+}
+
+/// Prints how many rows went by in a second since `start`.
+fn print_since<R: CpuClock + Print>(rt: &R, name: &str, start: Duration) -> Result<()> {
+    print_rate(rt, name, ROWS, seconds_since(rt, start)?)?;
+    Ok(())
+}
+
+/// Reads the dump, and prints how fast.
+fn time_reading<R: CpuClock + Print>(rt: &R, alloc: Global, text: &[u8]) -> Result<Dump> {
     let start = rt.process_cpu_time()?;
-    let dump = read(alloc, &text)?;
-    print_rate(rt, "  read", ROWS, seconds_since(rt, start)?)?;
+    let dump = read(alloc, text)?;
+    print_since(rt, "  read", start)?;
+    Ok(dump)
+}
+
+/// The text of a dump.
+fn written(alloc: Global, dump: &Dump) -> Result<Vec<u8>> {
     let mut sink = WriterSink::new(Vec::new(alloc));
-    let start = rt.process_cpu_time()?;
     write_dump(
         alloc,
         dump.realm.as_slice(),
@@ -70,11 +83,32 @@ pub fn report<R: CpuClock + Print>(rt: &R, alloc: Global) -> Result<()> {
         &dump.rows,
         &mut sink,
     )?;
-    print_rate(rt, "  write", ROWS, seconds_since(rt, start)?)?;
-    if sink.into_writer() != text {
+    Ok(sink.into_writer())
+}
+
+/// Writes the dump, and prints how fast.
+fn time_writing<R: CpuClock + Print>(rt: &R, alloc: Global, dump: &Dump) -> Result<Vec<u8>> {
+    let start = rt.process_cpu_time()?;
+    let text = written(alloc, dump)?;
+    print_since(rt, "  write", start)?;
+    Ok(text)
+}
+
+/// Reads and writes the dump.
+fn time_both<R: CpuClock + Print>(rt: &R, alloc: Global, text: &[u8]) -> Result<()> {
+    let dump = time_reading(rt, alloc, text)?;
+    let again = time_writing(rt, alloc, &dump)?;
+    if again.as_slice() != text {
         println!(rt; "  what was written is not what was read")?;
     }
     Ok(())
+}
+
+/// Prints all figures of dumps.
+pub fn report<R: CpuClock + Print>(rt: &R, alloc: Global) -> Result<()> {
+    println!(rt; "a dump of principals with two keys")?;
+    let text = sample_text(alloc)?;
+    time_both(rt, alloc, &text)
 }
 
 /// Reads a dump from the input, and prints how many rows are then in memory. A run takes the memory of these rows, the

@@ -78,16 +78,27 @@ fn decode_again(alloc: Global, bytes: &[u8], turns: u32) {
     }
 }
 
+fn time_encoding<R: CpuClock + Print>(rt: &R, alloc: Global, princ: &Princ) -> Result<()>
+    requires { IsPrinc princ.now }
+{
+    let start = rt.process_cpu_time()?;
+    encode_again(alloc, princ, ROWS);
+    print_rate(rt, "  encode", ROWS, seconds_since(rt, start)?)?;
+    Ok(())
+}
+
+fn time_decoding<R: CpuClock + Print>(rt: &R, alloc: Global, bytes: &[u8]) -> Result<()> {
+    let start = rt.process_cpu_time()?;
+    decode_again(alloc, bytes, ROWS);
+    print_rate(rt, "  decode", ROWS, seconds_since(rt, start)?)?;
+    Ok(())
+}
+
 /// Prints all figures of the records.
 pub fn report<R: CpuClock + Print>(rt: &R, alloc: Global) -> Result<()> {
     println!(rt; "a principal with two keys")?;
     let princ = sample(alloc)?;
-    let start = rt.process_cpu_time()?;
-    encode_again(alloc, &princ, ROWS);
-    print_rate(rt, "  encode", ROWS, seconds_since(rt, start)?)?;
+    time_encoding(rt, alloc, &princ)?;
     let bytes = encode(alloc, &princ)?;
-    let start = rt.process_cpu_time()?;
-    decode_again(alloc, bytes.as_slice(), ROWS);
-    print_rate(rt, "  decode", ROWS, seconds_since(rt, start)?)?;
-    Ok(())
+    time_decoding(rt, alloc, bytes.as_slice())
 }

@@ -12,8 +12,6 @@ use sha1::Sha1;
 mod hashes;
 mod keyed;
 mod rounds;
-#[cfg(test)]
-mod tests;
 
 pub use hashes::BlockHash;
 pub use keyed::Keyed;

@@ -7,8 +7,6 @@ mod derivation;
 mod folding;
 mod laws;
 mod sha1_keys;
-#[cfg(test)]
-mod tests;
 mod usages;
 
 pub use derivation::{derive, string_to_key};

@@ -10,21 +10,36 @@ use std::alloc::Global;
 use std::process::Abort;
 use std::test::Fail;
 
+fn is_added(reply: &Reply) -> bool {
+    match reply {
+        Reply::MasterAdded(_, _) => true,
+        _ => false,
+    }
+}
+
 /// Adds a version of this type.
 fn add(alloc: Global, database: &mut Database, etype: Etype) -> Result<(), Fail> {
-    match answered(alloc, database, None, Asked::Add(Some(etype)), CREATED)? {
-        Reply::MasterAdded(_, _) => Ok(()),
-        _ => Err(Fail::from("a version")),
+    let reply = answered(alloc, database, None, Asked::Add(Some(etype)), CREATED)?;
+    if is_added(&reply) {
+        Ok(())
+    } else {
+        Err(Fail::from("a version"))
     }
+}
+
+/// Adds 31 versions, of these types in turn.
+fn add_all(alloc: Global, database: &mut Database, types: &[Etype]) -> Result<(), Fail> {
+    for at in 0..31 {
+        let etype = types.get(at % 4).ok_or("a type")?;
+        add(alloc, database, *etype)?;
+    }
+    Ok(())
 }
 
 /// A database with 32 versions, the first of AES-256 and the others of these types in turn.
 fn filled(alloc: Global, types: &[Etype]) -> Result<Database, Fail> {
     let mut database = created(alloc)?;
-    for at in 0..31 {
-        let etype = types.get(at % 4).ok_or("a type")?;
-        add(alloc, &mut database, *etype)?;
-    }
+    add_all(alloc, &mut database, types)?;
     Ok(database)
 }
 
@@ -43,18 +58,16 @@ const FULL: [Turn; 1] = [(Asked::Add(None), CREATED, "err 15 TooManyMasters 32\n
 /// A denial is told before that.
 const FULL_AND_DENIED: [Turn; 1] = [(Asked::Add(None), CREATED, "err 7 Denied 0\n")];
 
+fn check_denied(rt: &impl Abort, alloc: Global, database: &mut Database) -> Result<(), Fail> {
+    let denies = access(alloc, b"joe *\n")?;
+    check_turns(rt, alloc, database, Some(&denies), &FULL_AND_DENIED)
+}
+
 #[test]
 fn thirty_two_versions_are_the_most(rt: HostRuntime) -> Result<(), Fail> {
     let mut database = filled(rt.alloc(), &OF_ONE_TYPE)?;
     check_turns(&rt, rt.alloc(), &mut database, None, &FULL)?;
-    let denies = access(rt.alloc(), b"joe *\n")?;
-    check_turns(
-        &rt,
-        rt.alloc(),
-        &mut database,
-        Some(&denies),
-        &FULL_AND_DENIED,
-    )
+    check_denied(&rt, rt.alloc(), &mut database)
 }
 
 /// 32 keys under the newest, which is of a type with tags of 24 bytes, and that one under each of the others.
@@ -79,12 +92,16 @@ fn check_opening(
     Ok(())
 }
 
+fn check_openings(rt: &impl Abort, alloc: Global, database: &Database) -> Result<(), Fail> {
+    assert_eq!(rt; database.masters.as_slice().len(), 32);
+    for master in database.masters.as_slice() {
+        check_opening(rt, alloc, database, master)?;
+    }
+    Ok(())
+}
+
 #[test]
 fn each_of_thirty_two_versions_opens_all(rt: HostRuntime) -> Result<(), Fail> {
     let database = filled(rt.alloc(), &OF_ALL_TYPES)?;
-    assert_eq!(rt; database.masters.as_slice().len(), 32);
-    for master in database.masters.as_slice() {
-        check_opening(&rt, rt.alloc(), &database, master)?;
-    }
-    Ok(())
+    check_openings(&rt, rt.alloc(), &database)
 }

@@ -63,7 +63,8 @@ fn realm(alloc: Global) -> Result<Realm, Fail> {
 
 /// A database with K/M, kadmin/history and krbtgt, under one master key. Their keys are made of these random bytes.
 fn created_of(alloc: Global, random: &[u8; 2048]) -> Result<Database, Fail> {
-    let spec = CreateSpec::new(realm(alloc)?, None, Etype::Aes256, 1000);
+    let realm = realm(alloc)?;
+    let spec = CreateSpec::new(realm, None, Etype::Aes256, 1000);
     let (rows, masters) = first_rows(alloc, &spec, Time::new(CREATED, 0), random)?;
     Ok(Database {
         rows,
@@ -237,6 +238,19 @@ pub(crate) fn check_reply(
     Ok(())
 }
 
+/// Gives the command, and compares what is answered.
+fn check_turn(
+    rt: &impl Abort,
+    alloc: Global,
+    database: &mut Database,
+    acl: Option<&Acl>,
+    turn: &Turn,
+) -> Result<(), Fail> {
+    let (asked, secs, wanted) = turn;
+    let reply = answered(alloc, database, acl, *asked, *secs)?;
+    check_reply(rt, alloc, &reply, wanted)
+}
+
 /// Gives the commands one after another, and compares what is answered.
 pub(crate) fn check_turns(
     rt: &impl Abort,
@@ -245,9 +259,8 @@ pub(crate) fn check_turns(
     acl: Option<&Acl>,
     turns: &[Turn],
 ) -> Result<(), Fail> {
-    for (asked, secs, wanted) in turns {
-        let reply = answered(alloc, database, acl, *asked, *secs)?;
-        check_reply(rt, alloc, &reply, wanted)?;
+    for turn in turns {
+        check_turn(rt, alloc, database, acl, turn)?;
     }
     Ok(())
 }

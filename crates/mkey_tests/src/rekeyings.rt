@@ -130,6 +130,12 @@ fn moved_all(alloc: Global, database: &mut Database, active: u16) -> Result<Tota
     })
 }
 
+/// Compares what is told of the moves.
+fn check_totals(rt: &impl Abort, alloc: Global, totals: Totals, wanted: &str) -> Result<(), Fail> {
+    let reply = Reply::Rekeyed(totals);
+    check_reply(rt, alloc, &reply, wanted)
+}
+
 /// Moves them under version 3, and compares what is told.
 fn check_moves(
     rt: &impl Abort,
@@ -138,7 +144,7 @@ fn check_moves(
     wanted: &str,
 ) -> Result<(), Fail> {
     let totals = moved_all(alloc, database, 3)?;
-    check_reply(rt, alloc, &Reply::Rekeyed(totals), wanted)
+    check_totals(rt, alloc, totals, wanted)
 }
 
 const MOVED: &str = "ok 2 principals processed: 2 updated, 0 already current, 0 gone\n";
@@ -160,15 +166,20 @@ fn records_are_moved_once(rt: HostRuntime) -> Result<(), Fail> {
     check_lengths(&rt, &database, 2, &[62, 46])
 }
 
+/// Moves them under version 2, and compares how long their keys are.
+fn check_tags(rt: &impl Abort, alloc: Global, database: &mut Database) -> Result<(), Fail> {
+    let totals = moved_all(alloc, database, 2)?;
+    check_totals(rt, alloc, totals, MOVED)?;
+    check_lengths(rt, database, 1, &[66])?;
+    check_lengths(rt, database, 2, &[66, 50])
+}
+
 /// Under a master key of aes128-cts-hmac-sha256-128 the tag has 16 bytes: a key of 32 bytes has 66, and one of 16 has
 /// 50.
 #[test]
 fn tag_is_that_of_the_other_type(rt: HostRuntime) -> Result<(), Fail> {
     let mut database = check_created(&rt, rt.alloc(), &OF_TWO_TYPES)?;
-    let totals = moved_all(rt.alloc(), &mut database, 2)?;
-    check_reply(&rt, rt.alloc(), &Reply::Rekeyed(totals), MOVED)?;
-    check_lengths(&rt, &database, 1, &[66])?;
-    check_lengths(&rt, &database, 2, &[66, 50])
+    check_tags(&rt, rt.alloc(), &mut database)
 }
 
 /// Once no record is under versions 1 and 2, they go with their activations.
@@ -206,6 +217,15 @@ enum Became {
     SameRecord(Option<u16>),
 }
 
+/// What became of work where this record was found, and that one stands by its name now.
+fn outcome_where(found: &Princ, now: Option<&Princ>, version: Option<u16>) -> Became {
+    if now == Some(found) {
+        Became::AnotherRecord(version)
+    } else {
+        Became::StrangeRecord
+    }
+}
+
 /// What became of work, where this record stands by its name now.
 fn outcome_of(settled: &Settled, now: Option<&Princ>) -> Became {
     match settled {
@@ -213,13 +233,7 @@ fn outcome_of(settled: &Settled, now: Option<&Princ>) -> Became {
         Settled::Already => Became::Already,
         Settled::Gone => Became::Gone,
         Settled::Changed(None, version) => Became::SameRecord(*version),
-        Settled::Changed(Some(found), version) => {
-            if now == Some(found) {
-                Became::AnotherRecord(*version)
-            } else {
-                Became::StrangeRecord
-            }
-        }
+        Settled::Changed(Some(found), version) => outcome_where(found, now, *version),
     }
 }
 
@@ -247,18 +261,39 @@ fn work_on_a_name_that_is_gone_is_not_stored(rt: HostRuntime) -> Result<(), Fail
     Ok(())
 }
 
+/// What becomes of work on krbtgt's record, which stands as it was taken, where these are the master keys and this
+/// version is active.
+fn check_settled(
+    rt: &impl Abort,
+    alloc: Global,
+    database: &Database,
+    masters: &Masters,
+    active: u16,
+    wanted: Became,
+) -> Result<(), Fail> {
+    let now = stored(&database.rows, 2)?;
+    let became = settled(alloc, database, Some(now), masters, active)?;
+    assert_eq!(rt; became, wanted);
+    Ok(())
+}
+
 #[test]
 fn work_is_stored_under_the_active_version_alone(rt: HostRuntime) -> Result<(), Fail> {
     let database = check_created(&rt, rt.alloc(), &ADDED)?;
-    let now = stored(&database.rows, 2)?;
     let cases = [
         (3, Became::Updated(3)),
         (2, Became::SameRecord(Some(2))),
         (1, Became::SameRecord(Some(1))),
     ];
     for (active, wanted) in cases {
-        let became = settled(rt.alloc(), &database, Some(now), &database.masters, active)?;
-        assert_eq!(rt; became, wanted);
+        check_settled(
+            &rt,
+            rt.alloc(),
+            &database,
+            &database.masters,
+            active,
+            wanted,
+        )?;
     }
     Ok(())
 }
@@ -286,9 +321,26 @@ const WITH_OTHER_KEYS: [Turn; 3] = [
 fn work_under_another_master_key_is_not_stored(rt: HostRuntime) -> Result<(), Fail> {
     let database = check_created(&rt, rt.alloc(), &ADDED)?;
     let other = check_created(&rt, rt.alloc(), &WITH_OTHER_KEYS)?;
+    check_settled(
+        &rt,
+        rt.alloc(),
+        &database,
+        &other.masters,
+        3,
+        Became::SameRecord(None),
+    )
+}
+
+/// What becomes of work on krbtgt's record of one database, where that of another one stands.
+fn check_over_newer(
+    rt: &impl Abort,
+    alloc: Global,
+    taken_from: &Database,
+    database: &Database,
+) -> Result<(), Fail> {
     let now = stored(&database.rows, 2)?;
-    let became = settled(rt.alloc(), &database, Some(now), &other.masters, 3)?;
-    assert_eq!(rt; became, Became::SameRecord(None));
+    let became = settled(alloc, taken_from, Some(now), &database.masters, 3)?;
+    assert_eq!(rt; became, Became::AnotherRecord(None));
     Ok(())
 }
 
@@ -297,9 +349,7 @@ fn work_under_another_master_key_is_not_stored(rt: HostRuntime) -> Result<(), Fa
 fn work_over_a_newer_record_is_not_stored(rt: HostRuntime) -> Result<(), Fail> {
     let taken_from = check_created(&rt, rt.alloc(), &ADDED)?;
     let mut database = rekeyed(&rt, rt.alloc())?;
-    let now = stored(&database.rows, 2)?;
-    let became = settled(rt.alloc(), &taken_from, Some(now), &database.masters, 3)?;
-    assert_eq!(rt; became, Became::AnotherRecord(None));
+    check_over_newer(&rt, rt.alloc(), &taken_from, &database)?;
     assert!(rt; !moved(rt.alloc(), &mut database, 2, 3)?);
     Ok(())
 }
@@ -329,6 +379,12 @@ fn keys_at(alloc: Global, database: &Database, at: usize) -> Result<Vec<PlainKey
     Ok(open_keys(alloc, &MasterKey::new(&master), items)?)
 }
 
+/// What became of work on krbtgt's record.
+fn outcome_at(database: &Database, settled: &Settled) -> Result<Became, Fail> {
+    let now = stored(&database.rows, 2)?;
+    Ok(outcome_of(settled, Some(now)))
+}
+
 /// Takes krbtgt's record to move it under version 3, and tells what becomes of the work where this record was stored in
 /// place of it meanwhile.
 fn settled_behind(alloc: Global, database: &mut Database, newer: &Princ) -> Result<Became, Fail>
@@ -337,8 +393,34 @@ fn settled_behind(alloc: Global, database: &mut Database, newer: &Princ) -> Resu
     let work = work(alloc, database, 2, 3)?.ok_or("work")?;
     replaced(alloc, database, newer)?;
     let settled = settled_at(alloc, database, 2, 3, work)?;
-    let now = stored(&database.rows, 2)?;
-    Ok(outcome_of(&settled, Some(now)))
+    outcome_at(database, &settled)
+}
+
+/// The keys of krbtgt's record are others than before.
+fn check_other_keys(
+    rt: &impl Abort,
+    alloc: Global,
+    database: &Database,
+    before: &[PlainKey],
+) -> Result<(), Fail> {
+    let behind = keys_at(alloc, database, 2)?;
+    assert!(rt; before != behind.as_slice());
+    Ok(())
+}
+
+/// What becomes of work where this record was stored meanwhile, and which keys stand then.
+fn check_behind(
+    rt: &impl Abort,
+    alloc: Global,
+    database: &mut Database,
+    newer: &Princ,
+) -> Result<(), Fail>
+    requires { IsPrinc newer.now }
+{
+    let before = keys_at(alloc, database, 2)?;
+    let became = settled_behind(alloc, database, newer)?;
+    assert_eq!(rt; became, Became::AnotherRecord(None));
+    check_other_keys(rt, alloc, database, &before)
 }
 
 /// A record whose keys were changed meanwhile stays as it is, and is told in place of the one that was taken. There is
@@ -347,11 +429,7 @@ fn settled_behind(alloc: Global, database: &mut Database, newer: &Princ) -> Resu
 fn work_over_other_keys_is_not_stored(rt: HostRuntime) -> Result<(), Fail> {
     let mut database = check_created(&rt, rt.alloc(), &ADDED)?;
     let other = newer(&rt, rt.alloc())?;
-    let before = keys_at(rt.alloc(), &database, 2)?;
-    let became = settled_behind(rt.alloc(), &mut database, stored(&other.rows, 2)?)?;
-    assert_eq!(rt; became, Became::AnotherRecord(None));
-    let behind = keys_at(rt.alloc(), &database, 2)?;
-    assert!(rt; before.as_slice() != behind.as_slice());
+    check_behind(&rt, rt.alloc(), &mut database, stored(&other.rows, 2)?)?;
     assert!(rt; !moved(rt.alloc(), &mut database, 2, 3)?);
     Ok(())
 }

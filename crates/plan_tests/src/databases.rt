@@ -6,6 +6,7 @@ ghost use Rattle.kadm_commands.specs.Commands.{IsCommand};
 ghost use Rattle.kadm_plan.specs.Ready.{is_planned};
 ghost use Rattle.kdb_model.specs.Steps.{is_one_step};
 ghost use Rattle.plan_tests.specs.Steady.{MayBePut};
+ghost use Rattle.princ_name.specs.Realms.{IsRealm};
 
 use crate::masters::{answer_of_masters, is_master_command};
 use crate::opening::SECS;
@@ -13,10 +14,10 @@ use crate::plain::{Plain, block};
 use acl_text::Acl;
 use first_rows::{CreateSpec, first_rows};
 use kadm_commands::{Command, Reply};
-use kadm_plan::{Planned, View, plan, prepare};
+use kadm_plan::{Planned, Ready, View, plan, prepare};
 use kadm_replies::print_reply;
 use kadm_wire::parse_line;
-use kdb_base::{Etype, Masters, Point, Refusal, Stop, Time};
+use kdb_base::{Etype, Masters, MemoryOut, Point, Refusal, Stop, Time};
 use kdb_places::laws::what_may_be_applied;
 use princ_name::{Name, Realm, is_realm, parse_name};
 use princ_rows::{Op, Rows};
@@ -60,12 +61,29 @@ fn realm(alloc: Global) -> Result<Realm, Fail> {
     Ok(Realm::from_bytes(alloc, REALM)?)
 }
 
-/// A database with K/M, kadmin/history and krbtgt.
-pub(crate) fn created(alloc: Global) -> Result<Database, Fail> {
-    let realm = realm(alloc)?;
-    let spec = CreateSpec::new(realm, None, Etype::Aes256, 1000);
-    let (rows, masters) = first_rows(alloc, &spec, Time::new(SECS, 0), &block(0))?;
-    let plain = Plain::open(alloc, &rows, &masters, spec.realm())?;
+// Each of the next three drops a value by a call of the library, so that no caller is proved with
+// all that it may own.
+
+pub(crate) fn let_go_of_command(command: Command) {
+    let held: Result<Command, MemoryOut> = Ok(command);
+    let _ = held.err();
+}
+
+pub(crate) fn let_go_of_reply(reply: Option<Reply>) {
+    let held: Result<Option<Reply>, MemoryOut> = Ok(reply);
+    let _ = held.err();
+}
+
+fn let_go_of_ready(ready: Ready) {
+    let held: Result<Ready, MemoryOut> = Ok(ready);
+    let _ = held.err();
+}
+
+/// The rows, and the plain state that they show.
+fn opened(alloc: Global, rows: Rows, masters: Masters, realm: &[u8]) -> Result<Database, Fail>
+    requires { IsRealm realm.now }
+{
+    let plain = Plain::open(alloc, &rows, &masters, realm)?;
     Ok(Database {
         rows,
         masters,
@@ -74,11 +92,25 @@ pub(crate) fn created(alloc: Global) -> Result<Database, Fail> {
     })
 }
 
+/// A database with K/M, kadmin/history and krbtgt.
+pub(crate) fn created(alloc: Global) -> Result<Database, Fail> {
+    let realm = realm(alloc)?;
+    let spec = CreateSpec::new(realm, None, Etype::Aes256, 1000);
+    let (rows, masters) = first_rows(alloc, &spec, Time::new(SECS, 0), &block(0))?;
+    opened(alloc, rows, masters, spec.realm())
+}
+
+fn open_plain(alloc: Global, database: &mut Database, realm: &[u8]) -> Result<(), Fail>
+    requires { IsRealm realm.now }
+{
+    database.plain = Plain::open(alloc, &database.rows, &database.masters, realm)?;
+    Ok(())
+}
+
 /// Has the plain state be the one that the rows show, at the point of the creation.
 pub(crate) fn reopen(alloc: Global, database: &mut Database) -> Result<(), Fail> {
     let realm = realm(alloc)?;
-    database.plain = Plain::open(alloc, &database.rows, &database.masters, realm.as_slice())?;
-    Ok(())
+    open_plain(alloc, database, realm.as_slice())
 }
 
 // ---- the rows
@@ -121,7 +153,9 @@ fn planned(
     };
     let ready = prepare(alloc, command, realm)?;
     let random = block(state.point.sno);
-    Ok(plan(alloc, &ready, &view, client, acl, moment, &random))
+    let planned = plan(alloc, &ready, &view, client, acl, moment, &random);
+    let_go_of_ready(ready);
+    Ok(planned)
 }
 
 /// Makes the change of the rows.
@@ -242,6 +276,24 @@ fn is_one_step(command: &Command) -> bool
     }
 }
 
+/// What the model answers to a command of one step. The change is made in the plain state.
+fn answer_of_state(
+    alloc: Global,
+    database: &mut Database,
+    client: &Name,
+    acl: Option<&Acl>,
+    command: &Command,
+) -> Result<Reply, Fail>
+    requires command { IsCommand database.old.plain.realm command.now }
+    requires one { is_one_step command.now ≡ true }
+{
+    let (plain, reply) = database
+        .plain
+        .step(alloc, client, acl, command, database.secs)?;
+    database.plain = plain;
+    Ok(reply)
+}
+
 /// What is answered over the rows, where no file decides the line, and what the model answers. The change is made on
 /// both sides.
 fn answers(
@@ -257,11 +309,13 @@ fn answers(
         return Err(Fail::from("a line of one step"));
     }
     let of_rows = answer_of_rows(alloc, database, client, acl, command)?;
-    let (plain, of_state) = database
-        .plain
-        .step(alloc, client, acl, command, database.secs)?;
-    database.plain = plain;
-    Ok((of_rows, of_state))
+    match answer_of_state(alloc, database, client, acl, command) {
+        Ok(of_state) => Ok((of_rows, of_state)),
+        Err(fail) => {
+            let_go_of_reply(of_rows);
+            Err(fail)
+        }
+    }
 }
 
 /// What the line says.
@@ -291,7 +345,15 @@ pub(crate) fn command_of(alloc: Global, line: &[u8], plain: &Plain) -> Result<Co
 
 // ---- tables
 
-/// Compares the text of a reply.
+/// Compares the text of a reply, which ends with a line feed.
+fn check_text(rt: &impl Abort, text: &[u8], line: &[u8], wanted: &str) -> Result<(), Fail> {
+    let Some(said) = text.strip_suffix(b"\n") else {
+        return Err(Fail::from("a line feed"));
+    };
+    assert_eq!(rt; said, wanted.as_bytes(), "{line:?}");
+    Ok(())
+}
+
 fn check_reply(
     rt: &impl Abort,
     alloc: Global,
@@ -299,12 +361,36 @@ fn check_reply(
     line: &[u8],
     wanted: &str,
 ) -> Result<(), Fail> {
-    let said = print_reply(alloc, reply)?;
-    let Some(said) = said.as_slice().strip_suffix(b"\n") else {
-        return Err(Fail::from("a line feed"));
-    };
-    assert_eq!(rt; said, wanted.as_bytes(), "{line:?}");
-    Ok(())
+    let text = print_reply(alloc, reply)?;
+    check_text(rt, text.as_slice(), line, wanted)
+}
+
+fn check_refusal(
+    rt: &impl Abort,
+    alloc: Global,
+    why: Refusal,
+    line: &[u8],
+    wanted: &str,
+) -> Result<(), Fail> {
+    let reply = Reply::Refused(why);
+    let checked = check_reply(rt, alloc, &reply, line, wanted);
+    let_go_of_reply(Some(reply));
+    checked
+}
+
+/// Compares both replies, the one over the rows where no file decides the line.
+fn check_replies(
+    rt: &impl Abort,
+    alloc: Global,
+    of_rows: &Option<Reply>,
+    of_state: &Reply,
+    line: &[u8],
+    wanted: &str,
+) -> Result<(), Fail> {
+    if let Some(reply) = of_rows {
+        check_reply(rt, alloc, reply, line, wanted)?;
+    }
+    check_reply(rt, alloc, of_state, line, wanted)
 }
 
 /// Performs the command on both sides, and compares both replies.
@@ -321,10 +407,14 @@ fn check_command(
     requires { IsCommand database.old.plain.realm command.now }
 {
     let (of_rows, of_state) = answers(alloc, database, client, acl, command)?;
-    if let Some(reply) = &of_rows {
-        check_reply(rt, alloc, reply, line, wanted)?;
-    }
-    check_reply(rt, alloc, &of_state, line, wanted)
+    let checked = check_replies(rt, alloc, &of_rows, &of_state, line, wanted);
+    let_go_of_reply(of_rows);
+    let_go_of_reply(Some(of_state));
+    checked
+}
+
+fn check_nothing(rt: &impl Abort, wanted: &str) {
+    assert_eq!(rt; wanted, "");
 }
 
 /// Gives a line, and compares what is answered on both sides.
@@ -339,13 +429,15 @@ pub(crate) fn check_line(
 ) -> Result<(), Fail> {
     match read(alloc, line, &database.plain)? {
         Ok(Some(command)) => {
-            check_command(rt, alloc, database, client, acl, &command, line, wanted)
+            let checked = check_command(rt, alloc, database, client, acl, &command, line, wanted);
+            let_go_of_command(command);
+            checked
         }
         Ok(None) => {
-            assert_eq!(rt; wanted, "");
+            check_nothing(rt, wanted);
             Ok(())
         }
-        Err(why) => check_reply(rt, alloc, &Reply::Refused(why), line, wanted),
+        Err(why) => check_refusal(rt, alloc, why, line, wanted),
     }
 }
 
@@ -414,6 +506,12 @@ pub(crate) fn check_turns(
     Ok(())
 }
 
+/// Gives these lines over a new database, which nothing more is asked of.
+pub(crate) fn check_session(rt: &impl Abort, alloc: Global, turns: &[Turn]) -> Result<(), Fail> {
+    let mut database = created(alloc)?;
+    check_turns(rt, alloc, &mut database, turns)
+}
+
 /// Gives these lines over a new database.
 pub(crate) fn check_created(
     rt: &impl Abort,
@@ -440,6 +538,35 @@ fn are_accepted(
     Ok(wanted.as_slice().starts_with(b"ok "))
 }
 
+fn is_command_accepted(
+    rt: &impl Abort,
+    alloc: Global,
+    database: &mut Database,
+    client: &Name,
+    command: &Command,
+) -> Result<bool, Fail>
+    requires { IsCommand database.old.plain.realm command.now }
+{
+    let (of_rows, of_state) = answers(alloc, database, client, None, command)?;
+    let accepted = are_accepted(rt, alloc, &of_rows, &of_state);
+    let_go_of_reply(of_rows);
+    let_go_of_reply(Some(of_state));
+    accepted
+}
+
+fn is_line_accepted(
+    rt: &impl Abort,
+    alloc: Global,
+    database: &mut Database,
+    client: &Name,
+    line: &[u8],
+) -> Result<bool, Fail> {
+    let command = command_of(alloc, line, &database.plain)?;
+    let accepted = is_command_accepted(rt, alloc, database, client, &command);
+    let_go_of_command(command);
+    accepted
+}
+
 /// Whether a line of the administrator of the machine is accepted, on both sides alike.
 pub(crate) fn is_accepted(
     rt: &impl Abort,
@@ -448,9 +575,7 @@ pub(crate) fn is_accepted(
     line: &[u8],
 ) -> Result<bool, Fail> {
     let client = parse_name(alloc, LOCAL.as_bytes(), REALM)?;
-    let command = command_of(alloc, line, &database.plain)?;
-    let (of_rows, of_state) = answers(alloc, database, &client, None, &command)?;
-    are_accepted(rt, alloc, &of_rows, &of_state)
+    is_line_accepted(rt, alloc, database, &client, line)
 }
 
 /// Looks whether all keys of the rows open under the master keys.

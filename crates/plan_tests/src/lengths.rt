@@ -43,33 +43,35 @@ fn check_length(
 
 const SVC: [Turn; 1] = [("addprinc -randkey svc", "ok 2 1700000000.000000")];
 
+fn check_versions(rt: &impl Abort, alloc: Global, database: &mut Database) -> Result<(), Fail> {
+    check_length(rt, database, 3, 219)?;
+    for _ in 0..14 {
+        assert!(rt; is_accepted(rt, alloc, database, b"cpw -randkey -keepold svc")?);
+    }
+    check_length(rt, database, 3, 2011)?;
+    assert!(rt; is_accepted(rt, alloc, database, b"cpw -randkey -keepold svc")?);
+    check_length(rt, database, 3, 2139)
+}
+
 /// A version has 128 bytes: two keys of 62 and 46 wrapped bytes, and ten bytes with each. Beside its keys the record
 /// has 45 bytes, its name of 15, the modifier's of 23, and 8 for when its keys were set.
 #[test]
 fn version_of_two_keys_has_128_bytes(rt: HostRuntime) -> Result<(), Fail> {
     let mut database = check_created(&rt, rt.alloc(), &SVC)?;
-    check_length(&rt, &database, 3, 219)?;
-    for _ in 0..14 {
-        assert!(rt; is_accepted(&rt, rt.alloc(), &mut database, b"cpw -randkey -keepold svc")?);
-    }
-    check_length(&rt, &database, 3, 2011)?;
-    assert!(rt; is_accepted(&rt, rt.alloc(), &mut database, b"cpw -randkey -keepold svc")?);
-    check_length(&rt, &database, 3, 2139)
+    check_versions(&rt, rt.alloc(), &mut database)
+}
+
+fn check_attributes(rt: &impl Abort, alloc: Global, database: &mut Database) -> Result<(), Fail> {
+    check_length(rt, database, 1, 83)?;
+    check_strings(rt, alloc, database, "setstr bob a", &OF_BOB[..15])?;
+    check_length(rt, database, 1, 15507)
 }
 
 /// An attribute has 1028 bytes, and all of them four more.
 #[test]
 fn attribute_of_1024_letters_has_1028_bytes(rt: HostRuntime) -> Result<(), Fail> {
     let mut database = check_created(&rt, rt.alloc(), &[BOB])?;
-    check_length(&rt, &database, 1, 83)?;
-    check_strings(
-        &rt,
-        rt.alloc(),
-        &mut database,
-        "setstr bob a",
-        &OF_BOB[..15],
-    )?;
-    check_length(&rt, &database, 1, 15507)
+    check_attributes(&rt, rt.alloc(), &mut database)
 }
 
 /// A line with 200 letters n between these.
@@ -80,16 +82,42 @@ fn long_line(alloc: Global, front: &str, behind: &[u8]) -> Result<Vec<u8>, Fail>
     Ok(line)
 }
 
+fn add_long_name(rt: &impl Abort, alloc: Global, database: &mut Database) -> Result<(), Fail> {
+    let line = long_line(alloc, "addprinc -randkey ", b"")?;
+    assert!(rt; is_accepted(rt, alloc, database, &line)?);
+    Ok(())
+}
+
+fn add_versions(rt: &impl Abort, alloc: Global, database: &mut Database) -> Result<(), Fail> {
+    let line = long_line(alloc, "cpw -randkey -keepold ", b"")?;
+    for _ in 0..15 {
+        assert!(rt; is_accepted(rt, alloc, database, &line)?);
+    }
+    Ok(())
+}
+
+fn fill(rt: &impl Abort, alloc: Global, database: &mut Database) -> Result<(), Fail> {
+    add_long_name(rt, alloc, database)?;
+    add_versions(rt, alloc, database)
+}
+
 /// A database with a principal whose name has 200 letters, with 16 versions of two keys.
 fn with_long_name(rt: &impl Abort, alloc: Global) -> Result<Database, Fail> {
     let mut database = created(alloc)?;
-    let line = long_line(alloc, "addprinc -randkey ", b"")?;
-    assert!(rt; is_accepted(rt, alloc, &mut database, &line)?);
-    let line = long_line(alloc, "cpw -randkey -keepold ", b"")?;
-    for _ in 0..15 {
-        assert!(rt; is_accepted(rt, alloc, &mut database, &line)?);
-    }
+    fill(rt, alloc, &mut database)?;
     Ok(database)
+}
+
+fn rename(rt: &impl Abort, alloc: Global, database: &mut Database) -> Result<(), Fail> {
+    let line = long_line(alloc, "renprinc ", b" b")?;
+    let wanted = "ok 18 1700000000.000000";
+    check_case(rt, alloc, database, None, LOCAL, &line, wanted)
+}
+
+fn check_renamed(rt: &impl Abort, alloc: Global, database: &mut Database) -> Result<(), Fail> {
+    check_length(rt, database, 3, 2336)?;
+    rename(rt, alloc, database)?;
+    check_length(rt, database, 1, 8889)
 }
 
 /// Each of 32 keys then has the old salt, which is the realm's 11 bytes and the name's 200. The name has 199 bytes
@@ -97,9 +125,5 @@ fn with_long_name(rt: &impl Abort, alloc: Global) -> Result<Database, Fail> {
 #[test]
 fn new_name_makes_a_record_of_8889_bytes(rt: HostRuntime) -> Result<(), Fail> {
     let mut database = with_long_name(&rt, rt.alloc())?;
-    check_length(&rt, &database, 3, 2336)?;
-    let line = long_line(rt.alloc(), "renprinc ", b" b")?;
-    let wanted = "ok 18 1700000000.000000";
-    check_case(&rt, rt.alloc(), &mut database, None, LOCAL, &line, wanted)?;
-    check_length(&rt, &database, 1, 8889)
+    check_renamed(&rt, rt.alloc(), &mut database)
 }

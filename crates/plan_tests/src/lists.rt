@@ -1,6 +1,9 @@
 //! What lines are answered under access lists.
 
 use crate::databases::{Case, Turn, check_cases, check_created, check_turns, created};
+use crate::order::check_tables;
+use std::alloc::Global;
+use std::process::Abort;
 use std::test::Fail;
 
 /// A list by which everybody may do all but extract keys.
@@ -727,11 +730,15 @@ const APART: [&[Case]; 5] = [
     &LOCKED,
 ];
 
+fn check_apart(rt: &impl Abort, alloc: Global, cases: &[Case]) -> Result<(), Fail> {
+    let mut database = created(alloc)?;
+    check_cases(rt, alloc, &mut database, cases)
+}
+
 #[test]
 fn lists_are_kept_from_the_first_line_on(rt: HostRuntime) -> Result<(), Fail> {
     for cases in APART {
-        let mut database = created(rt.alloc())?;
-        check_cases(&rt, rt.alloc(), &mut database, cases)?;
+        check_apart(&rt, rt.alloc(), cases)?;
     }
     Ok(())
 }
@@ -748,8 +755,5 @@ const BEHIND: [&[Case]; 6] = [&LETTERS, &PRIVILEGES, &DECIDING, &OWN, &RENAMED, 
 #[test]
 fn lists_decide_by_their_rules(rt: HostRuntime) -> Result<(), Fail> {
     let mut database = check_created(&rt, rt.alloc(), &THERE)?;
-    for cases in BEHIND {
-        check_cases(&rt, rt.alloc(), &mut database, cases)?;
-    }
-    Ok(())
+    check_tables(&rt, rt.alloc(), &mut database, &BEHIND)
 }

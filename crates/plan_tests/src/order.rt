@@ -269,13 +269,23 @@ const KEYS_FULL: [Case; 7] = [
 
 const TABLES: [&[Case]; 4] = [&DENIED, &PROTECTED, &THERE_OR_NOT, &OF_PASSWORDS];
 
+/// Gives the lines of tables that go on one behind the other.
+pub(crate) fn check_tables(
+    rt: &impl Abort,
+    alloc: Global,
+    database: &mut Database,
+    tables: &[&[Case]],
+) -> Result<(), Fail> {
+    for cases in tables {
+        check_cases(rt, alloc, database, cases)?;
+    }
+    Ok(())
+}
+
 #[test]
 fn refusals_come_in_their_order(rt: HostRuntime) -> Result<(), Fail> {
     let mut database = check_created(&rt, rt.alloc(), &THERE)?;
-    for cases in TABLES {
-        check_cases(&rt, rt.alloc(), &mut database, cases)?;
-    }
-    Ok(())
+    check_tables(&rt, rt.alloc(), &mut database, &TABLES)
 }
 
 // ---- records that are full
@@ -289,6 +299,18 @@ fn setting(alloc: Global, front: &str, key: u8, len: usize) -> Result<Vec<u8>, F
     Ok(line)
 }
 
+fn check_string(
+    rt: &impl Abort,
+    alloc: Global,
+    database: &mut Database,
+    front: &str,
+    string: &(u8, usize, &str),
+) -> Result<(), Fail> {
+    let (key, len, wanted) = string;
+    let line = setting(alloc, front, *key, *len)?;
+    check_case(rt, alloc, database, None, LOCAL, &line, wanted)
+}
+
 /// Sets string attributes one after another, and compares what is answered.
 pub(crate) fn check_strings(
     rt: &impl Abort,
@@ -297,9 +319,8 @@ pub(crate) fn check_strings(
     front: &str,
     strings: &[(u8, usize, &str)],
 ) -> Result<(), Fail> {
-    for (key, len, wanted) in strings {
-        let line = setting(alloc, front, *key, *len)?;
-        check_case(rt, alloc, database, None, LOCAL, &line, wanted)?;
+    for string in strings {
+        check_string(rt, alloc, database, front, string)?;
     }
     Ok(())
 }
@@ -388,18 +409,16 @@ const LONGER: [Case; 8] = [
     ),
 ];
 
+fn check_long_record(rt: &impl Abort, alloc: Global, database: &mut Database) -> Result<(), Fail> {
+    check_strings(rt, alloc, database, "setstr bob a", &OF_BOB[..15])?;
+    check_strings(rt, alloc, database, "setstr bob a", &LAST_OF_BOB)?;
+    check_cases(rt, alloc, database, &LONGER)
+}
+
 #[test]
 fn long_record_is_told_last(rt: HostRuntime) -> Result<(), Fail> {
     let mut database = check_created(&rt, rt.alloc(), &[BOB])?;
-    check_strings(
-        &rt,
-        rt.alloc(),
-        &mut database,
-        "setstr bob a",
-        &OF_BOB[..15],
-    )?;
-    check_strings(&rt, rt.alloc(), &mut database, "setstr bob a", &LAST_OF_BOB)?;
-    check_cases(&rt, rt.alloc(), &mut database, &LONGER)
+    check_long_record(&rt, rt.alloc(), &mut database)
 }
 
 const EVE: [Turn; 2] = [
@@ -410,13 +429,19 @@ const EVE: [Turn; 2] = [
     ),
 ];
 
+/// Gives the principal 15 more versions of keys, the last ones of a password.
+fn fill(rt: &impl Abort, alloc: Global, database: &mut Database) -> Result<(), Fail> {
+    for _ in 0..14 {
+        assert!(rt; is_accepted(rt, alloc, database, b"cpw -randkey -keepold eve")?);
+    }
+    assert!(rt; is_accepted(rt, alloc, database, b"cpw -pw abc -keepold eve")?);
+    Ok(())
+}
+
 /// A database with a principal of 16 versions of two keys, the last ones of a password.
 fn filled(rt: &impl Abort, alloc: Global) -> Result<Database, Fail> {
     let mut database = check_created(rt, alloc, &EVE)?;
-    for _ in 0..14 {
-        assert!(rt; is_accepted(rt, alloc, &mut database, b"cpw -randkey -keepold eve")?);
-    }
-    assert!(rt; is_accepted(rt, alloc, &mut database, b"cpw -pw abc -keepold eve")?);
+    fill(rt, alloc, &mut database)?;
     Ok(database)
 }
 
@@ -450,14 +475,18 @@ const AGAIN: [(u8, usize, &str); 1] = [(b'n', 578, "ok 34 1700000000.000000")];
 
 const LARGE: [Turn; 1] = [("cpw -randkey -keepold eve", "err 14 RecordTooLarge 16093")];
 
+fn check_full_keys(rt: &impl Abort, alloc: Global, database: &mut Database) -> Result<(), Fail> {
+    check_cases(rt, alloc, database, &KEYS_FULL)?;
+    check_strings(rt, alloc, database, "setstr eve k", &OF_EVE)?;
+    check_turns(rt, alloc, database, &FULL)?;
+    check_strings(rt, alloc, database, "setstr eve k", &AGAIN)?;
+    check_turns(rt, alloc, database, &LARGE)
+}
+
 #[test]
 fn full_keys_are_told_before_a_long_record(rt: HostRuntime) -> Result<(), Fail> {
     let mut database = filled(&rt, rt.alloc())?;
-    check_cases(&rt, rt.alloc(), &mut database, &KEYS_FULL)?;
-    check_strings(&rt, rt.alloc(), &mut database, "setstr eve k", &OF_EVE)?;
-    check_turns(&rt, rt.alloc(), &mut database, &FULL)?;
-    check_strings(&rt, rt.alloc(), &mut database, "setstr eve k", &AGAIN)?;
-    check_turns(&rt, rt.alloc(), &mut database, &LARGE)
+    check_full_keys(&rt, rt.alloc(), &mut database)
 }
 
 // ---- master keys that are full
@@ -509,12 +538,16 @@ const MASTERS_AGAIN: [Turn; 2] = [
     ("add_mkey", "ok 34 1700000000.000000 mkvno 33"),
 ];
 
+fn check_full_masters(rt: &impl Abort, alloc: Global, database: &mut Database) -> Result<(), Fail> {
+    for version in 2..33 {
+        check_version(rt, alloc, database, version)?;
+    }
+    check_cases(rt, alloc, database, &MASTERS_FULL)?;
+    check_turns(rt, alloc, database, &MASTERS_AGAIN)
+}
+
 #[test]
 fn full_master_keys_are_told_behind_a_denial(rt: HostRuntime) -> Result<(), Fail> {
     let mut database = created(rt.alloc())?;
-    for version in 2..33 {
-        check_version(&rt, rt.alloc(), &mut database, version)?;
-    }
-    check_cases(&rt, rt.alloc(), &mut database, &MASTERS_FULL)?;
-    check_turns(&rt, rt.alloc(), &mut database, &MASTERS_AGAIN)
+    check_full_masters(&rt, rt.alloc(), &mut database)
 }

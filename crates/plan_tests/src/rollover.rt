@@ -1,6 +1,8 @@
 //! A change of the master key: what is kept under the old version and under the new one.
 
-use crate::databases::{Turn, check_created, check_sound, check_turns};
+use crate::databases::{Database, Turn, check_created, check_sound, check_turns};
+use std::alloc::Global;
+use std::process::Abort;
 use std::test::Fail;
 
 /// A version that is added is not active, and what is made before it is stays under the old one.
@@ -104,13 +106,17 @@ const MOVED: [Turn; 8] = [
     ),
 ];
 
+fn check_changes(rt: &impl Abort, alloc: Global, database: &mut Database) -> Result<(), Fail> {
+    check_sound(alloc, database)?;
+    for turns in [&ACTIVE[..], &PURGED, &MOVED] {
+        check_turns(rt, alloc, database, turns)?;
+        check_sound(alloc, database)?;
+    }
+    Ok(())
+}
+
 #[test]
 fn master_key_is_changed_alike(rt: HostRuntime) -> Result<(), Fail> {
     let mut database = check_created(&rt, rt.alloc(), &ADDED)?;
-    check_sound(rt.alloc(), &database)?;
-    for turns in [&ACTIVE[..], &PURGED, &MOVED] {
-        check_turns(&rt, rt.alloc(), &mut database, turns)?;
-        check_sound(rt.alloc(), &database)?;
-    }
-    Ok(())
+    check_changes(&rt, rt.alloc(), &mut database)
 }

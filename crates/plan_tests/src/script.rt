@@ -29,6 +29,17 @@ fn line(alloc: Global, seed: u32, number: u32) -> Result<Vec<u8>, Fail> {
     Ok(line)
 }
 
+fn is_number_accepted(
+    rt: &impl Abort,
+    alloc: Global,
+    database: &mut Database,
+    seed: u32,
+    number: u32,
+) -> Result<bool, Fail> {
+    let line = line(alloc, seed, number)?;
+    is_accepted(rt, alloc, database, &line)
+}
+
 /// How many of so many lines are accepted.
 fn accepted(
     rt: &impl Abort,
@@ -39,8 +50,7 @@ fn accepted(
 ) -> Result<u32, Fail> {
     let mut accepted = 0u32;
     for number in 0..count {
-        let line = line(alloc, seed, number)?;
-        if is_accepted(rt, alloc, database, &line)? {
+        if is_number_accepted(rt, alloc, database, seed, number)? {
             accepted = accepted.saturating_add(1);
         }
     }
@@ -66,23 +76,42 @@ fn keys_of_rows(database: &Database) -> usize {
 }
 
 /// So many lines, and how many are accepted, how many principals and keys there are then, and the last serial.
-const SCRIPTS: [(u32, u32, usize, usize, u32); 2] = [
-    (20, 14, 10, 16, 15),
-    (1000, 805, 61, 76, 806),
-];
+type Script = (u32, u32, usize, usize, u32);
+
+const SCRIPTS: [Script; 2] = [(20, 14, 10, 16, 15), (1000, 805, 61, 76, 806)];
+
+fn check_numbers(rt: &impl Abort, database: &Database, script: &Script) {
+    let (_, _, princs, keys, sno) = script;
+    let state = database.plain.state();
+    assert_eq!(rt; state.princs.as_slice().len(), *princs);
+    assert_eq!(rt; database.rows.princs().len(), *princs);
+    assert_eq!(rt; keys_of_state(state), *keys);
+    assert_eq!(rt; keys_of_rows(database), *keys);
+    assert_eq!(rt; state.point.sno, *sno);
+}
+
+fn check_lines(
+    rt: &impl Abort,
+    alloc: Global,
+    database: &mut Database,
+    script: &Script,
+) -> Result<(), Fail> {
+    let (count, wanted, _, _, _) = script;
+    let accepted = accepted(rt, alloc, database, 7, *count)?;
+    assert_eq!(rt; accepted, *wanted);
+    check_numbers(rt, database, script);
+    Ok(())
+}
+
+fn check_script(rt: &impl Abort, alloc: Global, script: &Script) -> Result<(), Fail> {
+    let mut database = created(alloc)?;
+    check_lines(rt, alloc, &mut database, script)
+}
 
 #[test]
 fn made_scripts_have_their_numbers(rt: HostRuntime) -> Result<(), Fail> {
-    for (count, wanted, princs, keys, sno) in &SCRIPTS {
-        let mut database = created(rt.alloc())?;
-        let accepted = accepted(&rt, rt.alloc(), &mut database, 7, *count)?;
-        assert_eq!(rt; accepted, *wanted);
-        let state = database.plain.state();
-        assert_eq!(rt; state.princs.as_slice().len(), *princs);
-        assert_eq!(rt; database.rows.princs().len(), *princs);
-        assert_eq!(rt; keys_of_state(state), *keys);
-        assert_eq!(rt; keys_of_rows(&database), *keys);
-        assert_eq!(rt; state.point.sno, *sno);
+    for script in &SCRIPTS {
+        check_script(&rt, rt.alloc(), script)?;
     }
     Ok(())
 }

@@ -1,6 +1,8 @@
 //! Lines that are given at several seconds of the clock, which may go back.
 
-use crate::databases::{Case, Second, check_seconds, check_sound, created};
+use crate::databases::{Case, Database, Second, check_seconds, check_sound, created};
+use std::alloc::Global;
+use std::process::Abort;
 use std::test::Fail;
 
 const FIRST: [Case; 1] = [(
@@ -145,11 +147,15 @@ const ROLLING: [Second; 5] = [
     (1_700_000_150, &STILL_ACTIVE),
 ];
 
+fn check_rolling(rt: &impl Abort, alloc: Global, database: &mut Database) -> Result<(), Fail> {
+    check_seconds(rt, alloc, database, &ROLLING)?;
+    check_sound(alloc, database)
+}
+
 #[test]
 fn version_becomes_active_between_two_lines(rt: HostRuntime) -> Result<(), Fail> {
     let mut database = created(rt.alloc())?;
-    check_seconds(&rt, rt.alloc(), &mut database, &ROLLING)?;
-    check_sound(rt.alloc(), &database)
+    check_rolling(&rt, rt.alloc(), &mut database)
 }
 
 /// A list without lines.

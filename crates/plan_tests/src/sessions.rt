@@ -1,6 +1,6 @@
 //! What lines of the administrator of the machine are answered.
 
-use crate::databases::{LOCAL, Turn, check_case, check_created, created, push_letters};
+use crate::databases::{LOCAL, Turn, check_case, check_session, created, push_letters};
 use std::alloc::Global;
 use std::process::Abort;
 use std::test::Fail;
@@ -265,21 +265,19 @@ const SESSIONS: [&[Turn]; 7] = [&SHOWN, &NAMES, &LINES, &STRINGS, &KEYS, &LISTED
 #[test]
 fn lines_are_answered_alike(rt: HostRuntime) -> Result<(), Fail> {
     for turns in SESSIONS {
-        check_created(&rt, rt.alloc(), turns)?;
+        check_session(&rt, rt.alloc(), turns)?;
     }
     Ok(())
 }
 
 #[test]
 fn expirations_are_set_alike(rt: HostRuntime) -> Result<(), Fail> {
-    check_created(&rt, rt.alloc(), &EXPIRING)?;
-    Ok(())
+    check_session(&rt, rt.alloc(), &EXPIRING)
 }
 
 #[test]
 fn passwords_are_judged_alike(rt: HostRuntime) -> Result<(), Fail> {
-    check_created(&rt, rt.alloc(), &PASSWORDS)?;
-    Ok(())
+    check_session(&rt, rt.alloc(), &PASSWORDS)
 }
 
 /// Lines that end with so many of the letter n, and what they are answered.
@@ -289,12 +287,22 @@ const LONG: [(&str, usize, &str); 3] = [
     ("", 65_537, "err 27 LineTooLong"),
 ];
 
+fn long_line(alloc: Global, front: &str, count: usize) -> Result<Vec<u8>, Fail> {
+    let mut line = front.as_bytes().to_vec(alloc)?;
+    push_letters(&mut line, b'n', count)?;
+    Ok(line)
+}
+
+/// Gives a line over a new database.
+fn check_first(rt: &impl Abort, alloc: Global, line: &[u8], wanted: &str) -> Result<(), Fail> {
+    let mut database = created(alloc)?;
+    check_case(rt, alloc, &mut database, None, LOCAL, line, wanted)
+}
+
 fn check_long(rt: &impl Abort, alloc: Global, long: &(&str, usize, &str)) -> Result<(), Fail> {
     let (front, count, wanted) = long;
-    let mut database = created(alloc)?;
-    let mut line = front.as_bytes().to_vec(alloc)?;
-    push_letters(&mut line, b'n', *count)?;
-    check_case(rt, alloc, &mut database, None, LOCAL, &line, wanted)
+    let line = long_line(alloc, front, *count)?;
+    check_first(rt, alloc, &line, wanted)
 }
 
 #[test]

@@ -11,6 +11,3 @@ pub use numbers::Numbers;
 pub use passwords::{check_numbers, check_password, has_few_classes, is_short};
 pub use policies::{Policy, is_history, is_min_classes, is_min_length, is_policy_name};
 pub use reuse::{kept_sets, reused};
-
-#[cfg(test)]
-mod tests;

@@ -1,7 +1,8 @@
 use acl_text::{Acl, AclFault, Wanted, restrict};
 use kdb_base::{Blob, Time};
-use princ_name::parse_name;
+use princ_name::{Name, parse_name};
 use std::alloc::Global;
+use std::process::Abort;
 use std::test::*;
 
 const REALM: &[u8] = b"EXAMPLE.ORG";
@@ -28,18 +29,36 @@ const DECIDED: [(&[u8], u8, &[u8], u32, bool); 8] = [
     (b"bob/text", b'i', b"*1", 4, true),
 ];
 
+fn check_decided(
+    rt: &impl Abort,
+    alloc: Global,
+    acl: &Acl,
+    client: &[u8],
+    letter: u8,
+    target: &[u8],
+    line: u32,
+    allowed: bool,
+) -> Result<(), Fail> {
+    let client = parse_name(alloc, client, REALM)?;
+    let target = parse_name(alloc, target, REALM)?;
+    let verdict = acl.decide(&client, letter, Some(&target));
+    assert_eq!(rt; verdict.line, line);
+    assert_eq!(rt; verdict.allowed, allowed);
+    assert!(rt; verdict.limits.is_none());
+    Ok(())
+}
+
+fn check_rules(rt: &impl Abort, alloc: Global, acl: &Acl) -> Result<(), Fail> {
+    for (client, letter, target, line, allowed) in DECIDED.iter() {
+        check_decided(rt, alloc, acl, client, *letter, target, *line, *allowed)?;
+    }
+    Ok(())
+}
+
 #[test]
 fn first_line_decides(rt: HostRuntime) -> Result<(), Fail> {
     let acl = read(rt.alloc(), RULES)?;
-    for (client, letter, target, line, allowed) in DECIDED.iter() {
-        let client = parse_name(rt.alloc(), client, REALM)?;
-        let target = parse_name(rt.alloc(), target, REALM)?;
-        let verdict = acl.decide(&client, *letter, Some(&target));
-        assert_eq!(rt; verdict.line, *line);
-        assert_eq!(rt; verdict.allowed, *allowed);
-        assert!(rt; verdict.limits.is_none());
-    }
-    Ok(())
+    check_rules(&rt, rt.alloc(), &acl)
 }
 
 /// Texts, and the number of the line that is bad; 0 where none is.
@@ -75,34 +94,50 @@ const READ: [(&[u8], u32); 29] = [
     (b"joe a\\", 1),
 ];
 
+fn bad_line(alloc: Global, text: &[u8]) -> u32 {
+    match read(alloc, text) {
+        Ok(_) => 0,
+        Err(AclFault::BadAcl { line }) => line,
+        Err(AclFault::MemoryOut) => 99,
+    }
+}
+
 #[test]
 fn first_bad_line_refuses(rt: HostRuntime) -> Result<(), Fail> {
     for (text, line) in READ.iter() {
-        let found = match read(rt.alloc(), text) {
-            Ok(_) => 0,
-            Err(AclFault::BadAcl { line }) => line,
-            Err(AclFault::MemoryOut) => 99,
-        };
-        assert_eq!(rt; found, *line, "{text:?}");
+        assert_eq!(rt; bad_line(rt.alloc(), text), *line, "{text:?}");
     }
     Ok(())
 }
 
-/// The fields after the restrictions of the only line, where an operation has no target.
-fn restricted(alloc: Global, text: &[u8], wanted: Wanted) -> Result<Wanted, AclFault> {
-    let acl = read(alloc, text)?;
-    let client = match parse_name(alloc, b"ops/x", REALM) {
-        Ok(client) => client,
-        Err(_) => return Err(AclFault::MemoryOut),
-    };
-    let mut wanted = wanted;
-    match acl.decide(&client, b'a', None).limits {
-        Some(limits) => match restrict(alloc, limits, &mut wanted, Time::new(1000, 0)) {
-            Ok(()) => Ok(wanted),
+fn client_named(alloc: Global) -> Result<Name, AclFault> {
+    match parse_name(alloc, b"ops/x", REALM) {
+        Ok(client) => Ok(client),
+        Err(_) => Err(AclFault::MemoryOut),
+    }
+}
+
+/// Puts the restrictions for this client in force, where there are some.
+fn restrict_by(
+    alloc: Global,
+    acl: &Acl,
+    client: &Name,
+    wanted: &mut Wanted,
+) -> Result<(), AclFault> {
+    match acl.decide(client, b'a', None).limits {
+        Some(limits) => match restrict(alloc, limits, wanted, Time::new(1000, 0)) {
+            Ok(()) => Ok(()),
             Err(_) => Err(AclFault::MemoryOut),
         },
-        None => Ok(wanted),
+        None => Ok(()),
     }
+}
+
+/// Puts the restrictions of the only line in force, where an operation has no target.
+fn restrict_fields(alloc: Global, text: &[u8], wanted: &mut Wanted) -> Result<(), AclFault> {
+    let acl = read(alloc, text)?;
+    let client = client_named(alloc)?;
+    restrict_by(alloc, &acl, &client, wanted)
 }
 
 fn fields(attributes: u32, time: u32) -> Wanted {
@@ -121,32 +156,48 @@ const LIMITED: [&[u8]; 2] = [
     b"ops/* a * \\\n+requires_preauth -maxlife 1h\n",
 ];
 
-#[test]
-fn restrictions_are_put_in_force(rt: HostRuntime) -> Result<(), Fail> {
-    for text in LIMITED.iter() {
-        let acl = read(rt.alloc(), text)?;
-        let client = parse_name(rt.alloc(), b"ops/x", REALM)?;
-        let verdict = acl.decide(&client, b'd', None);
-        assert!(rt; verdict.line == 1 && !verdict.allowed);
-        let verdict = acl.decide(&client, b'a', None);
-        assert!(rt; verdict.line == 1 && verdict.allowed);
-        let limits = verdict.limits.expect(&rt, "limits");
-        assert_eq!(rt; (limits.set, limits.clear), (0x80, 0));
-        assert_eq!(rt; limits.max_life, Some(3600));
-        for life in [7200, 0] {
-            let wanted = restricted(rt.alloc(), text, fields(0x200, life))?;
-            assert_eq!(rt; wanted.attributes, 0x280);
-            assert_eq!(rt; wanted.max_life, 3600);
-            assert_eq!(rt; wanted.max_renew, life);
-        }
-    }
+fn check_verdicts(rt: &impl Abort, acl: &Acl, client: &Name) {
+    let verdict = acl.decide(client, b'd', None);
+    assert!(rt; verdict.line == 1 && !verdict.allowed);
+    let verdict = acl.decide(client, b'a', None);
+    assert!(rt; verdict.line == 1 && verdict.allowed);
+    let limits = verdict.limits.expect(rt, "limits");
+    assert_eq!(rt; (limits.set, limits.clear), (0x80, 0));
+    assert_eq!(rt; limits.max_life, Some(3600));
+}
+
+fn check_limits(rt: &impl Abort, alloc: Global, text: &[u8]) -> Result<(), Fail> {
+    let acl = read(alloc, text)?;
+    let client = parse_name(alloc, b"ops/x", REALM)?;
+    check_verdicts(rt, &acl, &client);
+    Ok(())
+}
+
+fn check_life(rt: &impl Abort, alloc: Global, text: &[u8], life: u32) -> Result<(), Fail> {
+    let mut wanted = fields(0x200, life);
+    restrict_fields(alloc, text, &mut wanted)?;
+    assert_eq!(rt; wanted.attributes, 0x280);
+    assert_eq!(rt; wanted.max_life, 3600);
+    assert_eq!(rt; wanted.max_renew, life);
     Ok(())
 }
 
 #[test]
-fn times_are_lowered(rt: HostRuntime) -> Result<(), Fail> {
-    let text = b"ops/* a * -policy p -needchange -expire 1d -pwexpire 4294967295 -maxrenewlife 0";
-    let wanted = restricted(rt.alloc(), text, fields(0x280, 100_000))?;
+fn restrictions_are_put_in_force(rt: HostRuntime) -> Result<(), Fail> {
+    for text in LIMITED.iter() {
+        check_limits(&rt, rt.alloc(), text)?;
+        check_life(&rt, rt.alloc(), text, 7200)?;
+        check_life(&rt, rt.alloc(), text, 0)?;
+    }
+    Ok(())
+}
+
+const LOWERING: &[u8] =
+    b"ops/* a * -policy p -needchange -expire 1d -pwexpire 4294967295 -maxrenewlife 0";
+
+fn check_lowered(rt: &impl Abort, alloc: Global) -> Result<(), Fail> {
+    let mut wanted = fields(0x280, 100_000);
+    restrict_fields(alloc, LOWERING, &mut wanted)?;
     assert_eq!(rt; wanted.attributes, 0x80);
     assert!(rt;
         wanted
@@ -155,11 +206,28 @@ fn times_are_lowered(rt: HostRuntime) -> Result<(), Fail> {
     );
     assert_eq!(rt; (wanted.expire, wanted.pw_expire), (87_400, 100_000));
     assert_eq!(rt; (wanted.max_life, wanted.max_renew), (100_000, 0));
-    let wanted = restricted(rt.alloc(), text, fields(0, 0))?;
-    assert_eq!(rt; (wanted.expire, wanted.pw_expire), (87_400, 4_294_967_295));
+    Ok(())
+}
+
+fn check_never_lowered(rt: &impl Abort, alloc: Global) -> Result<(), Fail> {
     let mut wanted = fields(0, 0);
-    wanted.policy = Some(Blob::from_bytes(rt.alloc(), b"p")?);
-    let wanted = restricted(rt.alloc(), b"ops/* a * -clearpolicy", wanted)?;
+    restrict_fields(alloc, LOWERING, &mut wanted)?;
+    assert_eq!(rt; (wanted.expire, wanted.pw_expire), (87_400, 4_294_967_295));
+    Ok(())
+}
+
+fn check_policy_cleared(rt: &impl Abort, alloc: Global) -> Result<(), Fail> {
+    let policy = Blob::from_bytes(alloc, b"p")?;
+    let mut wanted = fields(0, 0);
+    wanted.policy = Some(policy);
+    restrict_fields(alloc, b"ops/* a * -clearpolicy", &mut wanted)?;
     assert!(rt; wanted.policy.is_none());
     Ok(())
+}
+
+#[test]
+fn times_are_lowered(rt: HostRuntime) -> Result<(), Fail> {
+    check_lowered(&rt, rt.alloc())?;
+    check_never_lowered(&rt, rt.alloc())?;
+    check_policy_cleared(&rt, rt.alloc())
 }

@@ -1,6 +1,7 @@
 use kdb_format::{Format, FormatFault, read_whole};
 use princ_rows::entries::{LoggedFormat, SentFormat};
 use std::alloc::Global;
+use std::process::Abort;
 use std::test::*;
 
 // The serial 5, 1700000000 seconds, which are 6553f100 in hexadecimal, and 7 microseconds.
@@ -31,6 +32,14 @@ fn joined(alloc: Global, parts: &[&[u8]]) -> Result<Vec<u8>, FormatFault> {
     Ok(out)
 }
 
+/// What bytes that are no entry are answered by.
+fn none_by(fault: FormatFault) -> Result<bool, FormatFault> {
+    match fault {
+        FormatFault::Malformed => Ok(false),
+        FormatFault::MemoryOut => Err(FormatFault::MemoryOut),
+    }
+}
+
 /// Whether the bytes are an entry of the log, which is then written as it was read.
 fn is_logged(alloc: Global, bytes: &[u8]) -> Result<bool, FormatFault> {
     match read_whole::<LoggedFormat>(alloc, bytes) {
@@ -39,8 +48,7 @@ fn is_logged(alloc: Global, bytes: &[u8]) -> Result<bool, FormatFault> {
             LoggedFormat::write(&mut out, &logged)?;
             Ok(out.as_slice() == bytes)
         }
-        Err(FormatFault::Malformed) => Ok(false),
-        Err(FormatFault::MemoryOut) => Err(FormatFault::MemoryOut),
+        Err(fault) => none_by(fault),
     }
 }
 
@@ -52,16 +60,25 @@ fn is_sent(alloc: Global, bytes: &[u8]) -> Result<bool, FormatFault> {
             SentFormat::write(&mut out, &entry)?;
             Ok(out.as_slice() == bytes)
         }
-        Err(FormatFault::Malformed) => Ok(false),
-        Err(FormatFault::MemoryOut) => Err(FormatFault::MemoryOut),
+        Err(fault) => none_by(fault),
     }
+}
+
+fn stands_logged(alloc: Global, kind: u8, key: &[u8], row: &[u8]) -> Result<bool, FormatFault> {
+    let logged = joined(alloc, &[POINT, &[kind], CELL, key, row])?;
+    is_logged(alloc, &logged)
+}
+
+fn stands_sent(alloc: Global, kind: u8, key: &[u8], row: &[u8]) -> Result<bool, FormatFault> {
+    let sent = joined(alloc, &[POINT, &[kind], key, row])?;
+    is_sent(alloc, &sent)
 }
 
 /// Whether there is an entry of this kind, key and row in the log, and on the wire.
 fn stands(alloc: Global, kind: u8, key: &[u8], row: &[u8]) -> Result<(bool, bool), FormatFault> {
-    let logged = joined(alloc, &[POINT, &[kind], CELL, key, row])?;
-    let sent = joined(alloc, &[POINT, &[kind], key, row])?;
-    Ok((is_logged(alloc, &logged)?, is_sent(alloc, &sent)?))
+    let logged = stands_logged(alloc, kind, key, row)?;
+    let sent = stands_sent(alloc, kind, key, row)?;
+    Ok((logged, sent))
 }
 
 /// A kind, a key and a row, and where such an entry stands: in the log, and on the wire.
@@ -113,14 +130,23 @@ fn long_row(alloc: Global, wrapped: u16) -> Result<Vec<u8>, FormatFault> {
     Ok(row)
 }
 
-#[test]
-fn a_row_has_at_most_16000_bytes(rt: HostRuntime) -> Result<(), FormatFault> {
-    for (wrapped, wanted) in [(15_939, true), (15_940, false)] {
-        let row = long_row(rt.alloc(), wrapped)?;
-        for (kind, key) in [(1, KEY), (3, b"\0\x03c@R")] {
-            let found = stands(rt.alloc(), kind, key, &row)?;
-            assert_eq!(rt; found, (wanted, wanted), "kind {kind}, {wrapped} bytes");
-        }
+/// A put and a rename with a row of so many wrapped bytes.
+fn check_long_row(
+    rt: &impl Abort,
+    alloc: Global,
+    wrapped: u16,
+    wanted: bool,
+) -> Result<(), FormatFault> {
+    let row = long_row(alloc, wrapped)?;
+    for (kind, key) in [(1, KEY), (3, b"\0\x03c@R")] {
+        let found = stands(alloc, kind, key, &row)?;
+        assert_eq!(rt; found, (wanted, wanted), "kind {kind}, {wrapped} bytes");
     }
     Ok(())
+}
+
+#[test]
+fn a_row_has_at_most_16000_bytes(rt: HostRuntime) -> Result<(), FormatFault> {
+    check_long_row(&rt, rt.alloc(), 15_939, true)?;
+    check_long_row(&rt, rt.alloc(), 15_940, false)
 }

@@ -5,13 +5,30 @@ use std::test::*;
 
 const REALM: &[u8] = b"EXAMPLE.ORG";
 
+fn told_name(alloc: Global, name: &Name) -> Result<Result<Blob, usize>, NameFault> {
+    Ok(Ok(print_name(alloc, name)?))
+}
+
 /// The answer of a reader in short: the printed form, or the offset of the fault.
 fn told(alloc: Global, answer: Result<Name, NameFault>) -> Result<Result<Blob, usize>, NameFault> {
     match answer {
-        Ok(name) => Ok(Ok(print_name(alloc, &name)?)),
+        Ok(name) => told_name(alloc, &name),
         Err(NameFault::BadName { offset }) => Ok(Err(offset)),
         Err(NameFault::MemoryOut) => Err(NameFault::MemoryOut),
     }
+}
+
+/// The offset of its fault, where it has one.
+fn fault_of(alloc: Global, answer: Result<Name, NameFault>) -> Result<Option<usize>, NameFault> {
+    let answer = told(alloc, answer)?;
+    Ok(answer.err())
+}
+
+/// Whether this is the printed form of the name that a word spells in a realm.
+fn is_printed(alloc: Global, word: &[u8], realm: &[u8], printed: &[u8]) -> Result<bool, NameFault> {
+    let answer = parse_name(alloc, word, realm);
+    let answer = told(alloc, answer)?;
+    Ok(answer.map_or(false, |text| text.as_slice() == printed))
 }
 
 /// So many letters, and then this text.
@@ -64,18 +81,10 @@ const REFUSED: [(&[u8], usize); 14] = [
 #[test]
 fn reads_each_spelling_and_prints_one(rt: HostRuntime) -> Result<(), Fail> {
     for (word, printed) in SPELLED.iter() {
-        let answer = parse_name(rt.alloc(), word, REALM);
-        let answer = told(rt.alloc(), answer)?;
-        assert!(rt;
-            answer.map_or(false, |text| text.as_slice() == *printed),
-            "{word:?}"
-        );
-        let again = parse_name(rt.alloc(), printed, b"OTHER");
-        let again = told(rt.alloc(), again)?;
-        assert!(rt;
-            again.map_or(false, |text| text.as_slice() == *printed),
-            "{word:?} again"
-        );
+        let first = is_printed(rt.alloc(), word, REALM, printed)?;
+        assert!(rt; first, "{word:?}");
+        let again = is_printed(rt.alloc(), printed, b"OTHER", printed)?;
+        assert!(rt; again, "{word:?} again");
     }
     Ok(())
 }
@@ -84,7 +93,7 @@ fn reads_each_spelling_and_prints_one(rt: HostRuntime) -> Result<(), Fail> {
 fn refuses_at_the_first_fault(rt: HostRuntime) -> Result<(), Fail> {
     for (word, offset) in REFUSED.iter() {
         let answer = parse_name(rt.alloc(), word, REALM);
-        assert_eq!(rt; told(rt.alloc(), answer)?.err(), Some(*offset), "{word:?}");
+        assert_eq!(rt; fault_of(rt.alloc(), answer)?, Some(*offset), "{word:?}");
     }
     Ok(())
 }
@@ -94,7 +103,7 @@ fn refuses_a_realm_that_is_none(rt: HostRuntime) -> Result<(), Fail> {
     let realms: [&[u8]; 2] = [b"", b"\x01"];
     for realm in realms.iter() {
         let answer = parse_name(rt.alloc(), b"a", realm);
-        assert_eq!(rt; told(rt.alloc(), answer)?.err(), Some(1), "{realm:?}");
+        assert_eq!(rt; fault_of(rt.alloc(), answer)?, Some(1), "{realm:?}");
     }
     Ok(())
 }
@@ -115,7 +124,7 @@ fn counts_printed_bytes(rt: HostRuntime) -> Result<(), Fail> {
 #[test]
 fn refuses_256_printed_bytes(rt: HostRuntime) -> Result<(), Fail> {
     let answer = name_of_letters(rt.alloc(), 244);
-    assert_eq!(rt; told(rt.alloc(), answer)?.err(), Some(244));
+    assert_eq!(rt; fault_of(rt.alloc(), answer)?, Some(244));
     Ok(())
 }
 
@@ -127,7 +136,7 @@ fn wants_the_own_realm(rt: HostRuntime) -> Result<(), Fail> {
     ];
     for (word, offset) in words.iter() {
         let answer = parse_own_name(rt.alloc(), word, REALM);
-        assert_eq!(rt; told(rt.alloc(), answer)?.err(), Some(*offset), "{word:?}");
+        assert_eq!(rt; fault_of(rt.alloc(), answer)?, Some(*offset), "{word:?}");
     }
     Ok(())
 }

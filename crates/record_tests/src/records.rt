@@ -1,9 +1,11 @@
 use kdb_base::{Blob, Salt};
 use policy_rules::Policy;
 use princ_record::{
-    RowFault, copy, copy_policy, decode, decode_policy, encode, encode_policy, encoded_len, is_row,
-    is_row_1,
+    Princ, RowFault, copy, copy_policy, decode, decode_policy, encode, encode_policy, encoded_len,
+    is_row, is_row_1,
 };
+use std::alloc::Global;
+use std::process::Abort;
 use std::test::*;
 
 const ALICE: &[u8] = b"\0\x07alice@R";
@@ -48,8 +50,8 @@ const OLD: &[u8] = b"\0\x02\0\x01\0\x01\0\x12\0\x02op\0\x09\0\0";
 
 const NO_OLD: &[u8] = b"\0\0";
 
-fn joined(rt: &HostRuntime, parts: &[&[u8]]) -> Result<Vec<u8>, Fail> {
-    let mut out = Vec::new(rt.alloc());
+fn joined(alloc: Global, parts: &[&[u8]]) -> Result<Vec<u8>, Fail> {
+    let mut out = Vec::new(alloc);
     for part in parts {
         out.extend_from_slice(part)?;
     }
@@ -57,16 +59,41 @@ fn joined(rt: &HostRuntime, parts: &[&[u8]]) -> Result<Vec<u8>, Fail> {
 }
 
 /// Whether a row is written as it was read, with as many bytes as are told.
-fn is_written_back(rt: &HostRuntime, bytes: &[u8]) -> Result<bool, Fail> {
-    let princ = decode(rt.alloc(), bytes)?;
-    let text = encode(rt.alloc(), &princ)?;
+fn is_written_back(alloc: Global, bytes: &[u8]) -> Result<bool, Fail> {
+    let princ = decode(alloc, bytes)?;
+    let text = encode(alloc, &princ)?;
     Ok(encoded_len(&princ) == bytes.len() && text.as_slice() == bytes)
 }
 
+fn is_equal_to_its_copy(alloc: Global, princ: &Princ) -> Result<bool, Fail> {
+    let again = copy(alloc, princ)?;
+    Ok(again == *princ)
+}
+
 /// Whether a copy of what a row says is equal to it.
-fn is_copied(rt: &HostRuntime, bytes: &[u8]) -> Result<bool, Fail> {
-    let princ = decode(rt.alloc(), bytes)?;
-    Ok(copy(rt.alloc(), &princ)? == princ)
+fn is_copied(alloc: Global, bytes: &[u8]) -> Result<bool, Fail> {
+    let princ = decode(alloc, bytes)?;
+    is_equal_to_its_copy(alloc, &princ)
+}
+
+/// A row of these parts is written as it was read, and copied.
+fn check_written(rt: &impl Abort, alloc: Global, parts: &[&[u8]]) -> Result<(), Fail> {
+    let bytes = joined(alloc, parts)?;
+    assert!(rt; is_written_back(alloc, &bytes)?, "{bytes:?}");
+    assert!(rt; is_copied(alloc, &bytes)?, "{bytes:?}");
+    Ok(())
+}
+
+/// Bytes of these parts are refused so, or are a row.
+fn check_fault(
+    rt: &impl Abort,
+    alloc: Global,
+    parts: &[&[u8]],
+    fault: Option<RowFault>,
+) -> Result<(), Fail> {
+    let bytes = joined(alloc, parts)?;
+    assert_eq!(rt; decode(alloc, &bytes).err(), fault, "{bytes:?}");
+    Ok(())
 }
 
 const ROWS: [[&[u8]; 7]; 4] = [
@@ -95,37 +122,39 @@ const ROWS: [[&[u8]; 7]; 4] = [
 #[test]
 fn a_principal_is_written_and_copied(rt: HostRuntime) -> Result<(), Fail> {
     for row in ROWS.iter() {
-        let bytes = joined(&rt, row)?;
-        assert!(rt; is_written_back(&rt, &bytes)?, "{bytes:?}");
-        assert!(rt; is_copied(&rt, &bytes)?, "{bytes:?}");
+        check_written(&rt, rt.alloc(), row)?;
     }
+    Ok(())
+}
+
+/// The principal of these parts.
+fn princ_of(alloc: Global, parts: &[&[u8]]) -> Result<Princ, Fail> {
+    let bytes = joined(alloc, parts)?;
+    Ok(decode(alloc, &bytes)?)
+}
+
+fn check_read(rt: &impl Abort, alloc: Global, parts: &[&[u8]]) -> Result<(), Fail> {
+    let princ = princ_of(alloc, parts)?;
+    assert_eq!(rt;
+        (princ.attributes, princ.max_life, princ.max_renew),
+        (0x80, 3600, 7200)
+    );
+    assert_eq!(rt;
+        (princ.expire, princ.pw_expire, princ.modified),
+        (0, u32::MAX, 1700000000)
+    );
     Ok(())
 }
 
 #[test]
 fn a_principal_is_read(rt: HostRuntime) -> Result<(), Fail> {
     for row in ROWS.iter() {
-        let bytes = joined(&rt, row)?;
-        let princ = decode(rt.alloc(), &bytes)?;
-        assert_eq!(rt;
-            (princ.attributes, princ.max_life, princ.max_renew),
-            (0x80, 3600, 7200)
-        );
-        assert_eq!(rt;
-            (princ.expire, princ.pw_expire, princ.modified),
-            (0, u32::MAX, 1700000000)
-        );
+        check_read(&rt, rt.alloc(), row)?;
     }
     Ok(())
 }
 
-#[test]
-fn a_key_is_read(rt: HostRuntime) -> Result<(), Fail> {
-    let bytes = joined(
-        &rt,
-        &[ALICE, PREAUTH, LIVES, TAGS, ONE_KEY, NO_POLICY, NO_OLD],
-    )?;
-    let princ = decode(rt.alloc(), &bytes)?;
+fn check_key(rt: &impl Abort, princ: &Princ) -> Result<(), Fail> {
     if let [key] = princ.keys.as_slice() {
         assert_eq!(rt; (key.kvno, key.etype.number()), (7, 18));
         assert!(rt;
@@ -139,148 +168,189 @@ fn a_key_is_read(rt: HostRuntime) -> Result<(), Fail> {
 }
 
 #[test]
+fn a_key_is_read(rt: HostRuntime) -> Result<(), Fail> {
+    let row = [ALICE, PREAUTH, LIVES, TAGS, ONE_KEY, NO_POLICY, NO_OLD];
+    let princ = princ_of(rt.alloc(), &row)?;
+    check_key(&rt, &princ)
+}
+
+const WRONG: [[&[u8]; 7]; 10] = [
+    // A byte behind the row, and one too few.
+    [ALICE, PREAUTH, LIVES, TAGS, ONE_KEY, POLICY, b"\0\0x"],
+    [ALICE, PREAUTH, LIVES, TAGS, ONE_KEY, POLICY, b"\0"],
+    // A bit that no flag has.
+    [ALICE, b"\0\0\x04\x80", LIVES, TAGS, ONE_KEY, POLICY, NO_OLD],
+    // The items of K/M missing there, and standing elsewhere.
+    [MASTER, PREAUTH, LIVES, TAGS, ONE_KEY, POLICY, NO_OLD],
+    [ALICE, PREAUTH, LIVES, MASTER_TAGS, ONE_KEY, POLICY, NO_OLD],
+    // A key of version 0.
+    [
+        ALICE,
+        PREAUTH,
+        LIVES,
+        TAGS,
+        b"\0\x01\0\0\0\x12\0\0\0\0\0\x01x",
+        POLICY,
+        NO_OLD,
+    ],
+    // Versions that rise.
+    [
+        ALICE,
+        PREAUTH,
+        LIVES,
+        TAGS,
+        b"\0\x02\0\x01\0\x12\0\0\0\0\0\x01x\0\x02\0\x12\0\0\0\0\0\x01y",
+        POLICY,
+        NO_OLD,
+    ],
+    // Two keys of one version and one type.
+    [
+        ALICE,
+        PREAUTH,
+        LIVES,
+        TAGS,
+        b"\0\x02\0\x02\0\x12\0\0\0\0\0\x01x\0\x02\0\x12\0\0\0\0\0\x01y",
+        POLICY,
+        NO_OLD,
+    ],
+    // A normal salt with a byte.
+    [
+        ALICE,
+        PREAUTH,
+        LIVES,
+        TAGS,
+        b"\0\x01\0\x02\0\x12\0\0\0\x01s\0\x01x",
+        POLICY,
+        NO_OLD,
+    ],
+    // What is no policy's name.
+    [ALICE, PREAUTH, LIVES, TAGS, ONE_KEY, b"\0\x04.std", NO_OLD],
+];
+
+#[test]
 fn what_is_no_principal(rt: HostRuntime) -> Result<(), Fail> {
-    let wrong: [[&[u8]; 7]; 10] = [
-        // A byte behind the row, and one too few.
-        [ALICE, PREAUTH, LIVES, TAGS, ONE_KEY, POLICY, b"\0\0x"],
-        [ALICE, PREAUTH, LIVES, TAGS, ONE_KEY, POLICY, b"\0"],
-        // A bit that no flag has.
-        [ALICE, b"\0\0\x04\x80", LIVES, TAGS, ONE_KEY, POLICY, NO_OLD],
-        // The items of K/M missing there, and standing elsewhere.
-        [MASTER, PREAUTH, LIVES, TAGS, ONE_KEY, POLICY, NO_OLD],
-        [ALICE, PREAUTH, LIVES, MASTER_TAGS, ONE_KEY, POLICY, NO_OLD],
-        // A key of version 0.
-        [
-            ALICE,
-            PREAUTH,
-            LIVES,
-            TAGS,
-            b"\0\x01\0\0\0\x12\0\0\0\0\0\x01x",
-            POLICY,
-            NO_OLD,
-        ],
-        // Versions that rise.
-        [
-            ALICE,
-            PREAUTH,
-            LIVES,
-            TAGS,
-            b"\0\x02\0\x01\0\x12\0\0\0\0\0\x01x\0\x02\0\x12\0\0\0\0\0\x01y",
-            POLICY,
-            NO_OLD,
-        ],
-        // Two keys of one version and one type.
-        [
-            ALICE,
-            PREAUTH,
-            LIVES,
-            TAGS,
-            b"\0\x02\0\x02\0\x12\0\0\0\0\0\x01x\0\x02\0\x12\0\0\0\0\0\x01y",
-            POLICY,
-            NO_OLD,
-        ],
-        // A normal salt with a byte.
-        [
-            ALICE,
-            PREAUTH,
-            LIVES,
-            TAGS,
-            b"\0\x01\0\x02\0\x12\0\0\0\x01s\0\x01x",
-            POLICY,
-            NO_OLD,
-        ],
-        // What is no policy's name.
-        [ALICE, PREAUTH, LIVES, TAGS, ONE_KEY, b"\0\x04.std", NO_OLD],
-    ];
-    for row in &wrong {
-        let bytes = joined(&rt, row)?;
-        assert_eq!(rt;
-            decode(rt.alloc(), &bytes).err(),
-            Some(RowFault::BadRecord),
-            "{bytes:?}"
-        );
+    for row in WRONG.iter() {
+        check_fault(&rt, rt.alloc(), row, Some(RowFault::BadRecord))?;
     }
+    Ok(())
+}
+
+/// A row with these tags tells of a change of the password, and of so many attributes.
+fn check_tags(
+    rt: &impl Abort,
+    alloc: Global,
+    tags: &[u8],
+    set: Option<u32>,
+    count: usize,
+) -> Result<(), Fail> {
+    let bytes = joined(
+        alloc,
+        &[ALICE, PREAUTH, LIVES, tags, ONE_KEY, POLICY, NO_OLD],
+    )?;
+    let princ = decode(alloc, &bytes)?;
+    assert_eq!(rt; princ.pw_changed, set);
+    assert_eq!(rt; princ.strings.as_slice().len(), count);
+    assert!(rt; is_row(&princ) && !is_row_1(&princ));
     Ok(())
 }
 
 #[test]
 fn a_row_with_attributes(rt: HostRuntime) -> Result<(), Fail> {
-    for (tags, set, count) in &[(STRING_TAGS, Some(1700000000), 2), (FRESH_TAGS, None, 1)] {
-        let bytes = joined(&rt, &[ALICE, PREAUTH, LIVES, tags, ONE_KEY, POLICY, NO_OLD])?;
-        let princ = decode(rt.alloc(), &bytes)?;
-        assert_eq!(rt; princ.pw_changed, *set);
-        assert_eq!(rt; princ.strings.as_slice().len(), *count);
-        assert!(rt; is_row(&princ) && !is_row_1(&princ));
-    }
-    Ok(())
+    check_tags(&rt, rt.alloc(), STRING_TAGS, Some(1700000000), 2)?;
+    check_tags(&rt, rt.alloc(), FRESH_TAGS, None, 1)
 }
 
 #[test]
 fn a_row_with_attributes_is_written_and_copied(rt: HostRuntime) -> Result<(), Fail> {
     for tags in &[STRING_TAGS, FRESH_TAGS] {
-        let bytes = joined(&rt, &[ALICE, PREAUTH, LIVES, tags, ONE_KEY, POLICY, NO_OLD])?;
-        assert!(rt; is_written_back(&rt, &bytes)?, "{bytes:?}");
-        assert!(rt; is_copied(&rt, &bytes)?, "{bytes:?}");
+        check_written(
+            &rt,
+            rt.alloc(),
+            &[ALICE, PREAUTH, LIVES, tags, ONE_KEY, POLICY, NO_OLD],
+        )?;
     }
     Ok(())
 }
 
-fn is_refused(rt: &HostRuntime, name: &[u8], tags: &[u8], keys: &[u8]) -> Result<bool, Fail> {
-    let bytes = joined(rt, &[name, PREAUTH, LIVES, tags, keys, NO_POLICY, NO_OLD])?;
-    Ok(decode(rt.alloc(), &bytes).err() == Some(RowFault::BadRecord))
+fn is_refused(alloc: Global, name: &[u8], tags: &[u8], keys: &[u8]) -> Result<bool, Fail> {
+    let bytes = joined(
+        alloc,
+        &[name, PREAUTH, LIVES, tags, keys, NO_POLICY, NO_OLD],
+    )?;
+    Ok(decode(alloc, &bytes).err() == Some(RowFault::BadRecord))
 }
 
 const ITEMS: &[u8] = b"\0\x02\0\x08\0\xf1\x53\x65a@R\0\0\x08\0\x02\x01\0";
 
-#[test]
-fn what_is_no_row_with_attributes(rt: HostRuntime) -> Result<(), Fail> {
-    let wrong: [(&[u8], &[u8]); 7] = [
-        // An item of no attribute, keys that fall, and equal ones.
-        (b"\0\x03", b"\0\x0b\0\0"),
-        (b"\0\x03", b"\0\x0b\0\x06b\0\0a\0\0"),
-        (b"\0\x03", b"\0\x0b\0\x06a\0\0a\0\0"),
-        // An item that is counted and missing, one that is not counted, and one too many.
-        (b"\0\x03", b""),
-        (b"\0\x02", b"\0\x0b\0\x04a\0b\0"),
-        (b"\0\x04", b"\0\x0b\0\x04a\0b\0"),
-        // Another type in its place.
-        (b"\0\x03", b"\0\x0a\0\x04a\0b\0"),
-    ];
-    for (count, item) in &wrong {
-        let tags = joined(&rt, &[count, ITEMS, item])?;
-        assert!(rt; is_refused(&rt, ALICE, &tags, ONE_KEY)?, "{tags:?}");
-    }
-    // Seventeen attributes of four bytes are 44 bytes in hexadecimal.
-    let mut tags = joined(&rt, &[b"\0\x03", ITEMS, b"\0\x0b\0\x44"])?;
-    for i in 0..17u8 {
-        tags.extend_from_slice(&[b'a', b'a' + i, 0, 0])?;
-    }
-    assert!(rt; is_refused(&rt, ALICE, &tags, ONE_KEY)?);
+/// Tags with so many items counted, and this behind two of them.
+fn check_items(rt: &impl Abort, alloc: Global, count: &[u8], item: &[u8]) -> Result<(), Fail> {
+    let tags = joined(alloc, &[count, ITEMS, item])?;
+    assert!(rt; is_refused(alloc, ALICE, &tags, ONE_KEY)?, "{tags:?}");
     Ok(())
 }
 
+/// Seventeen attributes of four bytes are 44 bytes in hexadecimal.
+fn many_tags(alloc: Global) -> Result<Vec<u8>, Fail> {
+    let mut tags = joined(alloc, &[b"\0\x03", ITEMS, b"\0\x0b\0\x44"])?;
+    for i in 0..17u8 {
+        tags.extend_from_slice(&[b'a', b'a' + i, 0, 0])?;
+    }
+    Ok(tags)
+}
+
+/// How many items are counted, and what stands behind them.
+const WRONG_ITEMS: [(&[u8], &[u8]); 7] = [
+    // An item of no attribute, keys that fall, and equal ones.
+    (b"\0\x03", b"\0\x0b\0\0"),
+    (b"\0\x03", b"\0\x0b\0\x06b\0\0a\0\0"),
+    (b"\0\x03", b"\0\x0b\0\x06a\0\0a\0\0"),
+    // An item that is counted and missing, one that is not counted, and one too many.
+    (b"\0\x03", b""),
+    (b"\0\x02", b"\0\x0b\0\x04a\0b\0"),
+    (b"\0\x04", b"\0\x0b\0\x04a\0b\0"),
+    // Another type in its place.
+    (b"\0\x03", b"\0\x0a\0\x04a\0b\0"),
+];
+
+#[test]
+fn what_is_no_row_with_attributes(rt: HostRuntime) -> Result<(), Fail> {
+    for (count, item) in WRONG_ITEMS.iter() {
+        check_items(&rt, rt.alloc(), count, item)?;
+    }
+    let tags = many_tags(rt.alloc())?;
+    assert!(rt; is_refused(rt.alloc(), ALICE, &tags, ONE_KEY)?);
+    Ok(())
+}
+
+const WRONG_KEYS: [&[u8]; 4] = [
+    // No keys, rising ones, two of one version, and another version than the record's.
+    NO_KEYS,
+    b"\0\x02\0\x02\0\x12\0\0\0\0\0\x01x\0\x03\0\x12\0\0\0\0\0\x01y",
+    b"\0\x02\0\x02\0\x12\0\0\0\0\0\x01x\0\x02\0\x11\0\0\0\0\0\x01y",
+    b"\0\x01\0\x03\0\x12\0\0\0\0\0\x01x",
+];
+
 #[test]
 fn what_are_no_keys_of_the_master(rt: HostRuntime) -> Result<(), Fail> {
-    assert!(rt; !is_refused(&rt, MASTER, MASTER_TAGS, MASTER_KEYS)?);
-    let wrong: [&[u8]; 4] = [
-        // No keys, rising ones, two of one version, and another version than the record's.
-        NO_KEYS,
-        b"\0\x02\0\x02\0\x12\0\0\0\0\0\x01x\0\x03\0\x12\0\0\0\0\0\x01y",
-        b"\0\x02\0\x02\0\x12\0\0\0\0\0\x01x\0\x02\0\x11\0\0\0\0\0\x01y",
-        b"\0\x01\0\x03\0\x12\0\0\0\0\0\x01x",
-    ];
-    for keys in &wrong {
-        assert!(rt; is_refused(&rt, MASTER, MASTER_TAGS, keys)?, "{keys:?}");
+    assert!(rt; !is_refused(rt.alloc(), MASTER, MASTER_TAGS, MASTER_KEYS)?);
+    for keys in WRONG_KEYS.iter() {
+        assert!(rt;
+            is_refused(rt.alloc(), MASTER, MASTER_TAGS, keys)?,
+            "{keys:?}"
+        );
     }
     // Attributes of K/M.
-    let tags = joined(&rt, &[b"\0\x05", &MASTER_TAGS[2..], b"\0\x0b\0\x04a\0b\0"])?;
-    assert!(rt; is_refused(&rt, MASTER, &tags, MASTER_KEYS)?);
+    let tags = joined(
+        rt.alloc(),
+        &[b"\0\x05", &MASTER_TAGS[2..], b"\0\x0b\0\x04a\0b\0"],
+    )?;
+    assert!(rt; is_refused(rt.alloc(), MASTER, &tags, MASTER_KEYS)?);
     Ok(())
 }
 
 /// So many keys of this type, of one byte each and of falling versions.
-fn keys_of(rt: &HostRuntime, etype: u8, count: u8) -> Result<Vec<u8>, Fail> {
-    let mut out = b"\0".to_vec(rt.alloc())?;
+fn keys_of(alloc: Global, etype: u8, count: u8) -> Result<Vec<u8>, Fail> {
+    let mut out = b"\0".to_vec(alloc)?;
     out.push(count)?;
     for older in 0..count {
         out.extend_from_slice(&[0, count - older, 0, etype])?;
@@ -290,8 +360,8 @@ fn keys_of(rt: &HostRuntime, etype: u8, count: u8) -> Result<Vec<u8>, Fail> {
 }
 
 /// So many remembered sets of a key of this type.
-fn sets_of(rt: &HostRuntime, etype: u8, count: u8) -> Result<Vec<u8>, Fail> {
-    let mut out = b"\0".to_vec(rt.alloc())?;
+fn sets_of(alloc: Global, etype: u8, count: u8) -> Result<Vec<u8>, Fail> {
+    let mut out = b"\0".to_vec(alloc)?;
     out.push(count)?;
     for older in 0..count {
         out.extend_from_slice(&[0, count - older, 0, 1, 0, etype])?;
@@ -300,28 +370,44 @@ fn sets_of(rt: &HostRuntime, etype: u8, count: u8) -> Result<Vec<u8>, Fail> {
     Ok(out)
 }
 
+/// A row with so many keys of a type, and so many remembered sets of one.
+fn check_count(
+    rt: &impl Abort,
+    alloc: Global,
+    etype: u8,
+    count: u8,
+    old: u8,
+    sets: u8,
+    fault: Option<RowFault>,
+) -> Result<(), Fail> {
+    let keys = keys_of(alloc, etype, count)?;
+    let remembered = sets_of(alloc, old, sets)?;
+    check_fault(
+        rt,
+        alloc,
+        &[ALICE, PREAUTH, LIVES, TAGS, &keys, POLICY, &remembered],
+        fault,
+    )
+}
+
+const BAD: Option<RowFault> = Some(RowFault::BadRecord);
+
+/// The type and the number of its keys, and those of what is remembered.
+const COUNTS: [(u8, u8, u8, u8, Option<RowFault>); 8] = [
+    (17, 32, 18, 15, None),
+    (19, 1, 20, 1, None),
+    (17, 33, 18, 15, BAD),
+    (17, 32, 18, 16, BAD),
+    (16, 1, 17, 1, BAD),
+    (21, 1, 17, 1, BAD),
+    (17, 1, 16, 1, BAD),
+    (17, 1, 21, 1, BAD),
+];
+
 #[test]
 fn how_many_keys_of_which_types(rt: HostRuntime) -> Result<(), Fail> {
-    let bad = Some(RowFault::BadRecord);
-    // The type and the number of its keys, and those of what is remembered.
-    let rows: [(u8, u8, u8, u8, Option<RowFault>); 8] = [
-        (17, 32, 18, 15, None),
-        (19, 1, 20, 1, None),
-        (17, 33, 18, 15, bad),
-        (17, 32, 18, 16, bad),
-        (16, 1, 17, 1, bad),
-        (21, 1, 17, 1, bad),
-        (17, 1, 16, 1, bad),
-        (17, 1, 21, 1, bad),
-    ];
-    for (etype, count, old, sets, fault) in &rows {
-        let keys = keys_of(&rt, *etype, *count)?;
-        let remembered = sets_of(&rt, *old, *sets)?;
-        let bytes = joined(
-            &rt,
-            &[ALICE, PREAUTH, LIVES, TAGS, &keys, POLICY, &remembered],
-        )?;
-        assert_eq!(rt; decode(rt.alloc(), &bytes).err(), *fault, "{bytes:?}");
+    for (etype, count, old, sets, fault) in COUNTS.iter() {
+        check_count(&rt, rt.alloc(), *etype, *count, *old, *sets, *fault)?;
     }
     Ok(())
 }
@@ -340,13 +426,17 @@ fn a_policy_is_read(rt: HostRuntime) -> Result<(), Fail> {
     Ok(())
 }
 
+fn check_copy(rt: &impl Abort, alloc: Global, policy: &Policy) -> Result<(), Fail> {
+    let again: Policy = copy_policy(alloc, policy)?;
+    let text: Blob = encode_policy(alloc, &again)?;
+    assert_eq!(rt; text.as_slice(), POLICY_ROW);
+    Ok(())
+}
+
 #[test]
 fn a_policy_is_copied_and_written(rt: HostRuntime) -> Result<(), Fail> {
     let policy = decode_policy(rt.alloc(), POLICY_ROW)?;
-    let again: Policy = copy_policy(rt.alloc(), &policy)?;
-    let text: Blob = encode_policy(rt.alloc(), &again)?;
-    assert_eq!(rt; text.as_slice(), POLICY_ROW);
-    Ok(())
+    check_copy(&rt, rt.alloc(), &policy)
 }
 
 #[test]

@@ -55,6 +55,15 @@ abbrev pub taken_as : Option Taking → Take
 taken_as None = TakenAlready
 taken_as (Some t) = Ready t
 
+-- what changed meanwhile, where anything did: the record that stands by the name now, and the active version
+abbrev pub changes : List Master → ℕ → Princ → Taking → Option Settled
+changes masters active stored taken = if may_settle masters (Some active) stored taken then None
+    else Some (settled.Changed (other_record stored taken) (other_version (Some active) taken))
+
+abbrev pub settled_of : Option Settled → Work → Settled
+settled_of None work = settled.Updated work.made
+settled_of (Some changed) work = changed
+
 -- what becomes of work that comes back to the record that stands by the name now, under these master keys and this
 -- active version
 unfoldable pub settled_with : Option Princ → List Master → ℕ → Work → Settled

@@ -4,7 +4,7 @@ ghost use Rattle.std.specs.Prelude.{◌≡◌, IfOk, IfSome, Some, option_map};
 ghost use Rattle.kdb_model.specs.Rekeying.{has_keys, is_key, is_record, is_version, unless_same};
 ghost use Rattle.kdb_plain.specs.States.{master_of};
 ghost use Rattle.princ_record.specs.Princs.{IsPrinc, princ};
-ghost use Rattle.rekey_work.specs.Works.{settled_with};
+ghost use Rattle.rekey_work.specs.Works.{changes, settled_of, settled_with};
 
 use crate::works::{Rewrapped, Settled, Taken};
 use kdb_base::{Masters, MemoryOut, PlainKey};
@@ -60,6 +60,38 @@ fn other_version(same: bool, active: u16) -> Option<u16>
     if same { None } else { Some(active) }
 }
 
+/// What changed meanwhile: the record that stands, and the active version, each where it is another than was taken.
+#[tactic(auto, unfolding(kdb_model::specs::Rekeying::may_settle))]
+fn changes(
+    alloc: Global,
+    stored: &Princ,
+    masters: &Masters,
+    active: u16,
+    taken: &Taken,
+) -> Result<Option<Settled>, MemoryOut>
+    requires { IsPrinc stored.now }
+    ensures { IfOk result (λ found. found ≡ changes masters.now active stored.now taken.now) }
+{
+    taken.holds();
+    let same = is_record(alloc, stored, taken.princ())?;
+    let stays = active == taken.version();
+    if same && stays && has_keys(masters, taken) {
+        return Ok(None);
+    }
+    let found = other_record(alloc, same, stored)?;
+    Ok(Some(Settled::Changed(found, other_version(stays, active))))
+}
+
+/// What becomes of work for a record that stands.
+fn settled(changed: Option<Settled>, made: Rewrapped) -> Settled
+    ensures { result ≡ settled_of changed made }
+{
+    match changed {
+        Some(changed) => changed,
+        None => Settled::Updated(made.into_made()),
+    }
+}
+
 /// What becomes of a record that was taken and wrapped anew, where `now` is the record that stands by its name, these
 /// are the master keys, and `active` is the active version. It is to be stored only where nothing changed meanwhile.
 ///
@@ -81,13 +113,6 @@ pub fn settle(
     let Some(stored) = now else {
         return Ok(Settled::Gone);
     };
-    let taken = made.taken();
-    taken.holds();
-    let same = is_record(alloc, stored, taken.princ())?;
-    let stays = active == taken.version();
-    if same && stays && has_keys(masters, taken) {
-        return Ok(Settled::Updated(made.into_made()));
-    }
-    let found = other_record(alloc, same, stored)?;
-    Ok(Settled::Changed(found, other_version(stays, active)))
+    let changed = changes(alloc, stored, masters, active, made.taken())?;
+    Ok(settled(changed, made))
 }

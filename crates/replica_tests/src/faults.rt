@@ -4,6 +4,7 @@ use crate::given::{AMY, BOB, EVE, FOUR, SECS, TWO, UPDATES};
 use crate::steps::{Answer, At, Step, opened, run, stands};
 use kdb_base::Fails;
 use kdb_disk::{FILES, MemoryDisk, replace_file};
+use replica_core::Replica;
 use std::alloc::Global;
 use std::process::Abort;
 use std::test::*;
@@ -53,12 +54,18 @@ fn play(alloc: Global, disk: &mut MemoryDisk, step: &Step) -> Result<(u64, Answe
     Ok((before, answer))
 }
 
+/// Does the steps one after another.
+fn play_all(alloc: Global, disk: &mut MemoryDisk, steps: &[Step]) -> Result<(), Fail> {
+    for step in steps {
+        play(alloc, disk, step)?;
+    }
+    Ok(())
+}
+
 /// A disk on which these steps were done, of which these calls are to fail.
 fn made(alloc: Global, steps: &[Step], fails: Fails) -> Result<MemoryDisk, Fail> {
     let mut disk = MemoryDisk::new(alloc, fails)?;
-    for step in steps {
-        play(alloc, &mut disk, step)?;
-    }
+    play_all(alloc, &mut disk, steps)?;
     Ok(disk)
 }
 
@@ -69,36 +76,60 @@ fn count_calls(alloc: Global, case: &Case) -> Result<(u64, u64), Fail> {
     Ok((before, disk.calls()))
 }
 
+/// Does the step, which the disk ends.
+fn play_failing(alloc: Global, disk: &mut MemoryDisk, step: &Step) -> Result<(), Fail> {
+    let (_, answer) = play(alloc, disk, step)?;
+    if answer != Answer::DiskFault {
+        return Err(Fail::from("a fault of the disk"));
+    }
+    Ok(())
+}
+
 /// The disk behind the step, which this call of it ended.
 fn failed(alloc: Global, case: &Case, call: u64) -> Result<MemoryDisk, Fail> {
     let fails = Fails::from_vec([call].to_vec(alloc)?);
     let mut disk = made(alloc, case.before, fails)?;
-    let (_, answer) = play(alloc, &mut disk, &case.step)?;
-    if answer != Answer::DiskFault {
-        return Err(Fail::from("a fault of the disk"));
-    }
+    play_failing(alloc, &mut disk, &case.step)?;
     Ok(disk)
+}
+
+fn copy_files(disk: &MemoryDisk, copy: &mut MemoryDisk) -> Result<(), Fail> {
+    for file in 0..FILES {
+        replace_file(copy, file, disk.bytes(file))?;
+    }
+    Ok(())
 }
 
 /// The same files on a disk of which no call fails.
 fn copied(alloc: Global, disk: &MemoryDisk) -> Result<MemoryDisk, Fail> {
     let mut copy = MemoryDisk::new(alloc, Fails::none(alloc))?;
-    for file in 0..FILES {
-        replace_file(&mut copy, file, disk.bytes(file))?;
-    }
+    copy_files(disk, &mut copy)?;
     Ok(copy)
+}
+
+/// Whether the replica is at one of these places.
+fn stands_at_one(replica: &Replica, places: &[Place]) -> bool {
+    for (point, names) in places {
+        if stands(replica, *point, names) {
+            return true;
+        }
+    }
+    false
 }
 
 /// Whether the replica that the files stand for is at one of these places.
 fn is_found(alloc: Global, disk: &MemoryDisk, places: &[Place]) -> Result<bool, Fail> {
     let mut copy = copied(alloc, disk)?;
     let replica = opened(alloc, &mut copy)?;
-    for (point, names) in places {
-        if stands(&replica, *point, names) {
-            return Ok(true);
-        }
-    }
-    Ok(false)
+    Ok(stands_at_one(&replica, places))
+}
+
+/// This call of the step fails.
+fn check_call(rt: &impl Abort, alloc: Global, case: &Case, call: u64) -> Result<(), Fail> {
+    let disk = failed(alloc, case, call)?;
+    let found = is_found(alloc, &disk, case.places)?;
+    assert!(rt; found, "call {call}");
+    Ok(())
 }
 
 /// Each call of the step fails in turn.
@@ -106,9 +137,7 @@ fn check_case(rt: &impl Abort, alloc: Global, case: &Case) -> Result<(), Fail> {
     let (before, behind) = count_calls(alloc, case)?;
     assert!(rt; before < behind);
     for call in before..behind {
-        let disk = failed(alloc, case, call)?;
-        let found = is_found(alloc, &disk, case.places)?;
-        assert!(rt; found, "call {call}");
+        check_call(rt, alloc, case, call)?;
     }
     Ok(())
 }

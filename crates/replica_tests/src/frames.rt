@@ -82,14 +82,24 @@ fn a_poll_is_written(rt: HostRuntime) -> Result<(), Fail> {
     Ok(())
 }
 
-#[test]
-fn replies_are_written(rt: HostRuntime) -> Result<(), Fail> {
-    let alloc = rt.alloc();
-    let text = write_message(alloc, &nothing_new(alloc))?;
+fn check_nil(rt: &impl Abort, alloc: Global) -> Result<(), Fail> {
+    let message = nothing_new(alloc);
+    let text = write_message(alloc, &message)?;
     assert_eq!(rt; text.as_slice(), NIL);
-    let text = write_message(alloc, &one_update(alloc)?)?;
+    Ok(())
+}
+
+fn check_update(rt: &impl Abort, alloc: Global) -> Result<(), Fail> {
+    let message = one_update(alloc)?;
+    let text = write_message(alloc, &message)?;
     assert_eq!(rt; text.as_slice(), UPDATE);
     Ok(())
+}
+
+#[test]
+fn replies_are_written(rt: HostRuntime) -> Result<(), Fail> {
+    check_nil(&rt, rt.alloc())?;
+    check_update(&rt, rt.alloc())
 }
 
 // ---- read
@@ -126,15 +136,32 @@ const CASES: [Case; 3] = [
     },
 ];
 
+/// Whether a message waits, which is then handed out.
+fn waits(decoder: &mut Decoder) -> bool {
+    let message = decoder.next();
+    message.is_some()
+}
+
+/// Feeds a piece, before which no message waits, and of which all is taken.
+fn feed_piece(decoder: &mut Decoder, piece: &[u8]) -> Result<(), Fail> {
+    if waits(decoder) || decoder.feed(piece)? != piece.len() {
+        return Err(Fail::from("bytes of one message"));
+    }
+    Ok(())
+}
+
+fn feed_pieces(decoder: &mut Decoder, text: &[u8], size: usize) -> Result<(), Fail> {
+    for piece in text.chunks(size.max(1)) {
+        feed_piece(decoder, piece)?;
+    }
+    Ok(())
+}
+
 /// The message of these bytes, which come in pieces of this size. It waits behind the last of
 /// them, and not before.
 fn read(alloc: Global, text: &[u8], size: usize) -> Result<Option<Message>, Fail> {
     let mut decoder = Decoder::new(alloc)?;
-    for piece in text.chunks(size.max(1)) {
-        if decoder.next().is_some() || decoder.feed(piece)? != piece.len() {
-            return Err(Fail::from("bytes of one message"));
-        }
-    }
+    feed_pieces(&mut decoder, text, size)?;
     Ok(decoder.next())
 }
 

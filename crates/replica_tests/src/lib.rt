@@ -5,10 +5,18 @@
 #[cfg(test)]
 mod faults;
 #[cfg(test)]
+mod first_files;
+#[cfg(test)]
 mod frames;
 #[cfg(test)]
 mod given;
 #[cfg(test)]
+mod logs;
+#[cfg(test)]
+mod refusals;
+#[cfg(test)]
 mod replies;
+#[cfg(test)]
+mod spelled;
 #[cfg(test)]
 mod steps;

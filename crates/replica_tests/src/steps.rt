@@ -3,6 +3,7 @@
 ghost use Rattle.std.specs.Prelude.{◌≡◌, false, IfOk};
 ghost use Rattle.replica_core.specs.Opened.{IsHeldOn, is_broken};
 
+use crate::spelled::{Reply, frames_of};
 use dump_text::{Dump, DumpReader};
 use iprop_wire::{Decoder, Message};
 use kdb_base::{Fails, Halt, Point};
@@ -24,6 +25,8 @@ pub(crate) enum Step {
     Load(&'static [u8]),
     /// The reply is taken.
     Take(&'static [u8]),
+    /// So is one that is spelled by its points.
+    Answer(Reply),
     /// The dump is loaded, and then the reply is taken.
     LoadAndTake(&'static [u8], &'static [u8]),
     /// The reply is taken, and then it comes again.
@@ -64,10 +67,14 @@ fn dump_of(alloc: Global, text: &[u8]) -> Result<Dump, Fail> {
     Ok(reader.finish()?)
 }
 
-fn reply_of(alloc: Global, frames: &[u8]) -> Result<PollReply, Fail> {
+fn message_of(alloc: Global, frames: &[u8]) -> Result<Option<Message>, Fail> {
     let mut decoder = Decoder::new(alloc)?;
     decoder.feed(frames)?;
-    match decoder.next() {
+    Ok(decoder.next())
+}
+
+fn reply_of(alloc: Global, frames: &[u8]) -> Result<PollReply, Fail> {
+    match message_of(alloc, frames)? {
         Some(Message::Reply(reply)) => Ok(reply),
         _ => Err(Fail::from("a reply")),
     }
@@ -75,15 +82,26 @@ fn reply_of(alloc: Global, frames: &[u8]) -> Result<PollReply, Fail> {
 
 // ---- one call
 
-/// Opens the replica.
+/// Opens the replica with a log of so many entries.
+pub(crate) fn opened_with<D: Disk>(alloc: Global, disk: &mut D, size: u32) -> Result<Replica, Fail>
+    ensures on { D.tells → IfOk result (λ r. IsHeldOn r.database (D.view disk.new)) }
+    ensures whole { IfOk result (λ r. is_broken r.database r.failed ≡ false) }
+{
+    if size < 2 || size > 10000 {
+        return Err(Fail::from("a size of a log"));
+    }
+    match Replica::recover(alloc, disk, size) {
+        Ok(replica) => Ok(replica),
+        Err(stop) => Err(Fail::from(stop)),
+    }
+}
+
+/// Opens the replica with a log of 100 entries.
 pub(crate) fn opened<D: Disk>(alloc: Global, disk: &mut D) -> Result<Replica, Fail>
     ensures on { D.tells → IfOk result (λ r. IsHeldOn r.database (D.view disk.new)) }
     ensures whole { IfOk result (λ r. is_broken r.database r.failed ≡ false) }
 {
-    match Replica::recover(alloc, disk, 100) {
-        Ok(replica) => Ok(replica),
-        Err(stop) => Err(Fail::from(stop)),
-    }
+    opened_with(alloc, disk, 100)
 }
 
 /// What is compared of a point.
@@ -138,6 +156,19 @@ fn take<D: Disk>(
     }
 }
 
+fn take_spelled<D: Disk>(
+    alloc: Global,
+    replica: &mut Replica,
+    disk: &mut D,
+    reply: &Reply,
+) -> Result<Answer, Fail>
+    requires on { D.tells → IsHeldOn replica.old.database (D.view disk.old) }
+    requires whole { is_broken replica.old.database replica.old.failed ≡ false }
+{
+    let frames = frames_of(alloc, reply)?;
+    take(alloc, replica, disk, &frames)
+}
+
 // ---- two calls in a row
 
 fn load_and_take<D: Disk>(
@@ -188,6 +219,7 @@ pub(crate) fn run<D: Disk>(
     match step {
         Step::Load(text) => load(alloc, replica, disk, text),
         Step::Take(frames) => take(alloc, replica, disk, frames),
+        Step::Answer(reply) => take_spelled(alloc, replica, disk, reply),
         Step::LoadAndTake(text, frames) => load_and_take(alloc, replica, disk, text, frames),
         Step::TakeTwice(frames) => take_twice(alloc, replica, disk, frames),
     }
@@ -227,15 +259,27 @@ fn is_found(alloc: Global, disk: &mut MemoryDisk, turn: &Turn) -> Result<bool, F
     Ok(stands(&replica, turn.point, turn.names))
 }
 
+/// Takes the turn of this number.
+pub(crate) fn check_turn(
+    rt: &impl Abort,
+    alloc: Global,
+    disk: &mut MemoryDisk,
+    turn: &Turn,
+    number: u32,
+) -> Result<(), Fail> {
+    let done = is_done(alloc, disk, turn)?;
+    assert!(rt; done, "turn {number}");
+    let found = is_found(alloc, disk, turn)?;
+    assert!(rt; found, "behind turn {number}");
+    Ok(())
+}
+
 /// Takes the turns one after another, over an empty disk.
 pub(crate) fn play(rt: &impl Abort, alloc: Global, turns: &[Turn]) -> Result<(), Fail> {
     let mut disk = MemoryDisk::new(alloc, Fails::none(alloc))?;
     let mut number = 0u32;
     for turn in turns {
-        let done = is_done(alloc, &mut disk, turn)?;
-        assert!(rt; done, "turn {number}");
-        let found = is_found(alloc, &mut disk, turn)?;
-        assert!(rt; found, "behind turn {number}");
+        check_turn(rt, alloc, &mut disk, turn, number)?;
         number = number.saturating_add(1);
     }
     Ok(())

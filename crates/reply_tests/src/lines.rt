@@ -1,12 +1,14 @@
 use kadm_commands::{
-    AddPrinc, ChangeKeys, Command, ModPolicy, ModPrinc, PolicyChoice, PrincOptions,
+    AddPrinc, ChangeKeys, Command, DelString, ModPolicy, ModPrinc, PolicyChoice, PrincOptions,
+    PurgeKeys, RenPrinc, SetString, UseMaster,
 };
 use kadm_wire::parse_line;
-use kdb_base::{Blob, Etype, MemoryOut, Refusal, Stop};
+use kdb_base::{Blob, Etype, Field, MemoryOut, Refusal, Stop};
 use plain_keys::{Etypes, NewKeys};
 use policy_rules::Policy;
 use princ_name::{Name, print_name};
 use std::alloc::Global;
+use std::process::Abort;
 use std::test::*;
 
 // A word and a value, where there is one.
@@ -134,35 +136,53 @@ fn put_glob(out: &mut Vec<u8>, glob: &Option<Blob>) -> Result<(), MemoryOut> {
     }
 }
 
+fn put_renaming(alloc: Global, out: &mut Vec<u8>, rename: &RenPrinc) -> Result<(), MemoryOut> {
+    put_name(alloc, out, &rename.name)?;
+    put_name(alloc, out, &rename.new_name)
+}
+
+fn put_purging(alloc: Global, out: &mut Vec<u8>, purge: &PurgeKeys) -> Result<(), MemoryOut> {
+    put_name(alloc, out, &purge.name)?;
+    put_value(alloc, out, "keep", purge.keep.map(u32::from))
+}
+
+fn put_setting(alloc: Global, out: &mut Vec<u8>, set: &SetString) -> Result<(), MemoryOut> {
+    put_name(alloc, out, &set.name)?;
+    put_word(out, set.key.as_slice())?;
+    put_word(out, set.value.as_slice())
+}
+
+fn put_unsetting(alloc: Global, out: &mut Vec<u8>, del: &DelString) -> Result<(), MemoryOut> {
+    put_name(alloc, out, &del.name)?;
+    put_word(out, del.key.as_slice())
+}
+
 // What a command on one principal has behind its word.
 fn put_princ(alloc: Global, out: &mut Vec<u8>, command: &Command) -> Result<(), MemoryOut> {
     match command {
         Command::AddPrinc(add) => put_adding(alloc, out, add),
         Command::ModPrinc(modify) => put_modifying(alloc, out, modify),
         Command::ChangeKeys(change) => put_changing(alloc, out, change),
-        Command::RenPrinc(rename) => {
-            put_name(alloc, out, &rename.name)?;
-            put_name(alloc, out, &rename.new_name)
-        }
-        Command::PurgeKeys(purge) => {
-            put_name(alloc, out, &purge.name)?;
-            put_value(alloc, out, "keep", purge.keep.map(u32::from))
-        }
-        Command::SetString(set) => {
-            put_name(alloc, out, &set.name)?;
-            put_word(out, set.key.as_slice())?;
-            put_word(out, set.value.as_slice())
-        }
-        Command::DelString(del) => {
-            put_name(alloc, out, &del.name)?;
-            put_word(out, del.key.as_slice())
-        }
+        Command::RenPrinc(rename) => put_renaming(alloc, out, rename),
+        Command::PurgeKeys(purge) => put_purging(alloc, out, purge),
+        Command::SetString(set) => put_setting(alloc, out, set),
+        Command::DelString(del) => put_unsetting(alloc, out, del),
         Command::DelPrinc(name) => put_name(alloc, out, name),
         Command::GetPrinc(name) => put_name(alloc, out, name),
         Command::GetStrings(name) => put_name(alloc, out, name),
         Command::Extract(name) => put_name(alloc, out, name),
         _ => Ok(()),
     }
+}
+
+fn put_type(alloc: Global, out: &mut Vec<u8>, etype: &Option<Etype>) -> Result<(), MemoryOut> {
+    let number = etype.map(|etype: Etype| u32::from(etype.number()));
+    put_value(alloc, out, "type", number)
+}
+
+fn put_using(alloc: Global, out: &mut Vec<u8>, used: &UseMaster) -> Result<(), MemoryOut> {
+    put_value(alloc, out, "version", Some(u32::from(used.version)))?;
+    put_value(alloc, out, "from", used.secs)
 }
 
 // What another command has behind its word.
@@ -174,14 +194,8 @@ fn put_other(alloc: Global, out: &mut Vec<u8>, command: &Command) -> Result<(), 
         Command::ModPolicy(policy) => put_changes(alloc, out, policy),
         Command::DelPolicy(name) => put_word(out, name.as_slice()),
         Command::GetPolicy(name) => put_word(out, name.as_slice()),
-        Command::AddMaster(etype) => {
-            let number = etype.map(|etype: Etype| u32::from(etype.number()));
-            put_value(alloc, out, "type", number)
-        }
-        Command::UseMaster(used) => {
-            put_value(alloc, out, "version", Some(u32::from(used.version)))?;
-            put_value(alloc, out, "from", used.secs)
-        }
+        Command::AddMaster(etype) => put_type(alloc, out, etype),
+        Command::UseMaster(used) => put_using(alloc, out, used),
         _ => Ok(()),
     }
 }
@@ -224,19 +238,23 @@ fn told_command(alloc: Global, command: &Command) -> Result<Blob, MemoryOut> {
     Ok(Blob::from_vec(out))
 }
 
+fn told_offset(alloc: Global, offset: u32) -> Result<Blob, MemoryOut> {
+    let text = format!(in alloc; "2 {offset}")?;
+    Blob::from_bytes(alloc, text.as_bytes())
+}
+
+fn told_field(alloc: Global, field: Field) -> Result<Blob, MemoryOut> {
+    let field = field.word();
+    let text = format!(in alloc; "13 {field}")?;
+    Blob::from_bytes(alloc, text.as_bytes())
+}
+
 // A refusal of a line in short.
 fn told_refusal(alloc: Global, refusal: &Refusal) -> Result<Blob, MemoryOut> {
     match *refusal {
         Refusal::BadLine => Blob::from_bytes(alloc, b"1"),
-        Refusal::BadName { offset } => {
-            let text = format!(in alloc; "2 {offset}")?;
-            Blob::from_bytes(alloc, text.as_bytes())
-        }
-        Refusal::BadValue { field } => {
-            let field = field.word();
-            let text = format!(in alloc; "13 {field}")?;
-            Blob::from_bytes(alloc, text.as_bytes())
-        }
+        Refusal::BadName { offset } => told_offset(alloc, offset),
+        Refusal::BadValue { field } => told_field(alloc, field),
         Refusal::LineTooLong => Blob::from_bytes(alloc, b"27"),
         _ => Blob::from_bytes(alloc, b"?"),
     }
@@ -450,16 +468,25 @@ fn policies_and_masters(rt: HostRuntime) -> Result<(), Fail> {
     Ok(())
 }
 
-#[test]
-fn long_lines(rt: HostRuntime) -> Result<(), Fail> {
-    let mut long = Vec::new(rt.alloc());
+fn check_told(rt: &impl Abort, alloc: Global, line: &[u8], expected: &[u8]) -> Result<(), Fail> {
+    let text = told(alloc, line)?;
+    assert_eq!(rt; text.as_slice(), expected);
+    Ok(())
+}
+
+// The longest line.
+fn longest(alloc: Global) -> Result<Vec<u8>, Fail> {
+    let mut long = Vec::new(alloc);
     for _ in 0..65536 {
         long.push(b'a')?;
     }
-    let text = told(rt.alloc(), &long)?;
-    assert_eq!(rt; text.as_slice(), b"1".as_slice());
+    Ok(long)
+}
+
+#[test]
+fn long_lines(rt: HostRuntime) -> Result<(), Fail> {
+    let mut long = longest(rt.alloc())?;
+    check_told(&rt, rt.alloc(), &long, b"1")?;
     long.push(b'a')?;
-    let text = told(rt.alloc(), &long)?;
-    assert_eq!(rt; text.as_slice(), b"27".as_slice());
-    Ok(())
+    check_told(&rt, rt.alloc(), &long, b"27")
 }

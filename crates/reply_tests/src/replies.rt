@@ -9,6 +9,7 @@ use kdb_base::{
 use policy_rules::Policy;
 use serving_versions::Cause;
 use std::alloc::Global;
+use std::process::Abort;
 use std::test::*;
 use tagged_data::{StringAttribute, StringAttributes};
 
@@ -63,18 +64,24 @@ const ALICE: &str = "- principal alice@EXAMPLE.ORG
 ok
 ";
 
-fn bob(alloc: Global) -> Result<PrincShown, MemoryOut> {
-    let mut princ = alice(alloc)?;
-    princ.pw_changed = None;
-    princ.attributes = 0xc0;
-    princ.policy = Some(Blob::from_bytes(alloc, b"std")?);
+fn one_key(alloc: Global) -> Result<KeysShown, MemoryOut> {
     let mut keys = Vec::new(alloc);
     keys.push(KeyShown {
         kvno: 12,
         etype: Etype::Aes256Sha2,
         special: true,
     })?;
-    princ.keys = KeysShown::from_vec(keys);
+    Ok(KeysShown::from_vec(keys))
+}
+
+fn bob(alloc: Global) -> Result<PrincShown, MemoryOut> {
+    let policy = Blob::from_bytes(alloc, b"std")?;
+    let keys = one_key(alloc)?;
+    let mut princ = alice(alloc)?;
+    princ.pw_changed = None;
+    princ.attributes = 0xc0;
+    princ.policy = Some(policy);
+    princ.keys = keys;
     Ok(princ)
 }
 
@@ -97,32 +104,67 @@ fn is_text(alloc: Global, reply: &Reply, expected: &str) -> Result<bool, MemoryO
     Ok(text.as_slice() == expected.as_bytes())
 }
 
-#[test]
-fn principals(rt: HostRuntime) -> Result<(), Fail> {
-    let alloc = rt.alloc();
-    assert!(rt; is_text(alloc, &Reply::Shown(alice(alloc)?), ALICE)?);
-    assert!(rt; is_text(alloc, &Reply::Shown(bob(alloc)?), BOB)?);
-    Ok(())
+// The same of a reply that is given away.
+fn prints(alloc: Global, reply: Reply, expected: &str) -> Result<bool, MemoryOut> {
+    is_text(alloc, &reply, expected)
+}
+
+fn shows(alloc: Global, princ: PrincShown, expected: &str) -> Result<bool, MemoryOut> {
+    prints(alloc, Reply::Shown(princ), expected)
+}
+
+fn shows_alice(alloc: Global) -> Result<bool, MemoryOut> {
+    let princ = alice(alloc)?;
+    shows(alloc, princ, ALICE)
+}
+
+fn shows_bob(alloc: Global) -> Result<bool, MemoryOut> {
+    let princ = bob(alloc)?;
+    shows(alloc, princ, BOB)
 }
 
 #[test]
-fn changes(rt: HostRuntime) -> Result<(), Fail> {
+fn principals(rt: HostRuntime) -> Result<(), Fail> {
     let alloc = rt.alloc();
+    assert!(rt; shows_alice(alloc)?);
+    assert!(rt; shows_bob(alloc)?);
+    Ok(())
+}
+
+fn is_done(alloc: Global) -> Result<bool, MemoryOut> {
     let reply = Reply::Done(point(2, 1_700_000_000));
-    assert!(rt; is_text(alloc, &reply, "ok 2 1700000000.000000\n")?);
+    prints(alloc, reply, "ok 2 1700000000.000000\n")
+}
+
+fn is_added(alloc: Global) -> Result<bool, MemoryOut> {
     let reply = Reply::MasterAdded(point(3, 1_700_000_000), 2);
-    assert!(rt; is_text(alloc, &reply, "ok 3 1700000000.000000 mkvno 2\n")?);
+    prints(alloc, reply, "ok 3 1700000000.000000 mkvno 2\n")
+}
+
+fn is_used(alloc: Global) -> Result<bool, MemoryOut> {
     let reply = Reply::MasterUsed(point(5, 1_700_000_000), 3, 1_700_003_600);
     let text = "ok 5 1700000000.000000 mkvno 3 from 2023-11-14T23:13:20Z\n";
-    assert!(rt; is_text(alloc, &reply, text)?);
+    prints(alloc, reply, text)
+}
+
+fn is_rekeyed(alloc: Global) -> Result<bool, MemoryOut> {
     let totals = Totals {
         updated: 3,
         already: 0,
         gone: 1,
     };
     let text = "ok 3 principals processed: 3 updated, 0 already current, 1 gone\n";
-    assert!(rt; is_text(alloc, &Reply::Rekeyed(totals), text)?);
-    assert!(rt; is_text(alloc, &Reply::Stashed, "ok\n")?);
+    prints(alloc, Reply::Rekeyed(totals), text)
+}
+
+#[test]
+fn changes(rt: HostRuntime) -> Result<(), Fail> {
+    let alloc = rt.alloc();
+    assert!(rt; is_done(alloc)?);
+    assert!(rt; is_added(alloc)?);
+    assert!(rt; is_used(alloc)?);
+    assert!(rt; is_rekeyed(alloc)?);
+    assert!(rt; prints(alloc, Reply::Stashed, "ok\n")?);
     Ok(())
 }
 
@@ -157,13 +199,16 @@ fn one_master(alloc: Global, row: MasterRow) -> Result<Reply, MemoryOut> {
     Ok(Reply::MastersListed(MasterRows::from_vec(rows)))
 }
 
+fn lists(alloc: Global, row: MasterRow, expected: &str) -> Result<bool, MemoryOut> {
+    let reply = one_master(alloc, row)?;
+    prints(alloc, reply, expected)
+}
+
 #[test]
 fn masters(rt: HostRuntime) -> Result<(), Fail> {
     let alloc = rt.alloc();
-    let reply = one_master(alloc, master(1, Some(1_700_000_000), true))?;
-    assert!(rt; is_text(alloc, &reply, MASTERS)?);
-    let reply = one_master(alloc, master(2, None, false))?;
-    assert!(rt; is_text(alloc, &reply, WAITING)?);
+    assert!(rt; lists(alloc, master(1, Some(1_700_000_000), true), MASTERS)?);
+    assert!(rt; lists(alloc, master(2, None, false), WAITING)?);
     Ok(())
 }
 
@@ -178,13 +223,21 @@ fn one_purged(
     Ok(Reply::MastersPurged(point, PurgeRows::from_vec(rows)))
 }
 
+fn is_purged(alloc: Global) -> Result<bool, MemoryOut> {
+    let reply = one_purged(alloc, Some(point(9, 1_700_003_600)), 2, None)?;
+    prints(alloc, reply, PURGED)
+}
+
+fn is_kept(alloc: Global) -> Result<bool, MemoryOut> {
+    let reply = one_purged(alloc, None, 3, Some(Cause::Protects(3)))?;
+    prints(alloc, reply, KEPT)
+}
+
 #[test]
 fn purges(rt: HostRuntime) -> Result<(), Fail> {
     let alloc = rt.alloc();
-    let reply = one_purged(alloc, Some(point(9, 1_700_003_600)), 2, None)?;
-    assert!(rt; is_text(alloc, &reply, PURGED)?);
-    let reply = one_purged(alloc, None, 3, Some(Cause::Protects(3)))?;
-    assert!(rt; is_text(alloc, &reply, KEPT)?);
+    assert!(rt; is_purged(alloc)?);
+    assert!(rt; is_kept(alloc)?);
     Ok(())
 }
 
@@ -215,17 +268,20 @@ fn strings(rt: HostRuntime) -> Result<(), Fail> {
     Ok(())
 }
 
-#[test]
-fn extracts(rt: HostRuntime) -> Result<(), Fail> {
-    let alloc = rt.alloc();
+fn one_extracted(alloc: Global) -> Result<Reply, MemoryOut> {
     let mut keys = Vec::new(alloc);
     keys.push(Extract {
         kvno: 2,
         key: PlainKey::from_bytes(Etype::Aes128, b"\x00\x0a\xff3456789abcdef"),
     })?;
-    let extracted = Reply::Extracted(ExtractList::from_vec(keys));
+    Ok(Reply::Extracted(ExtractList::from_vec(keys)))
+}
+
+#[test]
+fn extracts(rt: HostRuntime) -> Result<(), Fail> {
+    let extracted = one_extracted(rt.alloc())?;
     let text = "- key 2 aes128-cts-hmac-sha1-96 000aff33343536373839616263646566\nok\n";
-    assert!(rt; is_text(alloc, &extracted, text)?);
+    assert!(rt; prints(rt.alloc(), extracted, text)?);
     Ok(())
 }
 
@@ -239,13 +295,16 @@ fn policies(rt: HostRuntime) -> Result<(), Fail> {
     Ok(())
 }
 
+fn tells(alloc: Global, letters: &[u8], expected: &str) -> Result<bool, MemoryOut> {
+    let letters = Blob::from_bytes(alloc, letters)?;
+    prints(alloc, Reply::Privileges(letters), expected)
+}
+
 #[test]
 fn privileges(rt: HostRuntime) -> Result<(), Fail> {
     let alloc = rt.alloc();
-    let some = Reply::Privileges(Blob::from_bytes(alloc, b"a")?);
-    assert!(rt; is_text(alloc, &some, "- privileges a\nok\n")?);
-    let none = Reply::Privileges(Blob::from_bytes(alloc, b"")?);
-    assert!(rt; is_text(alloc, &none, "- privileges -\nok\n")?);
+    assert!(rt; tells(alloc, b"a", "- privileges a\nok\n")?);
+    assert!(rt; tells(alloc, b"", "- privileges -\nok\n")?);
     Ok(())
 }
 
@@ -318,14 +377,28 @@ const REFUSALS: [(Refusal, &str); 35] = [
     (Refusal::UnknownEntry, "err 34 UnknownEntry\n"),
 ];
 
+fn check_refusal(
+    rt: &impl Abort,
+    alloc: Global,
+    refusal: &Refusal,
+    expected: &str,
+) -> Result<(), Fail> {
+    let text = print_refusal(alloc, refusal)?;
+    assert_eq!(rt; text.as_slice(), expected.as_bytes());
+    Ok(())
+}
+
+fn refused(alloc: Global, refusal: Refusal) -> Result<Blob, MemoryOut> {
+    let reply = Reply::Refused(refusal);
+    print_reply(alloc, &reply)
+}
+
 #[test]
 fn refusals(rt: HostRuntime) -> Result<(), Fail> {
-    let alloc = rt.alloc();
     for (refusal, expected) in REFUSALS {
-        let text = print_refusal(alloc, &refusal)?;
-        assert_eq!(rt; text.as_slice(), expected.as_bytes());
+        check_refusal(&rt, rt.alloc(), &refusal, expected)?;
     }
-    let text = print_reply(alloc, &Reply::Refused(Refusal::Protected))?;
+    let text = refused(rt.alloc(), Refusal::Protected)?;
     assert_eq!(rt; text.as_slice(), b"err 8 Protected\n".as_slice());
     Ok(())
 }

@@ -5,6 +5,7 @@ use kdb_base::{Etype, Time};
 use princ_name::{Realm, is_realm};
 use princ_rows::Rows;
 use std::alloc::Global;
+use std::process::Abort;
 use std::test::*;
 use tab_reports::{ReportKind, report};
 
@@ -30,37 +31,45 @@ fn realm(alloc: Global) -> Result<Realm, Fail> {
     Ok(Realm::from_bytes(alloc, text)?)
 }
 
+fn spec_of(alloc: Global) -> Result<CreateSpec, Fail> {
+    let example = realm(alloc)?;
+    Ok(CreateSpec::new(example, None, Etype::Aes256, 1000))
+}
+
 /// A database with K/M, kadmin/history and krbtgt, under one master key.
 fn created(alloc: Global) -> Result<Rows, Fail> {
-    let spec = CreateSpec::new(realm(alloc)?, None, Etype::Aes256, 1000);
+    let spec = spec_of(alloc)?;
     let (rows, _) = first_rows(alloc, &spec, Time::new(CREATED, 0), &[7; 2048])?;
     Ok(rows)
+}
+
+fn check_report(
+    rt: &impl Abort,
+    alloc: Global,
+    rows: &Rows,
+    kind: ReportKind,
+    text: &[u8],
+) -> Result<(), Fail> {
+    let told = report(alloc, kind, rows, Time::new(CREATED, 0))?;
+    assert_eq!(rt; told.as_slice(), text);
+    Ok(())
+}
+
+fn check_reports(rt: &impl Abort, alloc: Global, rows: &Rows) -> Result<(), Fail> {
+    check_report(rt, alloc, rows, ReportKind::Masters, MASTERS)?;
+    check_report(rt, alloc, rows, ReportKind::Keys, KEYS)?;
+    check_report(rt, alloc, rows, ReportKind::Policies, POLICIES)
 }
 
 #[test]
 fn masters_keys_and_policies_of_a_creation(rt: HostRuntime) -> Result<(), Fail> {
     let rows = created(rt.alloc())?;
-    let rows_of: [(ReportKind, &[u8]); 3] = [
-        (ReportKind::Masters, MASTERS),
-        (ReportKind::Keys, KEYS),
-        (ReportKind::Policies, POLICIES),
-    ];
-    for (kind, text) in &rows_of {
-        let told = report(rt.alloc(), *kind, &rows, Time::new(CREATED, 0))?;
-        assert_eq!(rt; told.as_slice(), *text);
-    }
-    Ok(())
+    check_reports(&rt, rt.alloc(), &rows)
 }
 
-#[test]
-fn principals_of_a_creation(rt: HostRuntime) -> Result<(), Fail> {
-    let rows = created(rt.alloc())?;
-    let told = report(
-        rt.alloc(),
-        ReportKind::Principals,
-        &rows,
-        Time::new(CREATED, 0),
-    )?;
+fn check_principals(rt: &impl Abort, alloc: Global, rows: &Rows) -> Result<(), Fail> {
+    let kind = ReportKind::Principals;
+    let told = report(alloc, kind, rows, Time::new(CREATED, 0))?;
     let lines = told
         .as_slice()
         .iter()
@@ -69,4 +78,10 @@ fn principals_of_a_creation(rt: HostRuntime) -> Result<(), Fail> {
     assert_eq!(rt; lines, 4);
     assert!(rt; told.as_slice().starts_with(b"name\tattributes\tmaxlife\t"));
     Ok(())
+}
+
+#[test]
+fn principals_of_a_creation(rt: HostRuntime) -> Result<(), Fail> {
+    let rows = created(rt.alloc())?;
+    check_principals(&rt, rt.alloc(), &rows)
 }

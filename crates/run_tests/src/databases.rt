@@ -1,11 +1,13 @@
 //! Databases made, opened and ended.
 
 use crate::runs::{
-    NO_FAULTS, Turn, check, check_reading, check_turns, check_words, created, fails, run_at,
+    Answer, NO_FAULTS, Turn, check, check_answers, check_reading, check_turns, check_words,
+    created, empty_disk, run_at,
 };
 use kdb_base::{Status, Time};
 use kdb_disk::{MemoryDisk, replace_file};
 use std::alloc::Global;
+use std::process::Abort;
 use std::test::Fail;
 
 /// The control slot of a creation at 1700000000.000000: an open gate, its word, format 2, turn 0, image
@@ -15,78 +17,61 @@ const FIRST_SLOT: [u8; 32] = [
     0x00, 0x08, 0x00, 0x00, 0x00, 0x00, 0x01, 0x65, 0x53, 0xf1, 0x00, 0x00, 0x00, 0x00, 0x00, 0x00,
 ];
 
-fn empty(alloc: Global) -> Result<MemoryDisk, Fail> {
-    Ok(MemoryDisk::new(alloc, fails(alloc, &[])?)?)
+/// A line that changes a new database.
+const ALICE: [Turn; 1] = [("addprinc -nokey alice", "ok 2 1700000000.000000")];
+
+fn check_made(rt: &impl Abort, alloc: Global, disk: &mut MemoryDisk) -> Result<(), Fail> {
+    let made = b"ok 1 1700000000.000000\n";
+    check_words(rt, alloc, disk, "create EXAMPLE.ORG", made)?;
+    assert!(rt; disk.bytes(0).starts_with(&FIRST_SLOT));
+    assert!(rt; disk.bytes(0).iter().skip(31).all(|byte| *byte == 0));
+    Ok(())
+}
+
+/// The end of a database, and words around it.
+const ENDED: [Answer; 4] = [
+    ("create EXAMPLE.ORG", b"err 21 AlreadyThere\n"),
+    ("destroy", b"ok\n"),
+    ("admin", b"err 20 NotADatabase\n"),
+    ("destroy", b"err 20 NotADatabase\n"),
+];
+
+fn check_made_again(rt: &impl Abort, alloc: Global, disk: &mut MemoryDisk) -> Result<(), Fail> {
+    let words = "create EXAMPLE.ORG";
+    let later = Time::new(1_700_000_001, 0);
+    let again = run_at(alloc, disk, words, b"", &NO_FAULTS, later)?;
+    check(rt, &again, Status::Done, b"ok 1 1700000001.000000\n");
+    check_words(rt, alloc, disk, words, b"err 21 AlreadyThere\n")
+}
+
+fn check_life(rt: &impl Abort, alloc: Global, disk: &mut MemoryDisk) -> Result<(), Fail> {
+    check_made(rt, alloc, disk)?;
+    check_turns(rt, alloc, disk, "admin", &ALICE)?;
+    check_answers(rt, alloc, disk, &ENDED)?;
+    check_made_again(rt, alloc, disk)
 }
 
 #[test]
 fn a_database_is_made_changed_and_ended(rt: HostRuntime) -> Result<(), Fail> {
-    let alloc = rt.alloc();
-    let mut disk = empty(alloc)?;
-    check_words(
-        &rt,
-        rt.alloc(),
-        &mut disk,
-        "create EXAMPLE.ORG",
-        b"ok 1 1700000000.000000\n",
-    )?;
-    assert!(rt; disk.bytes(0).starts_with(&FIRST_SLOT));
-    assert!(rt; disk.bytes(0).iter().skip(31).all(|byte| *byte == 0));
-    let line: [Turn; 1] = [("addprinc -nokey alice", "ok 2 1700000000.000000")];
-    check_turns(&rt, rt.alloc(), &mut disk, "admin", &line)?;
-    check_words(
-        &rt,
-        rt.alloc(),
-        &mut disk,
-        "create EXAMPLE.ORG",
-        b"err 21 AlreadyThere\n",
-    )?;
-    check_words(&rt, rt.alloc(), &mut disk, "destroy", b"ok\n")?;
-    check_words(
-        &rt,
-        rt.alloc(),
-        &mut disk,
-        "admin",
-        b"err 20 NotADatabase\n",
-    )?;
-    check_words(
-        &rt,
-        rt.alloc(),
-        &mut disk,
-        "destroy",
-        b"err 20 NotADatabase\n",
-    )?;
-    let later = Time::new(1_700_000_001, 0);
-    let again = run_at(
-        alloc,
-        &mut disk,
-        "create EXAMPLE.ORG",
-        b"",
-        &NO_FAULTS,
-        later,
-    )?;
-    check(&rt, &again, Status::Done, b"ok 1 1700000001.000000\n");
-    check_words(
-        &rt,
-        rt.alloc(),
-        &mut disk,
-        "create EXAMPLE.ORG",
-        b"err 21 AlreadyThere\n",
-    )
+    let mut disk = empty_disk(rt.alloc(), &[])?;
+    check_life(&rt, rt.alloc(), &mut disk)
+}
+
+fn check_no_lines(rt: &impl Abort, alloc: Global, disk: &mut MemoryDisk) -> Result<(), Fail> {
+    check_reading(rt, alloc, disk, "admin", b"")?;
+    check_turns(rt, alloc, disk, "admin", &ALICE)?;
+    check_reading(rt, alloc, disk, "admin", b"")
 }
 
 // The last change, which an opening does again, leaves the files as they are too.
 #[test]
 fn no_lines_change_no_file(rt: HostRuntime) -> Result<(), Fail> {
     let mut disk = created(rt.alloc(), &[])?;
-    check_reading(&rt, rt.alloc(), &mut disk, "admin", b"")?;
-    let line: [Turn; 1] = [("addprinc -nokey alice", "ok 2 1700000000.000000")];
-    check_turns(&rt, rt.alloc(), &mut disk, "admin", &line)?;
-    check_reading(&rt, rt.alloc(), &mut disk, "admin", b"")
+    check_no_lines(&rt, rt.alloc(), &mut disk)
 }
 
 /// Words, and the reply to them on an empty disk.
-const WORDS: [(&str, &[u8]); 20] = [
+const WORDS: [Answer; 20] = [
     ("frob", b"err 1 BadLine\n"),
     ("", b"err 1 BadLine\n"),
     ("admin x", b"err 1 BadLine\n"),
@@ -112,11 +97,20 @@ const WORDS: [(&str, &[u8]); 20] = [
     ("create -P --", b"ok 1 1700000000.000000\n"),
 ];
 
+fn check_first_words(
+    rt: &impl Abort,
+    alloc: Global,
+    words: &str,
+    reply: &[u8],
+) -> Result<(), Fail> {
+    let mut disk = empty_disk(alloc, &[])?;
+    check_words(rt, alloc, &mut disk, words, reply)
+}
+
 #[test]
 fn words_are_judged_first(rt: HostRuntime) -> Result<(), Fail> {
     for (words, reply) in WORDS {
-        let mut disk = empty(rt.alloc())?;
-        check_words(&rt, rt.alloc(), &mut disk, words, reply)?;
+        check_first_words(&rt, rt.alloc(), words, reply)?;
     }
     Ok(())
 }
@@ -153,30 +147,43 @@ b8bc18852cffbe266b8922008dd4e84000000001",
     ),
 ];
 
+fn push_digits(alloc: Global, digits: &mut Vec<u8>, byte: u8) -> Result<(), Fail> {
+    let text = format!(in alloc; "{byte:02x}")?;
+    digits.extend_from_slice(text.as_bytes())?;
+    Ok(())
+}
+
 /// Bytes in hexadecimal digits.
 pub(crate) fn hex_of(alloc: Global, bytes: &[u8]) -> Result<Vec<u8>, Fail> {
     let mut digits = Vec::new(alloc);
     for byte in bytes {
-        let text = format!(in alloc; "{byte:02x}")?;
-        digits.extend_from_slice(text.as_bytes())?;
+        push_digits(alloc, &mut digits, *byte)?;
     }
     Ok(digits)
 }
 
+fn check_made_stash(
+    rt: &impl Abort,
+    alloc: Global,
+    disk: &mut MemoryDisk,
+    words: &str,
+    stash: &str,
+) -> Result<(), Fail> {
+    check_words(rt, alloc, disk, words, b"ok 1 1700000000.000000\n")?;
+    let digits = hex_of(alloc, disk.bytes(5))?;
+    assert_eq!(rt; digits.as_slice(), stash.as_bytes());
+    check_words(rt, alloc, disk, "admin", b"")
+}
+
+fn check_stash(rt: &impl Abort, alloc: Global, words: &str, stash: &str) -> Result<(), Fail> {
+    let mut disk = empty_disk(alloc, &[])?;
+    check_made_stash(rt, alloc, &mut disk, words, stash)
+}
+
 #[test]
 fn a_stash_has_the_master_key(rt: HostRuntime) -> Result<(), Fail> {
-    let alloc = rt.alloc();
     for (words, stash) in STASHES {
-        let mut disk = empty(alloc)?;
-        check_words(
-            &rt,
-            rt.alloc(),
-            &mut disk,
-            words,
-            b"ok 1 1700000000.000000\n",
-        )?;
-        assert_eq!(rt; hex_of(alloc, disk.bytes(5))?.as_slice(), stash.as_bytes());
-        check_words(&rt, rt.alloc(), &mut disk, "admin", b"")?;
+        check_stash(&rt, rt.alloc(), words, stash)?;
     }
     Ok(())
 }
@@ -203,52 +210,71 @@ const WRONG_STASHES: [(&[u8], &[u8]); 7] = [
     ),
 ];
 
+fn check_put_stash(
+    rt: &impl Abort,
+    alloc: Global,
+    disk: &mut MemoryDisk,
+    stash: &[u8],
+    reply: &[u8],
+) -> Result<(), Fail> {
+    replace_file(disk, 5, stash)?;
+    check_words(rt, alloc, disk, "admin", reply)?;
+    // Its end wants none.
+    check_words(rt, alloc, disk, "destroy", b"ok\n")
+}
+
+fn check_wrong_stash(
+    rt: &impl Abort,
+    alloc: Global,
+    stash: &[u8],
+    reply: &[u8],
+) -> Result<(), Fail> {
+    let mut disk = created(alloc, &[])?;
+    check_put_stash(rt, alloc, &mut disk, stash, reply)
+}
+
 #[test]
 fn an_opening_wants_the_stash(rt: HostRuntime) -> Result<(), Fail> {
-    let alloc = rt.alloc();
     for (stash, reply) in WRONG_STASHES {
-        let mut disk = created(alloc, &[])?;
-        replace_file(&mut disk, 5, stash)?;
-        check_words(&rt, rt.alloc(), &mut disk, "admin", reply)?;
-        // Its end wants none.
-        check_words(&rt, rt.alloc(), &mut disk, "destroy", b"ok\n")?;
+        check_wrong_stash(&rt, rt.alloc(), stash, reply)?;
     }
     Ok(())
 }
 
+fn push_slot(control: &mut Vec<u8>) -> Result<(), Fail> {
+    control.extend_from_slice(&FIRST_SLOT)?;
+    control.extend_from_slice(&[0; 32])?;
+    Ok(())
+}
+
+/// Two open slots with equal turns.
+fn equal_slots(alloc: Global) -> Result<Vec<u8>, Fail> {
+    let mut control = Vec::new(alloc);
+    push_slot(&mut control)?;
+    push_slot(&mut control)?;
+    Ok(control)
+}
+
+fn check_damaged_rows(rt: &impl Abort, alloc: Global, disk: &mut MemoryDisk) -> Result<(), Fail> {
+    replace_file(disk, 1, b"KDBC")?;
+    check_words(rt, alloc, disk, "admin", b"err 22 Damaged 1 0\n")
+}
+
+const OF_EQUAL_SLOTS: [Answer; 3] = [
+    ("admin", b"err 22 Damaged 0 64\n"),
+    ("destroy", b"err 22 Damaged 0 64\n"),
+    ("create EXAMPLE.ORG", b"err 21 AlreadyThere\n"),
+];
+
+fn check_equal_slots(rt: &impl Abort, alloc: Global, disk: &mut MemoryDisk) -> Result<(), Fail> {
+    let control = equal_slots(alloc)?;
+    replace_file(disk, 0, &control)?;
+    check_answers(rt, alloc, disk, &OF_EQUAL_SLOTS)
+}
+
 #[test]
 fn a_damaged_file_is_refused(rt: HostRuntime) -> Result<(), Fail> {
-    let alloc = rt.alloc();
-    let mut disk = created(alloc, &[])?;
-    replace_file(&mut disk, 1, b"KDBC")?;
-    check_words(&rt, rt.alloc(), &mut disk, "admin", b"err 22 Damaged 1 0\n")?;
-    // Two open slots with equal turns.
-    let mut control = Vec::new(alloc);
-    for _ in 0..2 {
-        control.extend_from_slice(&FIRST_SLOT)?;
-        control.extend_from_slice(&[0; 32])?;
-    }
-    replace_file(&mut disk, 0, &control)?;
-    check_words(
-        &rt,
-        rt.alloc(),
-        &mut disk,
-        "admin",
-        b"err 22 Damaged 0 64\n",
-    )?;
-    check_words(
-        &rt,
-        rt.alloc(),
-        &mut disk,
-        "destroy",
-        b"err 22 Damaged 0 64\n",
-    )?;
-    check_words(
-        &rt,
-        rt.alloc(),
-        &mut disk,
-        "create EXAMPLE.ORG",
-        b"err 21 AlreadyThere\n",
-    )?;
-    Ok(())
+    let mut disk = created(rt.alloc(), &[])?;
+    check_damaged_rows(&rt, rt.alloc(), &mut disk)?;
+    check_equal_slots(&rt, rt.alloc(), &mut disk)
 }

@@ -12,21 +12,35 @@ use std::alloc::Global;
 use std::fs;
 use std::fs::{File, Permissions};
 use std::os::unix::fs::{MetadataExt, PermissionsExt, symlink};
+use std::process::Abort;
 use std::rt::Files;
 use std::test::Fail;
 use std::time::Duration;
 
-/// A new folder under the one for temporary files.
-fn new_folder(rt: &HostRuntime) -> Result<String, Fail> {
+/// The folder of this number, where it could be made.
+fn made_folder(rt: &HostRuntime, place: &str, number: u32) -> Result<Option<String>, Fail> {
     let alloc = rt.alloc();
-    let place = std::env::temp_dir(rt)?;
+    let path = format!(in alloc; "{place}/run_tests-{number}")?;
+    if fs::create_dir(rt, path.as_str()).is_ok() {
+        return Ok(Some(path));
+    }
+    Ok(None)
+}
+
+/// A new folder under this one.
+fn new_folder_in(rt: &HostRuntime, place: &str) -> Result<String, Fail> {
     for number in 0..10_000 {
-        let path = format!(in alloc; "{}/run_tests-{number}", place.as_str())?;
-        if fs::create_dir(rt, path.as_str()).is_ok() {
+        if let Some(path) = made_folder(rt, place, number)? {
             return Ok(path);
         }
     }
     Err(Fail::from(DiskFailed))
+}
+
+/// A new folder under the one for temporary files.
+fn new_folder(rt: &HostRuntime) -> Result<String, Fail> {
+    let place = std::env::temp_dir(rt)?;
+    new_folder_in(rt, place.as_str())
 }
 
 /// The path of a file of a folder.
@@ -34,12 +48,17 @@ fn path_of(alloc: Global, folder: &str, name: &str) -> Result<String, Fail> {
     Ok(format!(in alloc; "{folder}/{name}")?)
 }
 
+/// Whether there is a file of this name.
+fn is_there(rt: &HostRuntime, folder: &str, name: &str) -> Result<bool, Fail> {
+    let path = path_of(rt.alloc(), folder, name)?;
+    Ok(fs::exists(rt, path.as_str())?)
+}
+
 /// How many of a database's files are in a folder.
 fn count_files(rt: &HostRuntime, folder: &str) -> Result<usize, Fail> {
     let mut count = 0;
     for name in NAMES {
-        let path = path_of(rt.alloc(), folder, name)?;
-        if fs::exists(rt, path.as_str())? && count < 7 {
+        if is_there(rt, folder, name)? && count < 7 {
             count += 1;
         }
     }
@@ -77,6 +96,32 @@ fn run_in(
         &mut entropy,
     );
     Ok((status, sink.into_writer()))
+}
+
+/// Compares the status and the replies of a run.
+fn check_ended(
+    rt: &impl Abort,
+    words: &str,
+    ended: Status,
+    written: &[u8],
+    status: Status,
+    replies: &[u8],
+) {
+    assert_eq!(rt; ended, status, "{words}");
+    assert_eq!(rt; written, replies);
+}
+
+/// What stands in a file, from outside, and the bits by which others may use it.
+fn file_of(rt: &HostRuntime, folder: &str, name: &str) -> Result<(Vec<u8>, u32), Fail> {
+    let path = path_of(rt.alloc(), folder, name)?;
+    let held = fs::read(rt, path.as_str())?;
+    Ok((held, wide_bits(rt, folder, name)?))
+}
+
+/// Compares what stands in a file, and that it is closed to others.
+fn check_file(rt: &impl Abort, held: &[u8], bits: u32, content: &[u8]) {
+    assert_eq!(rt; held, content);
+    assert_eq!(rt; bits, 0);
 }
 
 /// Runs one after another in a folder: words, input, status and replies.
@@ -128,21 +173,21 @@ const RUNS: [(&str, &[u8], Status, &[u8]); 10] = [
     ),
 ];
 
+fn check_count(rt: &impl Abort, files: usize, words: &str, none: bool) {
+    assert!(rt; none == (files == 0), "{files} files after {words}");
+}
+
 #[test]
 fn a_database_in_a_folder(rt: HostRuntime) -> Result<(), Fail> {
     let folder = new_folder(&rt)?;
     let mut number = 0;
     for (words, input, status, replies) in RUNS {
         let (ended, written) = run_in(&rt, folder.as_str(), words, input)?;
-        assert_eq!(rt; ended, status, "{words}");
-        assert_eq!(rt; written.as_slice(), replies);
+        check_ended(&rt, words, ended, written.as_slice(), status, replies);
         number = if number < 20 { number + 1 } else { number };
         // The first four make no file.
         let files = count_files(&rt, folder.as_str())?;
-        assert!(rt;
-            (number <= 4) == (files == 0),
-            "{files} files after {words}"
-        );
+        check_count(&rt, files, words, number <= 4);
     }
     assert_eq!(rt; wide_bits(&rt, folder.as_str(), "control")?, 0);
     assert_eq!(rt; wide_bits(&rt, folder.as_str(), "image.0")?, 0);
@@ -181,37 +226,58 @@ fn write_both<R: Files<File = File>>(
     Ok(())
 }
 
-#[test]
-fn each_file_of_a_folder_has_its_own_bytes(rt: HostRuntime) -> Result<(), Fail> {
-    let alloc = rt.alloc();
-    let folder = new_folder(&rt)?;
-    let mut disk = Folder::new(&rt, alloc, folder.as_str());
+fn write_contents(disk: &mut Folder<'_, HostRuntime>) -> Result<(), Fail> {
     for file in 0..FILES {
-        write_both(&mut disk, file, CONTENTS[file as usize])?;
+        write_both(disk, file, CONTENTS[file as usize])?;
     }
-    // From outside, by name.
-    for (name, content) in NAMES.into_iter().zip(CONTENTS) {
-        let path = path_of(alloc, folder.as_str(), name)?;
-        assert_eq!(rt; fs::read(&rt, path.as_str())?.as_slice(), content);
-        assert_eq!(rt; wide_bits(&rt, folder.as_str(), name)?, 0);
-    }
-    drop(disk);
-    // And by another opening.
-    let mut disk = Folder::new(&rt, alloc, folder.as_str());
+    Ok(())
+}
+
+fn check_held(
+    rt: &impl Abort,
+    alloc: Global,
+    disk: &mut Folder<'_, HostRuntime>,
+    file: u8,
+    content: &[u8],
+) -> Result<(), Fail>
+    requires { file < 7 }
+{
+    let mut reader = FileReader::open(alloc, disk, file, 0)?;
+    reader.fill(disk, 20)?;
+    assert_eq!(rt; reader.held(), content);
+    Ok(())
+}
+
+fn check_contents(
+    rt: &impl Abort,
+    alloc: Global,
+    disk: &mut Folder<'_, HostRuntime>,
+) -> Result<(), Fail> {
     for file in 0..FILES {
-        let mut reader = FileReader::open(alloc, &mut disk, file, 0)?;
-        reader.fill(&mut disk, 20)?;
-        assert_eq!(rt; reader.held(), CONTENTS[file as usize]);
+        check_held(rt, alloc, disk, file, CONTENTS[file as usize])?;
     }
-    fs::remove_dir_all(&rt, folder.as_str())?;
     Ok(())
 }
 
 #[test]
-fn a_missing_file_stays_missing(rt: HostRuntime) -> Result<(), Fail> {
-    let alloc = rt.alloc();
+fn each_file_of_a_folder_has_its_own_bytes(rt: HostRuntime) -> Result<(), Fail> {
     let folder = new_folder(&rt)?;
-    let mut disk = Folder::new(&rt, alloc, folder.as_str());
+    let mut disk = Folder::new(&rt, rt.alloc(), folder.as_str());
+    write_contents(&mut disk)?;
+    // From outside, by name.
+    for (name, content) in NAMES.into_iter().zip(CONTENTS) {
+        let (held, bits) = file_of(&rt, folder.as_str(), name)?;
+        check_file(&rt, held.as_slice(), bits, content);
+    }
+    drop(disk);
+    // And by another opening.
+    let mut disk = Folder::new(&rt, rt.alloc(), folder.as_str());
+    check_contents(&rt, rt.alloc(), &mut disk)?;
+    fs::remove_dir_all(&rt, folder.as_str())?;
+    Ok(())
+}
+
+fn check_missing_files(rt: &impl Abort, disk: &mut Folder<'_, HostRuntime>) {
     for file in 0..FILES {
         assert_eq!(rt; disk.length(file), Ok(0));
         assert_eq!(rt; disk.read(file, 0, &mut [0; 3]), Ok(0));
@@ -220,44 +286,59 @@ fn a_missing_file_stays_missing(rt: HostRuntime) -> Result<(), Fail> {
         assert_eq!(rt; disk.sync(file), Ok(()));
     }
     assert_eq!(rt; disk.cut(3, 1), Err(DiskFailed));
+}
+
+#[test]
+fn a_missing_file_stays_missing(rt: HostRuntime) -> Result<(), Fail> {
+    let folder = new_folder(&rt)?;
+    let mut disk = Folder::new(&rt, rt.alloc(), folder.as_str());
+    check_missing_files(&rt, &mut disk);
     assert_eq!(rt; count_files(&rt, folder.as_str())?, 0);
     // The lock is there though there is no file.
-    let mut second = Folder::new(&rt, alloc, folder.as_str());
+    let mut second = Folder::new(&rt, rt.alloc(), folder.as_str());
     assert_eq!(rt; second.length(0), Err(DiskFailed));
     fs::remove_dir_all(&rt, folder.as_str())?;
     Ok(())
 }
 
+/// Makes a file that everybody may read.
+fn make_open_file(rt: &HostRuntime, folder: &str) -> Result<(), Fail> {
+    let path = path_of(rt.alloc(), folder, "stash.1")?;
+    fs::write(rt, path.as_str(), b"old")?;
+    fs::set_permissions(rt, path.as_str(), Permissions::from_mode(0o666))?;
+    Ok(())
+}
+
 #[test]
 fn a_file_that_others_may_read_is_closed_to_them(rt: HostRuntime) -> Result<(), Fail> {
-    let alloc = rt.alloc();
     let folder = new_folder(&rt)?;
-    let path = path_of(alloc, folder.as_str(), "stash.1")?;
-    fs::write(&rt, path.as_str(), b"old")?;
-    fs::set_permissions(&rt, path.as_str(), Permissions::from_mode(0o666))?;
-    let mut disk = Folder::new(&rt, alloc, folder.as_str());
+    make_open_file(&rt, folder.as_str())?;
+    let mut disk = Folder::new(&rt, rt.alloc(), folder.as_str());
     assert_eq!(rt; disk.length(6), Ok(3));
     disk.write_at(6, 3, b"new")?;
-    assert_eq!(rt; wide_bits(&rt, folder.as_str(), "stash.1")?, 0);
-    assert_eq!(rt;
-        fs::read(&rt, path.as_str())?.as_slice(),
-        b"oldnew".as_slice()
-    );
+    let (held, bits) = file_of(&rt, folder.as_str(), "stash.1")?;
+    check_file(&rt, held.as_slice(), bits, b"oldnew");
     fs::remove_dir_all(&rt, folder.as_str())?;
+    Ok(())
+}
+
+/// Makes a link to a file that is not there.
+fn make_link(rt: &HostRuntime, folder: &str) -> Result<(), Fail> {
+    let path = path_of(rt.alloc(), folder, "image.1")?;
+    let other = path_of(rt.alloc(), folder, "other")?;
+    symlink(rt, other.as_str(), path.as_str())?;
     Ok(())
 }
 
 #[test]
 fn a_link_is_no_file(rt: HostRuntime) -> Result<(), Fail> {
-    let alloc = rt.alloc();
     let folder = new_folder(&rt)?;
-    let path = path_of(alloc, folder.as_str(), "image.1")?;
-    let other = path_of(alloc, folder.as_str(), "other")?;
-    symlink(&rt, other.as_str(), path.as_str())?;
-    let (status, replies) = run_in(&rt, folder.as_str(), "create EXAMPLE.ORG", b"")?;
-    assert_eq!(rt; status, Status::DiskFault);
-    assert_eq!(rt; replies.as_slice(), b"".as_slice());
-    assert!(rt; !fs::exists(&rt, other.as_str())?);
+    make_link(&rt, folder.as_str())?;
+    let words = "create EXAMPLE.ORG";
+    let (ended, written) = run_in(&rt, folder.as_str(), words, b"")?;
+    let fault = Status::DiskFault;
+    check_ended(&rt, words, ended, written.as_slice(), fault, b"");
+    assert!(rt; !is_there(&rt, folder.as_str(), "other")?);
     fs::remove_dir_all(&rt, folder.as_str())?;
     Ok(())
 }
@@ -276,19 +357,22 @@ fn write_twice<R: Files<File = File>>(
     Ok(())
 }
 
-#[test]
-fn after_a_failed_sync_every_call_fails(rt: HostRuntime) -> Result<(), Fail> {
-    let alloc = rt.alloc();
-    let folder = new_folder(&rt)?;
-    let path = path_of(alloc, folder.as_str(), "image.0")?;
-    let mut disk = Folder::new(&rt, alloc, folder.as_str());
-    write_twice(&rt, &mut disk, path.as_str())?;
+fn check_failing(rt: &impl Abort, disk: &mut Folder<'_, HostRuntime>) {
     assert_eq!(rt; disk.sync(1), Err(DiskFailed));
     assert_eq!(rt; disk.sync(2), Err(DiskFailed));
     assert_eq!(rt; disk.length(1), Err(DiskFailed));
     assert_eq!(rt; disk.read(1, 0, &mut [0; 3]), Err(DiskFailed));
     assert_eq!(rt; disk.write_at(1, 0, b"abc"), Err(DiskFailed));
     assert_eq!(rt; disk.cut(2, 0), Err(DiskFailed));
+}
+
+#[test]
+fn after_a_failed_sync_every_call_fails(rt: HostRuntime) -> Result<(), Fail> {
+    let folder = new_folder(&rt)?;
+    let path = path_of(rt.alloc(), folder.as_str(), "image.0")?;
+    let mut disk = Folder::new(&rt, rt.alloc(), folder.as_str());
+    write_twice(&rt, &mut disk, path.as_str())?;
+    check_failing(&rt, &mut disk);
     fs::remove_dir_all(&rt, folder.as_str())?;
     Ok(())
 }

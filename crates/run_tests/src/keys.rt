@@ -2,6 +2,7 @@
 
 use crate::runs::{Turn, check_last_and_log, check_session, repeated};
 use std::alloc::Global;
+use std::process::Abort;
 use std::test::Fail;
 
 /// A principal with the keys of a password, and the keys themselves. Those of s3cret with the salt
@@ -132,13 +133,18 @@ fn keys_are_made_shown_kept_and_taken_away(rt: HostRuntime) -> Result<(), Fail> 
     check_session(&rt, rt.alloc(), &RENAMED)
 }
 
+fn push_words(out: &mut Vec<u8>, front: &[u8], name: &[u8]) -> Result<(), Fail> {
+    out.extend_from_slice(front)?;
+    out.extend_from_slice(name)?;
+    Ok(())
+}
+
 /// Lines that give a principal of this name one version of random keys after another.
 pub(crate) fn versions(alloc: Global, name: &[u8], count: usize) -> Result<Vec<u8>, Fail> {
-    let mut input = b"addprinc -randkey ".as_slice().to_vec(alloc)?;
-    input.extend_from_slice(name)?;
+    let mut input = Vec::new(alloc);
+    push_words(&mut input, b"addprinc -randkey ", name)?;
     for _ in 1..count {
-        input.extend_from_slice(b"\ncpw -randkey -keepold ")?;
-        input.extend_from_slice(name)?;
+        push_words(&mut input, b"\ncpw -randkey -keepold ", name)?;
     }
     input.push(b'\n')?;
     Ok(input)
@@ -152,18 +158,30 @@ const OF_KEYS: &[u8] = b"- first 1 1700000000.000001\n- last 2 1700000000.000001
 const OF_A_NEW_NAME: &[u8] = b"- first 1 1700000000.000002\n- last 2 1700000000.000002\n\
 - size 1000 block 10240\n- 1 1700000000.000002 base\n- 2 1700000000.000002 rename nnn";
 
-#[test]
-fn a_long_entry_begins_the_log_anew(rt: HostRuntime) -> Result<(), Fail> {
-    let alloc = rt.alloc();
+fn check_many_keys(rt: &impl Abort, alloc: Global) -> Result<(), Fail> {
     let input = versions(alloc, b"svc", 17)?;
     let last = b"ok 16 1700000000.000000\nok 2 1700000000.000001\nerr 28 KeysFull\n";
-    check_last_and_log(&rt, alloc, &input, last, OF_KEYS)?;
-    // The salts of a new name make the entry longer.
+    check_last_and_log(rt, alloc, &input, last, OF_KEYS)
+}
+
+/// Lines that give a principal sixteen versions of keys, and then a new name.
+fn renamed(alloc: Global) -> Result<Vec<u8>, Fail> {
     let name = repeated(alloc, b'n', 200)?;
     let mut input = versions(alloc, &name, 16)?;
-    input.extend_from_slice(b"renprinc ")?;
-    input.extend_from_slice(&name)?;
+    push_words(&mut input, b"renprinc ", &name)?;
     input.extend_from_slice(b" b\n")?;
+    Ok(input)
+}
+
+/// The salts of a new name make the entry longer.
+fn check_new_name(rt: &impl Abort, alloc: Global) -> Result<(), Fail> {
+    let input = renamed(alloc)?;
     let last = b"\nok 2 1700000000.000002\n";
-    check_last_and_log(&rt, alloc, &input, last, OF_A_NEW_NAME)
+    check_last_and_log(rt, alloc, &input, last, OF_A_NEW_NAME)
+}
+
+#[test]
+fn a_long_entry_begins_the_log_anew(rt: HostRuntime) -> Result<(), Fail> {
+    check_many_keys(&rt, rt.alloc())?;
+    check_new_name(&rt, rt.alloc())
 }

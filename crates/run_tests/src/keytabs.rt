@@ -4,7 +4,8 @@
 
 use crate::databases::hex_of;
 use crate::runs::{
-    Faults, NO_FAULTS, Outcome, check, check_turns, check_words, created, repeated, run,
+    Answer, Faults, NO_FAULTS, Outcome, check_answers, check_outcome, check_turns, created,
+    repeated, run,
 };
 use kdb_base::Status;
 use kdb_disk::MemoryDisk;
@@ -46,87 +47,162 @@ fn with_alice(rt: &impl Abort, alloc: Global) -> Result<MemoryDisk, Fail> {
     Ok(disk)
 }
 
+/// A keytab's digits begin so, and end with the entries of version 2.
+fn check_digits(rt: &impl Abort, alloc: Global, keytab: &[u8], front: &[u8]) -> Result<(), Fail> {
+    let digits = hex_of(alloc, keytab)?;
+    assert!(rt; digits.starts_with(front) && digits.ends_with(SECOND));
+    Ok(())
+}
+
+/// What a run writes of this keytab is this other one.
+fn check_written(
+    rt: &impl Abort,
+    alloc: Global,
+    disk: &mut MemoryDisk,
+    words: &str,
+    keytab: &[u8],
+    wanted: &[u8],
+) -> Result<(), Fail> {
+    let keytab = written(rt, alloc, disk, words, keytab)?;
+    assert_eq!(rt; keytab.as_slice(), wanted);
+    Ok(())
+}
+
+fn check_refused(
+    rt: &impl Abort,
+    alloc: Global,
+    disk: &mut MemoryDisk,
+    words: &str,
+    keytab: &[u8],
+    reply: &[u8],
+) -> Result<(), Fail> {
+    let refused = Status::Refused;
+    check_outcome(rt, alloc, disk, words, keytab, &NO_FAULTS, refused, reply)
+}
+
+/// A keytab with the keys of version 1.
+fn first_keys(rt: &impl Abort, alloc: Global, disk: &mut MemoryDisk) -> Result<Vec<u8>, Fail> {
+    let first = written(rt, alloc, disk, "ktadd -norandkey alice", b"")?;
+    let digits = hex_of(alloc, &first)?;
+    assert_eq!(rt; digits.as_slice(), FIRST);
+    Ok(first)
+}
+
+/// The same with those of version 2 behind them.
+fn both_keys(
+    rt: &impl Abort,
+    alloc: Global,
+    disk: &mut MemoryDisk,
+    first: &[u8],
+) -> Result<Vec<u8>, Fail> {
+    let changed = [("cpw -randkey alice", "ok 3 1700000000.000000")];
+    check_turns(rt, alloc, disk, "admin", &changed)?;
+    let both = written(rt, alloc, disk, "ktadd -norandkey -- alice", first)?;
+    assert_eq!(rt; both.len(), 270);
+    check_digits(rt, alloc, &both, FIRST)?;
+    Ok(both)
+}
+
+fn check_newer(
+    rt: &impl Abort,
+    alloc: Global,
+    disk: &mut MemoryDisk,
+    both: &[u8],
+) -> Result<(), Fail> {
+    let words = "ktremove alice@EXAMPLE.ORG old";
+    let newer = written(rt, alloc, disk, words, both)?;
+    assert_eq!(rt; newer.len(), 136);
+    check_digits(rt, alloc, &newer, b"0502")
+}
+
+/// Entries are taken out of the keytab with both versions.
+fn check_removing(
+    rt: &impl Abort,
+    alloc: Global,
+    disk: &mut MemoryDisk,
+    first: &[u8],
+    both: &[u8],
+) -> Result<(), Fail> {
+    check_newer(rt, alloc, disk, both)?;
+    check_written(rt, alloc, disk, "ktremove alice@EXAMPLE.ORG 2", both, first)?;
+    let none = b"\x05\x02";
+    check_written(
+        rt,
+        alloc,
+        disk,
+        "ktremove alice@EXAMPLE.ORG all",
+        both,
+        none,
+    )?;
+    let reply = b"err 34 UnknownEntry\n";
+    check_refused(rt, alloc, disk, "ktremove alice@EXAMPLE.ORG 9", both, reply)
+}
+
+fn check_standing(rt: &impl Abort, alloc: Global, disk: &mut MemoryDisk) -> Result<(), Fail> {
+    let first = first_keys(rt, alloc, disk)?;
+    let both = both_keys(rt, alloc, disk, &first)?;
+    check_removing(rt, alloc, disk, &first, &both)
+}
+
 // Keys are added behind those that are there, and the older ones are taken out.
 #[test]
 fn keys_that_stand(rt: HostRuntime) -> Result<(), Fail> {
-    let alloc = rt.alloc();
-    let mut disk = with_alice(&rt, alloc)?;
-    let first = written(&rt, alloc, &mut disk, "ktadd -norandkey alice", b"")?;
-    assert_eq!(rt; hex_of(alloc, &first)?.as_slice(), FIRST);
-    let changed = [("cpw -randkey alice", "ok 3 1700000000.000000")];
-    check_turns(&rt, alloc, &mut disk, "admin", &changed)?;
-    let both = written(&rt, alloc, &mut disk, "ktadd -norandkey -- alice", &first)?;
+    let mut disk = with_alice(&rt, rt.alloc())?;
+    check_standing(&rt, rt.alloc(), &mut disk)
+}
+
+/// A keytab with new keys, of version 2.
+fn second_keys(rt: &impl Abort, alloc: Global, disk: &mut MemoryDisk) -> Result<Vec<u8>, Fail> {
+    let second = written(rt, alloc, disk, "ktadd alice", b"")?;
+    assert_eq!(rt; second.len(), 136);
+    check_digits(rt, alloc, &second, b"0502")?;
+    Ok(second)
+}
+
+/// More new keys are added behind them.
+fn check_more_keys(rt: &impl Abort, alloc: Global, disk: &mut MemoryDisk) -> Result<(), Fail> {
+    let second = second_keys(rt, alloc, disk)?;
+    let both = written(rt, alloc, disk, "ktadd -- alice", &second)?;
     assert_eq!(rt; both.len(), 270);
-    let digits = hex_of(alloc, &both)?;
-    assert!(rt; digits.starts_with(FIRST) && digits.ends_with(SECOND));
-    let newer = written(
-        &rt,
-        alloc,
-        &mut disk,
-        "ktremove alice@EXAMPLE.ORG old",
-        &both,
-    )?;
-    assert_eq!(rt; newer.len(), 136);
-    let digits = hex_of(alloc, &newer)?;
-    assert!(rt; digits.starts_with(b"0502") && digits.ends_with(SECOND));
-    let older = written(&rt, alloc, &mut disk, "ktremove alice@EXAMPLE.ORG 2", &both)?;
-    assert_eq!(rt; older.as_slice(), first.as_slice());
-    let none = written(
-        &rt,
-        alloc,
-        &mut disk,
-        "ktremove alice@EXAMPLE.ORG all",
-        &both,
-    )?;
-    assert_eq!(rt; none.as_slice(), b"\x05\x02".as_slice());
-    let other = run(
-        alloc,
-        &mut disk,
-        "ktremove alice@EXAMPLE.ORG 9",
-        &both,
-        &NO_FAULTS,
-    )?;
-    check(&rt, &other, Status::Refused, b"err 34 UnknownEntry\n");
+    assert!(rt; both.starts_with(&second));
     Ok(())
+}
+
+fn check_new_keys(rt: &impl Abort, alloc: Global, disk: &mut MemoryDisk) -> Result<(), Fail> {
+    check_more_keys(rt, alloc, disk)?;
+    let reply = b"err 33 BadKeytab 0\n";
+    check_refused(rt, alloc, disk, "ktadd alice", b"\x05\x03", reply)?;
+    let changed = [("cpw -randkey -e aes128-cts alice", "ok 5 1700000000.000000")];
+    check_turns(rt, alloc, disk, "admin", &changed)
 }
 
 // New keys are made, and added behind those that are there.
 #[test]
 fn keys_that_are_new(rt: HostRuntime) -> Result<(), Fail> {
-    let alloc = rt.alloc();
-    let mut disk = with_alice(&rt, alloc)?;
-    let second = written(&rt, alloc, &mut disk, "ktadd alice", b"")?;
-    assert_eq!(rt; second.len(), 136);
-    let digits = hex_of(alloc, &second)?;
-    assert!(rt; digits.starts_with(b"0502") && digits.ends_with(SECOND));
-    let both = written(&rt, alloc, &mut disk, "ktadd -- alice", &second)?;
-    assert_eq!(rt; both.len(), 270);
-    assert!(rt; both.starts_with(&second));
-    let refused = run(alloc, &mut disk, "ktadd alice", b"\x05\x03", &NO_FAULTS)?;
-    check(&rt, &refused, Status::Refused, b"err 33 BadKeytab 0\n");
-    let changed = [("cpw -randkey -e aes128-cts alice", "ok 5 1700000000.000000")];
-    check_turns(&rt, alloc, &mut disk, "admin", &changed)
+    let mut disk = with_alice(&rt, rt.alloc())?;
+    check_new_keys(&rt, rt.alloc(), &mut disk)
+}
+
+fn check_unwritten(rt: &impl Abort, alloc: Global, disk: &mut MemoryDisk) -> Result<(), Fail> {
+    let faults = Faults {
+        sink: &[0],
+        ..NO_FAULTS
+    };
+    let cut = Status::WriteFault;
+    check_outcome(rt, alloc, disk, "ktadd alice", b"", &faults, cut, b"")?;
+    let standing = written(rt, alloc, disk, "ktadd -norandkey alice", b"")?;
+    check_digits(rt, alloc, &standing, b"0502")
 }
 
 // What could not be written was made.
 #[test]
 fn keys_that_are_not_written(rt: HostRuntime) -> Result<(), Fail> {
-    let alloc = rt.alloc();
-    let mut disk = with_alice(&rt, alloc)?;
-    let faults = Faults {
-        sink: &[0],
-        ..NO_FAULTS
-    };
-    let cut = run(alloc, &mut disk, "ktadd alice", b"", &faults)?;
-    check(&rt, &cut, Status::WriteFault, b"");
-    let standing = written(&rt, alloc, &mut disk, "ktadd -norandkey alice", b"")?;
-    let digits = hex_of(alloc, &standing)?;
-    assert!(rt; digits.starts_with(b"0502") && digits.ends_with(SECOND));
-    Ok(())
+    let mut disk = with_alice(&rt, rt.alloc())?;
+    check_unwritten(&rt, rt.alloc(), &mut disk)
 }
 
 /// Words, and the refusal that is written alone where the input is empty.
-const REFUSED: [(&str, &[u8]); 19] = [
+const REFUSED: [Answer; 19] = [
     ("ktadd K/M", b"err 8 Protected\n"),
     ("ktadd nobody", b"err 4 UnknownPrincipal\n"),
     ("ktadd a@OTHER", b"err 2 BadName 2\n"),
@@ -148,59 +224,37 @@ const REFUSED: [(&str, &[u8]); 19] = [
     ("ktremove alice@R all old", b"err 1 BadLine\n"),
 ];
 
+/// The end of the database, and words behind it.
+const ENDED: [Answer; 3] = [
+    ("destroy", b"ok\n"),
+    ("ktadd -norandkey a@OTHER", b"err 20 NotADatabase\n"),
+    ("ktremove a@B all", b"err 34 UnknownEntry\n"),
+];
+
 #[test]
 fn words_that_are_refused(rt: HostRuntime) -> Result<(), Fail> {
-    let alloc = rt.alloc();
-    let mut disk = with_alice(&rt, alloc)?;
-    for (words, refusal) in REFUSED.iter() {
-        check_words(&rt, alloc, &mut disk, words, refusal)?;
-    }
-    check_words(&rt, alloc, &mut disk, "destroy", b"ok\n")?;
-    check_words(
-        &rt,
-        alloc,
-        &mut disk,
-        "ktadd -norandkey a@OTHER",
-        b"err 20 NotADatabase\n",
-    )?;
-    check_words(
-        &rt,
-        alloc,
-        &mut disk,
-        "ktremove a@B all",
-        b"err 34 UnknownEntry\n",
-    )
+    let mut disk = with_alice(&rt, rt.alloc())?;
+    check_answers(&rt, rt.alloc(), &mut disk, &REFUSED)?;
+    check_answers(&rt, rt.alloc(), &mut disk, &ENDED)
+}
+
+fn check_long_input(rt: &impl Abort, alloc: Global, disk: &mut MemoryDisk) -> Result<(), Fail> {
+    let long = repeated(alloc, 0, 1048577)?;
+    let reply = b"err 33 BadKeytab 1048576\n";
+    check_refused(rt, alloc, disk, "ktadd -norandkey alice", &long, reply)
+}
+
+fn check_inputs(rt: &impl Abort, alloc: Global, disk: &mut MemoryDisk) -> Result<(), Fail> {
+    let other = b"\x05\x03";
+    let reply = b"err 33 BadKeytab 0\n";
+    check_refused(rt, alloc, disk, "ktadd -norandkey K/M", other, reply)?;
+    check_refused(rt, alloc, disk, "ktremove a@B all", other, reply)?;
+    check_long_input(rt, alloc, disk)
 }
 
 // Where the input is no keytab, no name is looked up.
 #[test]
 fn inputs_that_are_refused(rt: HostRuntime) -> Result<(), Fail> {
-    let alloc = rt.alloc();
-    let mut disk = with_alice(&rt, alloc)?;
-    let other = run(
-        alloc,
-        &mut disk,
-        "ktadd -norandkey K/M",
-        b"\x05\x03",
-        &NO_FAULTS,
-    )?;
-    check(&rt, &other, Status::Refused, b"err 33 BadKeytab 0\n");
-    let other = run(
-        alloc,
-        &mut disk,
-        "ktremove a@B all",
-        b"\x05\x03",
-        &NO_FAULTS,
-    )?;
-    check(&rt, &other, Status::Refused, b"err 33 BadKeytab 0\n");
-    let long = repeated(alloc, 0, 1048577)?;
-    let longer = run(
-        alloc,
-        &mut disk,
-        "ktadd -norandkey alice",
-        &long,
-        &NO_FAULTS,
-    )?;
-    check(&rt, &longer, Status::Refused, b"err 33 BadKeytab 1048576\n");
-    Ok(())
+    let mut disk = with_alice(&rt, rt.alloc())?;
+    check_inputs(&rt, rt.alloc(), &mut disk)
 }

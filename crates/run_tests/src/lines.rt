@@ -1,7 +1,9 @@
 //! Lines of administrators and their replies.
 
-use crate::runs::{NO_FAULTS, Turn, check, check_last, check_session, created, repeated, run};
+use crate::runs::{NO_FAULTS, Turn, check_last, check_outcome, check_session, created, repeated};
 use kdb_base::Status;
+use std::alloc::Global;
+use std::process::Abort;
 use std::test::Fail;
 
 /// Names that are added one after another, each with its reply.
@@ -17,11 +19,18 @@ const NAMES: [Turn; 9] = [
     ("renprinc bob b@X@Y", "err 2 BadName 3"),
 ];
 
+/// The front of a line that adds a name of so many letters.
+fn addition(alloc: Global, count: usize) -> Result<Vec<u8>, Fail> {
+    let name = repeated(alloc, b'n', count)?;
+    let mut input = b"addprinc -nokey ".as_slice().to_vec(alloc)?;
+    input.extend_from_slice(&name)?;
+    Ok(input)
+}
+
 #[test]
 fn a_printed_name_has_at_most_255_bytes(rt: HostRuntime) -> Result<(), Fail> {
     let alloc = rt.alloc();
-    let mut input = b"addprinc -nokey ".as_slice().to_vec(alloc)?;
-    input.extend_from_slice(&repeated(alloc, b'n', 243)?)?;
+    let mut input = addition(alloc, 243)?;
     check_last(&rt, alloc, &input, b"ok 2 1700000000.000000\n")?;
     input.push(b'n')?;
     check_last(&rt, alloc, &input, b"err 2 BadName 244\n")
@@ -38,13 +47,18 @@ const REPLIES: &[u8] = b"ok 2 1700000000.000000\nok 3 1700000000.000000\n\
 ok 4 1700000000.000000\nerr 1 BadLine\nerr 1 BadLine\nerr 13 BadValue maxlife\n\
 err 1 BadLine\nerr 1 BadLine\nerr 1 BadLine\nerr 1 BadLine\nok 5 1700000000.000000\nok 6 1700000000.000000\n";
 
+/// Runs `admin` with an input of which a line is refused, and compares all replies.
+fn check_refused(rt: &impl Abort, alloc: Global, input: &[u8], replies: &[u8]) -> Result<(), Fail> {
+    let mut disk = created(alloc, &[])?;
+    let refused = Status::Refused;
+    check_outcome(
+        rt, alloc, &mut disk, "admin", input, &NO_FAULTS, refused, replies,
+    )
+}
+
 #[test]
 fn lines_go_by_the_grammar(rt: HostRuntime) -> Result<(), Fail> {
-    let alloc = rt.alloc();
-    let mut disk = created(alloc, &[])?;
-    let answered = run(alloc, &mut disk, "admin", LINES, &NO_FAULTS)?;
-    check(&rt, &answered, Status::Refused, REPLIES);
-    Ok(())
+    check_refused(&rt, rt.alloc(), LINES, REPLIES)
 }
 
 #[test]
@@ -52,10 +66,7 @@ fn a_line_that_is_too_long_is_refused_once(rt: HostRuntime) -> Result<(), Fail> 
     let alloc = rt.alloc();
     let mut input = repeated(alloc, b'n', 65_537)?;
     input.extend_from_slice(b"\n# note\n")?;
-    let mut disk = created(alloc, &[])?;
-    let answered = run(alloc, &mut disk, "admin", &input, &NO_FAULTS)?;
-    check(&rt, &answered, Status::Refused, b"err 27 LineTooLong\n");
-    Ok(())
+    check_refused(&rt, alloc, &input, b"err 27 LineTooLong\n")
 }
 
 /// A principal's life, and the names at its end.

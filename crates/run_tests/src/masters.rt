@@ -2,7 +2,8 @@
 
 use crate::keys::versions;
 use crate::runs::{
-    NO_FAULTS, Turn, check, check_turns, check_words, created, repeated, run, run_at,
+    Answer, NO_FAULTS, Outcome, Turn, check, check_answers, check_end, check_turns, check_words,
+    created, input_of, repeated, replies_of, run, run_at,
 };
 use kdb_base::{Status, Time};
 use kdb_disk::MemoryDisk;
@@ -63,6 +64,13 @@ ok",
     ),
 ];
 
+/// A session of these lines an hour later.
+fn run_later(alloc: Global, disk: &mut MemoryDisk, turns: &[Turn]) -> Result<Outcome, Fail> {
+    let input = input_of(alloc, turns)?;
+    let later = Time::new(1_700_003_600, 0);
+    run_at(alloc, disk, "admin", &input, &NO_FAULTS, later)
+}
+
 /// These lines an hour later, in one session.
 fn check_later(
     rt: &impl Abort,
@@ -70,26 +78,27 @@ fn check_later(
     disk: &mut MemoryDisk,
     turns: &[Turn],
 ) -> Result<(), Fail> {
-    let mut input = Vec::new(alloc);
-    let mut replies = Vec::new(alloc);
-    for (line, reply) in turns.iter() {
-        input.extend_from_slice(line.as_bytes())?;
-        input.push(b'\n')?;
-        replies.extend_from_slice(reply.as_bytes())?;
-        replies.push(b'\n')?;
-    }
-    let later = Time::new(1_700_003_600, 0);
-    let outcome = run_at(alloc, disk, "admin", &input, &NO_FAULTS, later)?;
+    let outcome = run_later(alloc, disk, turns)?;
+    let replies = replies_of(alloc, turns)?;
     check(rt, &outcome, Status::Done, &replies);
     Ok(())
 }
 
+/// The lines before that hour, and these behind it.
+fn check_rolled(
+    rt: &impl Abort,
+    alloc: Global,
+    disk: &mut MemoryDisk,
+    turns: &[Turn],
+) -> Result<(), Fail> {
+    check_turns(rt, alloc, disk, "admin", &ROLLED)?;
+    check_later(rt, alloc, disk, turns)
+}
+
 #[test]
 fn a_master_key_is_rolled_over(rt: HostRuntime) -> Result<(), Fail> {
-    let alloc = rt.alloc();
-    let mut disk = created(alloc, &[])?;
-    check_turns(&rt, alloc, &mut disk, "admin", &ROLLED)?;
-    check_later(&rt, alloc, &mut disk, &LATER)
+    let mut disk = created(rt.alloc(), &[])?;
+    check_rolled(&rt, rt.alloc(), &mut disk, &LATER)
 }
 
 /// An hour later all keys go under the third key, so the others are deleted.
@@ -121,11 +130,9 @@ const REOPENED: [Turn; 1] = [(
 
 #[test]
 fn all_principals_are_rekeyed(rt: HostRuntime) -> Result<(), Fail> {
-    let alloc = rt.alloc();
-    let mut disk = created(alloc, &[])?;
-    check_turns(&rt, alloc, &mut disk, "admin", &ROLLED)?;
-    check_later(&rt, alloc, &mut disk, &REKEYED)?;
-    check_later(&rt, alloc, &mut disk, &REOPENED)
+    let mut disk = created(rt.alloc(), &[])?;
+    check_rolled(&rt, rt.alloc(), &mut disk, &REKEYED)?;
+    check_later(&rt, rt.alloc(), &mut disk, &REOPENED)
 }
 
 /// The same, but the third key is not put into the stash.
@@ -140,17 +147,20 @@ const UNSTASHED: [Turn; 2] = [
     ),
 ];
 
+/// What needs the stash.
+const UNOPENED: [Answer; 4] = [
+    ("list_mkeys", b"err 16 UnknownMaster 1\n"),
+    ("admin", b"err 16 UnknownMaster 1\n"),
+    ("load", b"err 16 UnknownMaster 1\n"),
+    ("stash", b"err 16 UnknownMaster 1\n"),
+];
+
 // The stash has the first key alone, which is deleted, so nothing that needs it opens any more.
 #[test]
 fn without_a_stash_of_the_new_key_nothing_opens(rt: HostRuntime) -> Result<(), Fail> {
-    let alloc = rt.alloc();
-    let mut disk = created(alloc, &[])?;
-    check_turns(&rt, alloc, &mut disk, "admin", &ROLLED)?;
-    check_later(&rt, alloc, &mut disk, &UNSTASHED)?;
-    for words in ["list_mkeys", "admin", "load", "stash"] {
-        check_words(&rt, alloc, &mut disk, words, b"err 16 UnknownMaster 1\n")?;
-    }
-    Ok(())
+    let mut disk = created(rt.alloc(), &[])?;
+    check_rolled(&rt, rt.alloc(), &mut disk, &UNSTASHED)?;
+    check_answers(&rt, rt.alloc(), &mut disk, &UNOPENED)
 }
 
 /// A master key of another type, which is active at once by the tie, and a principal whose key is
@@ -206,17 +216,20 @@ kadmin/history@EXAMPLE.ORG\t0\t1\taes256-cts-hmac-sha1-96\tnormal\t62\n\
 krbtgt/EXAMPLE.ORG@EXAMPLE.ORG\t0\t1\taes256-cts-hmac-sha1-96\tnormal\t62\n\
 krbtgt/EXAMPLE.ORG@EXAMPLE.ORG\t1\t1\taes128-cts-hmac-sha1-96\tnormal\t46\n";
 
+fn check_types(rt: &impl Abort, alloc: Global, disk: &mut MemoryDisk) -> Result<(), Fail> {
+    check_turns(rt, alloc, disk, "admin", &OF_THREE_TYPES)?;
+    check_turns(rt, alloc, disk, "admin", &BY_THE_FIRST)?;
+    check_words(rt, alloc, disk, "report keys", WRAPPED)
+}
+
 #[test]
 fn a_master_key_of_another_type(rt: HostRuntime) -> Result<(), Fail> {
-    let alloc = rt.alloc();
-    let mut disk = created(alloc, &[])?;
-    check_turns(&rt, alloc, &mut disk, "admin", &OF_THREE_TYPES)?;
-    check_turns(&rt, alloc, &mut disk, "admin", &BY_THE_FIRST)?;
-    check_words(&rt, alloc, &mut disk, "report keys", WRAPPED)
+    let mut disk = created(rt.alloc(), &[])?;
+    check_types(&rt, rt.alloc(), &mut disk)
 }
 
 /// Words that are lines of master keys, and words that look like them.
-const WORDS: [(&str, &[u8]); 12] = [
+const WORDS: [Answer; 12] = [
     (
         "add_mkey -e aes256-sha2",
         b"ok 2 1700000000.000000 mkvno 2\n",
@@ -253,12 +266,8 @@ const WORDS: [(&str, &[u8]); 12] = [
 
 #[test]
 fn lines_of_master_keys_are_words_too(rt: HostRuntime) -> Result<(), Fail> {
-    let alloc = rt.alloc();
-    let mut disk = created(alloc, &[])?;
-    for (words, reply) in WORDS.iter() {
-        check_words(&rt, alloc, &mut disk, words, reply)?;
-    }
-    Ok(())
+    let mut disk = created(rt.alloc(), &[])?;
+    check_answers(&rt, rt.alloc(), &mut disk, &WORDS)
 }
 
 /// This line so many times.
@@ -321,7 +330,20 @@ const LONGER_STAGES: [Stage; 3] = [
     ),
 ];
 
-/// The line so many times in a run of its own, stage by stage.
+/// The line so many times in a run of its own, and the last of the replies.
+fn check_added(
+    rt: &impl Abort,
+    alloc: Global,
+    disk: &mut MemoryDisk,
+    line: &[u8],
+    count: usize,
+    last: &[u8],
+) -> Result<(), Fail> {
+    let input = lines(alloc, line, count)?;
+    check_end(rt, alloc, disk, &input, last)
+}
+
+/// The same stage by stage, and the log behind each.
 fn check_stages(
     rt: &impl Abort,
     alloc: Global,
@@ -330,9 +352,7 @@ fn check_stages(
     stages: &[Stage],
 ) -> Result<(), Fail> {
     for (count, last, log) in stages.iter() {
-        let input = lines(alloc, line, *count)?;
-        let added = run(alloc, disk, "admin", &input, &NO_FAULTS)?;
-        assert!(rt; added.replies.ends_with(last));
+        check_added(rt, alloc, disk, line, *count, last)?;
         check_words(rt, alloc, disk, "kproplog", log)?;
     }
     Ok(())
@@ -340,24 +360,19 @@ fn check_stages(
 
 #[test]
 fn thirty_two_master_keys_are_the_most(rt: HostRuntime) -> Result<(), Fail> {
-    let alloc = rt.alloc();
-    let mut disk = created(alloc, &[])?;
-    check_stages(&rt, alloc, &mut disk, b"add_mkey\n", &STAGES)?;
+    let mut disk = created(rt.alloc(), &[])?;
+    check_stages(&rt, rt.alloc(), &mut disk, b"add_mkey\n", &STAGES)?;
     let one_more = b"err 15 TooManyMasters 32\n";
-    check_words(&rt, alloc, &mut disk, "add_mkey", one_more)
+    check_words(&rt, rt.alloc(), &mut disk, "add_mkey", one_more)
 }
 
 #[test]
 fn master_keys_with_longer_tags(rt: HostRuntime) -> Result<(), Fail> {
-    let alloc = rt.alloc();
-    let mut disk = created(alloc, &[])?;
+    let mut disk = created(rt.alloc(), &[])?;
     let line = b"add_mkey -e aes256-sha2\n";
-    check_stages(&rt, alloc, &mut disk, line, &LONGER_STAGES)?;
-    let input = lines(alloc, line, 5)?;
-    let outcome = run(alloc, &mut disk, "admin", &input, &NO_FAULTS)?;
+    check_stages(&rt, rt.alloc(), &mut disk, line, &LONGER_STAGES)?;
     let last = b"\nok 9 1700000000.000002 mkvno 32\nerr 15 TooManyMasters 32\n";
-    assert!(rt; outcome.replies.ends_with(last));
-    Ok(())
+    check_added(&rt, rt.alloc(), &mut disk, line, 5, last)
 }
 
 /// A line at the end of others: its front, and its last word.
@@ -368,16 +383,32 @@ fn push_line(out: &mut Vec<u8>, front: &str, last: &[u8]) -> Result<(), Fail> {
     Ok(())
 }
 
+/// A line that gives bob the attribute of this number.
+fn push_attribute(alloc: Global, out: &mut Vec<u8>, number: u32, value: &[u8]) -> Result<(), Fail> {
+    let front = format!(in alloc; "setstr bob s{number} ")?;
+    push_line(out, front.as_str(), value)
+}
+
+/// Lines that give bob 13 attributes of 1024 bytes.
+fn push_attributes(alloc: Global, out: &mut Vec<u8>) -> Result<(), Fail> {
+    let value = repeated(alloc, b'x', 1024)?;
+    for number in 0..13 {
+        push_attribute(alloc, out, number, &value)?;
+    }
+    Ok(())
+}
+
+/// A line that gives him one of 477 bytes.
+fn push_last_attribute(alloc: Global, out: &mut Vec<u8>) -> Result<(), Fail> {
+    let value = repeated(alloc, b'x', 477)?;
+    push_line(out, "setstr bob z ", &value)
+}
+
 /// Lines that give bob 16 versions of keys and 14 attributes, so that the row has 15990 bytes.
 fn filled(alloc: Global) -> Result<Vec<u8>, Fail> {
     let mut input = versions(alloc, b"bob", 16)?;
-    let value = repeated(alloc, b'x', 1024)?;
-    for number in 0..13 {
-        let front = format!(in alloc; "setstr bob s{number} ")?;
-        push_line(&mut input, front.as_str(), &value)?;
-    }
-    let value = repeated(alloc, b'x', 477)?;
-    push_line(&mut input, "setstr bob z ", &value)?;
+    push_attributes(alloc, &mut input)?;
+    push_last_attribute(alloc, &mut input)?;
     Ok(input)
 }
 
@@ -392,39 +423,58 @@ bob@EXAMPLE.ORG\t00000000\t0\t0\t0\t0\t\t1700000000\tadmin/local@EXAMPLE.ORG\t1\
 kadmin/history@EXAMPLE.ORG\t00000000\t0\t0\t0\t0\t\t1700000000\tadmin/local@EXAMPLE.ORG\t1\t0\n\
 krbtgt/EXAMPLE.ORG@EXAMPLE.ORG\t00000000\t0\t0\t0\t0\t\t1700000000\tadmin/local@EXAMPLE.ORG\t1\t0\n";
 
-// The row of bob, who comes first, would be longer than 16000 bytes under the second master key.
-#[test]
-fn a_row_too_long_to_be_rekeyed_stays(rt: HostRuntime) -> Result<(), Fail> {
-    let alloc = rt.alloc();
-    let mut disk = created(alloc, &[])?;
+/// The row of bob, who comes first, would be longer than 16000 bytes under the second master key.
+fn check_too_long(rt: &impl Abort, alloc: Global, disk: &mut MemoryDisk) -> Result<(), Fail> {
     let mut input = filled(alloc)?;
     input.extend_from_slice(TO_LONGER_TAGS)?;
-    let outcome = run(alloc, &mut disk, "admin", &input, &NO_FAULTS)?;
+    let outcome = run(alloc, disk, "admin", &input, &NO_FAULTS)?;
     assert_eq!(rt; outcome.status, Status::Refused);
     let last = b" mkvno 2 from 2023-11-14T22:13:20Z\nerr 14 RecordTooLarge 16374\n";
     assert!(rt; outcome.replies.ends_with(last));
-    check_words(&rt, alloc, &mut disk, "report principals", STAYED)
+    Ok(())
 }
 
 #[test]
-fn a_database_is_told_as_text(rt: HostRuntime) -> Result<(), Fail> {
-    let alloc = rt.alloc();
-    let mut disk = created(alloc, &[])?;
-    let outcome = run(alloc, &mut disk, "dump", b"", &NO_FAULTS)?;
+fn a_row_too_long_to_be_rekeyed_stays(rt: HostRuntime) -> Result<(), Fail> {
+    let mut disk = created(rt.alloc(), &[])?;
+    check_too_long(&rt, rt.alloc(), &mut disk)?;
+    check_words(&rt, rt.alloc(), &mut disk, "report principals", STAYED)
+}
+
+fn check_text(rt: &impl Abort, alloc: Global, disk: &mut MemoryDisk) -> Result<(), Fail> {
+    let outcome = run(alloc, disk, "dump", b"", &NO_FAULTS)?;
     assert_eq!(rt; outcome.status, Status::Done);
     let front = b"kdb dump 2\nrealm EXAMPLE.ORG\npoint 1 1700000000.000000\n";
     assert!(rt; outcome.replies.starts_with(front));
     assert!(rt; outcome.replies.ends_with(b"\nend 3\n"));
-    // It wants no stash, and no file is changed by it.
-    let before = disk.bytes(0).to_vec(alloc)?;
-    check_words(&rt, alloc, &mut disk, "dump x", b"err 1 BadLine\n")?;
-    assert!(rt; disk.bytes(0) == before.as_slice());
-    check_words(&rt, alloc, &mut disk, "destroy", b"ok\n")?;
-    check_words(&rt, alloc, &mut disk, "dump", b"err 20 NotADatabase\n")
+    Ok(())
 }
 
-/// The second key is made active, and principals are moved under it by words.
-const MOVED: [(&str, &[u8]); 7] = [
+/// It wants no stash, and no file is changed by it.
+fn check_unchanged(rt: &impl Abort, alloc: Global, disk: &mut MemoryDisk) -> Result<(), Fail> {
+    let before = disk.bytes(0).to_vec(alloc)?;
+    check_words(rt, alloc, disk, "dump x", b"err 1 BadLine\n")?;
+    assert!(rt; disk.bytes(0) == before.as_slice());
+    Ok(())
+}
+
+const UNTOLD: [Answer; 2] = [("destroy", b"ok\n"), ("dump", b"err 20 NotADatabase\n")];
+
+fn check_told(rt: &impl Abort, alloc: Global, disk: &mut MemoryDisk) -> Result<(), Fail> {
+    check_text(rt, alloc, disk)?;
+    check_unchanged(rt, alloc, disk)?;
+    check_answers(rt, alloc, disk, &UNTOLD)
+}
+
+#[test]
+fn a_database_is_told_as_text(rt: HostRuntime) -> Result<(), Fail> {
+    let mut disk = created(rt.alloc(), &[])?;
+    check_told(&rt, rt.alloc(), &mut disk)
+}
+
+/// The second key is made active, and principals are moved under it by words, until there is no
+/// database.
+const MOVED: [Answer; 9] = [
     ("add_mkey", b"ok 2 1700000000.000000 mkvno 2\n"),
     (
         "use_mkey 2",
@@ -444,16 +494,12 @@ const MOVED: [(&str, &[u8]); 7] = [
         "update_princ_encryption",
         b"ok 2 principals processed: 1 updated, 1 already current, 0 gone\n",
     ),
+    ("destroy", b"ok\n"),
+    ("update_princ_encryption", b"err 20 NotADatabase\n"),
 ];
 
 #[test]
 fn principals_moved_by_words(rt: HostRuntime) -> Result<(), Fail> {
-    let alloc = rt.alloc();
-    let mut disk = created(alloc, &[])?;
-    for (words, reply) in MOVED.iter() {
-        check_words(&rt, alloc, &mut disk, words, reply)?;
-    }
-    check_words(&rt, alloc, &mut disk, "destroy", b"ok\n")?;
-    let words = "update_princ_encryption";
-    check_words(&rt, alloc, &mut disk, words, b"err 20 NotADatabase\n")
+    let mut disk = created(rt.alloc(), &[])?;
+    check_answers(&rt, rt.alloc(), &mut disk, &MOVED)
 }

@@ -7,7 +7,9 @@ use kdb_base::Status;
 use kdb_ports::{
     Clock, ReadFailed, ReaderSource, Sink, Source, SystemClock, WriteFailed, WriterSink,
 };
+use std::alloc::Global;
 use std::io::{ErrorKind, Read, Write};
+use std::process::Abort;
 use std::test::Fail;
 use std::time::Duration;
 use std::{io, rt};
@@ -148,9 +150,23 @@ fn a_writer_gets_what_is_written(rt: HostRuntime) -> Result<(), Fail> {
     Ok(())
 }
 
+/// Whether there is a text for words that stand alone.
+fn has_text(alloc: Global, line: &str) -> Result<bool, Fail> {
+    let words = words_of(alloc, line)?;
+    Ok(text_alone(&words).is_some())
+}
+
+fn check_said(rt: &impl Abort, alloc: Global, line: &str, text: &[u8]) -> Result<(), Fail> {
+    let words = words_of(alloc, line)?;
+    let found = text_alone(&words).unwrap_or(b"");
+    let mut sink = WriterSink::new(Slow::new(0, Vec::new(alloc)));
+    assert_eq!(rt; say_text(&mut sink, found), Status::Done);
+    assert_eq!(rt; sink.into_writer().bytes.as_slice(), text);
+    Ok(())
+}
+
 #[test]
 fn words_that_stand_alone(rt: HostRuntime) -> Result<(), Fail> {
-    let alloc = rt.alloc();
     for line in [
         "",
         "admin",
@@ -159,13 +175,10 @@ fn words_that_stand_alone(rt: HostRuntime) -> Result<(), Fail> {
         "--helpful",
         "admin --version",
     ] {
-        assert!(rt; text_alone(&words_of(alloc, line)?).is_none());
+        assert!(rt; !has_text(rt.alloc(), line)?);
     }
     for (line, text) in [("--help", USAGE), ("--version", VERSION)] {
-        let found = text_alone(&words_of(alloc, line)?).unwrap_or(b"");
-        let mut sink = WriterSink::new(Slow::new(0, Vec::new(alloc)));
-        assert_eq!(rt; say_text(&mut sink, found), Status::Done);
-        assert_eq!(rt; sink.into_writer().bytes.as_slice(), text);
+        check_said(&rt, rt.alloc(), line, text)?;
     }
     let mut full = WriterSink::new(&mut [] as &mut [u8]);
     assert_eq!(rt; say_text(&mut full, VERSION), Status::WriteFault);

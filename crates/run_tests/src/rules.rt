@@ -2,6 +2,7 @@
 
 use crate::runs::{Turn, check_last, check_last_and_log, check_session, repeated};
 use std::alloc::Global;
+use std::process::Abort;
 use std::test::Fail;
 
 /// The rules of passwords: length, classes, and the keys of passwords before.
@@ -76,15 +77,21 @@ const STRINGS: [Turn; 12] = [
     ("getstrs K/M", "ok"),
 ];
 
+/// A line that gives bob an attribute with this letter in its key.
+fn push_attribute(out: &mut Vec<u8>, key: u8, value: &[u8]) -> Result<(), Fail> {
+    out.extend_from_slice(b"setstr bob a")?;
+    out.push(key)?;
+    out.push(b' ')?;
+    out.extend_from_slice(value)?;
+    out.push(b'\n')?;
+    Ok(())
+}
+
 /// Lines that give bob attributes with these keys, each with this value.
 fn attributes(alloc: Global, keys: &[u8], value: &[u8]) -> Result<Vec<u8>, Fail> {
     let mut input = b"addprinc -nokey bob\n".as_slice().to_vec(alloc)?;
     for key in keys {
-        input.extend_from_slice(b"setstr bob a")?;
-        input.push(*key)?;
-        input.push(b' ')?;
-        input.extend_from_slice(value)?;
-        input.push(b'\n')?;
+        push_attribute(&mut input, *key, value)?;
     }
     Ok(input)
 }
@@ -121,14 +128,21 @@ const OF_ATTRIBUTES: &[u8] = b"- first 1 1700000000.000007\n- last 3 1700000000.
 - size 1000 block 16384\n- 1 1700000000.000007 base\n\
 - 2 1700000000.000007 put bob@EXAMPLE.ORG\n- 3 1700000000.000007 put bob@EXAMPLE.ORG\nok\n";
 
-#[test]
-fn a_record_has_sixteen_attributes_and_16000_bytes(rt: HostRuntime) -> Result<(), Fail> {
-    let alloc = rt.alloc();
+fn check_many_attributes(rt: &impl Abort, alloc: Global) -> Result<(), Fail> {
     let input = attributes(alloc, b"abcdefghijklmnoppq", b"x")?;
     let last = b"ok 18 1700000000.000000\nok 19 1700000000.000000\nerr 30 StringsFull 16\n";
-    check_last(&rt, alloc, &input, last)?;
+    check_last(rt, alloc, &input, last)
+}
+
+fn check_long_attributes(rt: &impl Abort, alloc: Global) -> Result<(), Fail> {
     let value = repeated(alloc, b'x', 1024)?;
     let input = attributes(alloc, b"abcdefghijklmnop", &value)?;
     let last = b"\nok 3 1700000000.000007\nerr 14 RecordTooLarge 16535\n";
-    check_last_and_log(&rt, alloc, &input, last, OF_ATTRIBUTES)
+    check_last_and_log(rt, alloc, &input, last, OF_ATTRIBUTES)
+}
+
+#[test]
+fn a_record_has_sixteen_attributes_and_16000_bytes(rt: HostRuntime) -> Result<(), Fail> {
+    check_many_attributes(&rt, rt.alloc())?;
+    check_long_attributes(&rt, rt.alloc())
 }

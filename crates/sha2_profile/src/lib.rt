@@ -7,8 +7,6 @@ mod derivation;
 mod faults;
 mod macs;
 mod sealing;
-#[cfg(test)]
-mod tests;
 
 pub use derivation::{kdf, string_to_key2};
 pub use faults::UnsealFault;

@@ -4,6 +4,7 @@ use kdb_base::MemoryOut;
 use kdb_cells::units::{FREE, POLICY, PRINC};
 use kdb_cells::{Cells, StoredRow, UnitIndex, fill_unit, read_unit, unit_size};
 use std::alloc::Global;
+use std::process::Abort;
 use std::test::*;
 
 // A policy p1: a greatest life of 0 and a least life of 60 seconds, 8 bytes of 3 classes, and a
@@ -21,17 +22,28 @@ fn page(alloc: Global, len: usize) -> Result<Vec<u8>, MemoryOut>
     Ok(bytes)
 }
 
+// The state of a unit with this row, or without one.
+fn state_with(row: &Option<StoredRow>) -> u8 {
+    match row {
+        None => FREE,
+        Some(StoredRow::Princ(_)) => PRINC,
+        Some(StoredRow::Policy(_)) => POLICY,
+    }
+}
+
 // The state that is read from a unit of format 2.
 fn state_of(alloc: Global, unit: &[u8]) -> Option<u8> {
     if unit.len() != unit_size(2) {
         return None;
     }
-    match read_unit(alloc, 2, unit) {
-        Ok(None) => Some(FREE),
-        Ok(Some(StoredRow::Princ(_))) => Some(PRINC),
-        Ok(Some(StoredRow::Policy(_))) => Some(POLICY),
+    let read = read_unit(alloc, 2, unit);
+    let state = match &read {
+        Ok(row) => Some(state_with(row)),
         Err(_) => None,
-    }
+    };
+    // drops the row in the library, and not here with all that it may own
+    let _ = read.err();
+    state
 }
 
 fn fill(unit: &mut Vec<u8>, kind: u8) {
@@ -40,15 +52,19 @@ fn fill(unit: &mut Vec<u8>, kind: u8) {
     }
 }
 
+fn check_unit(rt: &impl Abort, alloc: Global, unit: &mut Vec<u8>) {
+    assert_eq!(rt; state_of(alloc, unit.as_slice()), Some(FREE));
+    fill(unit, POLICY);
+    assert!(rt; unit.starts_with(UNIT));
+    assert_eq!(rt; state_of(alloc, unit.as_slice()), Some(POLICY));
+    fill(unit, PRINC);
+    assert_eq!(rt; state_of(alloc, unit.as_slice()), None);
+}
+
 #[test]
 fn a_unit_is_read_as_it_is_written(rt: HostRuntime) -> Result<(), Fail> {
     let mut unit = page(rt.alloc(), unit_size(2))?;
-    assert_eq!(rt; state_of(rt.alloc(), &unit), Some(FREE));
-    fill(&mut unit, POLICY);
-    assert!(rt; unit.starts_with(UNIT));
-    assert_eq!(rt; state_of(rt.alloc(), &unit), Some(POLICY));
-    fill(&mut unit, PRINC);
-    assert_eq!(rt; state_of(rt.alloc(), &unit), None);
+    check_unit(&rt, rt.alloc(), &mut unit);
     Ok(())
 }
 
@@ -63,13 +79,17 @@ fn leave(index: &mut UnitIndex, name: &[u8]) -> Option<u32> {
     }
 }
 
+fn check_units(rt: &impl Abort, index: &mut UnitIndex) {
+    assert_eq!(rt; leave(index, b"a"), Some(1));
+    assert_eq!(rt; leave(index, b"b"), Some(1));
+    assert_eq!(rt; index.place(b"c").ok(), Some(1));
+    assert_eq!(rt; index.place(b"d").ok(), Some(1));
+}
+
 #[test]
 fn a_free_unit_is_given_again(rt: HostRuntime) {
     let mut index = UnitIndex::new(rt.alloc());
-    assert_eq!(rt; leave(&mut index, b"a"), Some(1));
-    assert_eq!(rt; leave(&mut index, b"b"), Some(1));
-    assert_eq!(rt; index.place(b"c").ok(), Some(1));
-    assert_eq!(rt; index.place(b"d").ok(), Some(1));
+    check_units(&rt, &mut index);
 }
 
 #[test]

@@ -37,6 +37,33 @@ fn count_changes(
     Ok((rows, log))
 }
 
+// Whether one write of a unit and three of the log were made from this call on, each with its own
+// sync.
+fn are_counted(alloc: Global, changed: &MemoryDisk, first: u64) -> Result<bool, Fail> {
+    let written = count_changes(alloc, changed, first, Pick::Written)?;
+    let synced = count_changes(alloc, changed, first, Pick::Old)?;
+    Ok(written == (1, 3) && synced == (1, 3))
+}
+
+// Whether the step is done by so many calls on a copy of the disk, whose place the disk takes.
+fn is_counted_on(
+    alloc: Global,
+    disk: &mut MemoryDisk,
+    changed: &mut MemoryDisk,
+    step: &Step,
+    first: u64,
+    calls: u64,
+) -> Result<bool, Fail> {
+    if run(alloc, changed, step)?.is_some() {
+        return Ok(false);
+    }
+    let made = changed.calls().saturating_sub(first);
+    // one more call, inside of which the last sync is done
+    *disk = copied(alloc, changed)?;
+    let counted = are_counted(alloc, changed, first)?;
+    Ok(made == calls && counted)
+}
+
 /// Whether the step is done by so many device calls behind its opening, of which one writes a unit, three write
 /// the log, and each such write has its own sync.
 pub(crate) fn is_counted(
@@ -47,13 +74,5 @@ pub(crate) fn is_counted(
 ) -> Result<bool, Fail> {
     let first = calls_before(alloc, disk, step)?;
     let mut changed = copied(alloc, disk)?;
-    if run(alloc, &mut changed, step)?.is_some() {
-        return Ok(false);
-    }
-    let made = changed.calls().saturating_sub(first);
-    // one more call, inside of which the last sync is done
-    *disk = copied(alloc, &mut changed)?;
-    let written = count_changes(alloc, &changed, first, Pick::Written)?;
-    let synced = count_changes(alloc, &changed, first, Pick::Old)?;
-    Ok(made == calls && written == (1, 3) && synced == (1, 3))
+    is_counted_on(alloc, disk, &mut changed, step, first, calls)
 }

@@ -26,6 +26,17 @@ fn wanted(file: u8, place: Option<u64>) -> Option<Refusal> {
     }
 }
 
+fn write_and_open(
+    alloc: Global,
+    disk: &mut MemoryDisk,
+    file: u8,
+    at: u64,
+    bytes: &'static [u8],
+) -> Answer {
+    run(alloc, disk, &Write(file, at, bytes))?;
+    run(alloc, disk, &Open)
+}
+
 // What an opening answers, where these bytes stand at a place of a file.
 fn opened_with(
     alloc: Global,
@@ -35,8 +46,22 @@ fn opened_with(
     bytes: &'static [u8],
 ) -> Answer {
     let mut disk = copied(alloc, made)?;
-    run(alloc, &mut disk, &Write(file, at, bytes))?;
-    run(alloc, &mut disk, &Open)
+    write_and_open(alloc, &mut disk, file, at, bytes)
+}
+
+fn check_damages(
+    rt: &impl Abort,
+    alloc: Global,
+    made: &mut MemoryDisk,
+    file: u8,
+    named: u8,
+    damages: &[Damage],
+) -> Result<(), Fail> {
+    for (at, bytes, place) in damages {
+        let refusal = opened_with(alloc, made, file, *at, bytes)?;
+        assert!(rt; refusal == wanted(named, *place), "file {file} at {at}");
+    }
+    Ok(())
 }
 
 // Each damage of this file by itself is answered by its place in the file that is named.
@@ -48,11 +73,7 @@ fn check_each(
     damages: &[Damage],
 ) -> Result<(), Fail> {
     let mut made = made(alloc, &TWO)?;
-    for (at, bytes, place) in damages {
-        let refusal = opened_with(alloc, &mut made, file, *at, bytes)?;
-        assert!(rt; refusal == wanted(named, *place), "file {file} at {at}");
-    }
-    Ok(())
+    check_damages(rt, alloc, &mut made, file, named, damages)
 }
 
 /// The slot at 0 is open, and the one at 64 has a closed gate alone.

@@ -3,12 +3,13 @@ ghost use Rattle.princ_rows.specs.Entries.{IsOp, logged};
 ghost use Rattle.princ_name.specs.Printed.{IsPrinted};
 ghost use Rattle.update_log.specs.Moments.{HasLog, IsDurable};
 
-use kdb_base::{Blob, Fails, Halt, Point, Time};
+use kdb_base::{Blob, Fails, Halt, MemoryOut, Point, Time};
 use kdb_disk::{Disk, MemoryDisk, Pick};
 use princ_name::is_printed;
 use princ_rows::entry_laws::entries_have_their_lengths;
 use princ_rows::{Entry, Op};
 use std::alloc::Global;
+use std::process::Abort;
 use std::test::*;
 use update_log::Log;
 
@@ -27,6 +28,18 @@ fn base() -> Point {
         sno: 1,
         time: Time::new(1_700_000_000, 0),
     }
+}
+
+// Drops the entry by a call of the library, so that no caller is proved with all that it may own.
+fn let_go_of_entry(entry: Entry) {
+    let held: Result<Entry, MemoryOut> = Ok(entry);
+    let _ = held.err();
+}
+
+// The same of a log.
+fn let_go_of_log(log: Log) {
+    let held: Result<Log, MemoryOut> = Ok(log);
+    let _ = held.err();
 }
 
 // A printed name.
@@ -88,7 +101,9 @@ fn append(alloc: Global, disk: &mut MemoryDisk, log: &mut Log) -> Result<(), Fai
 {
     let (_, last) = log.held();
     let entry = next_entry(alloc, &last)?;
-    match log.prepare(alloc, disk, &entry, entry.point.sno) {
+    let prepared = log.prepare(alloc, disk, &entry, entry.point.sno);
+    let_go_of_entry(entry);
+    match prepared {
         Ok(()) => {}
         Err(halt) => return Err(Fail::from(halt)),
     }
@@ -106,17 +121,31 @@ fn is_marker(bytes: &[u8]) -> bool {
     }
 }
 
-// A log in which four entries came behind the base marker.
-fn fill(alloc: Global, disk: &mut MemoryDisk) -> Result<Log, Fail> {
-    let mut log = make_on(alloc, disk)?;
+// Appends four entries behind the base marker.
+fn append_four(alloc: Global, disk: &mut MemoryDisk, log: &mut Log) -> Result<(), Fail>
+    requires log { HasLog log.old (⟦<MemoryDisk as Disk>⟧.view disk.old) }
+    requires durable { IsDurable log.old.file (⟦<MemoryDisk as Disk>⟧.view disk.old) }
+    requires block { log.old.block ≡ 2048 }
+{
     if !is_marker(disk.bytes(3)) {
         return Err(Fail::from(Unexpected));
     }
-    append(alloc, disk, &mut log)?;
-    append(alloc, disk, &mut log)?;
-    append(alloc, disk, &mut log)?;
-    append(alloc, disk, &mut log)?;
-    Ok(log)
+    append(alloc, disk, log)?;
+    append(alloc, disk, log)?;
+    append(alloc, disk, log)?;
+    append(alloc, disk, log)
+}
+
+// A log in which four entries came behind the base marker.
+fn fill(alloc: Global, disk: &mut MemoryDisk) -> Result<Log, Fail> {
+    let mut log = make_on(alloc, disk)?;
+    match append_four(alloc, disk, &mut log) {
+        Ok(()) => Ok(log),
+        Err(fail) => {
+            let_go_of_log(log);
+            Err(fail)
+        }
+    }
 }
 
 // The first and the last serial, and whether those of 3 to 6 are held.
@@ -131,15 +160,24 @@ fn held_in(log: &Log) -> (u32, u32, [bool; 4]) {
     (first.sno, last.sno, held)
 }
 
+fn check_held(rt: &impl Abort, log: &Log) {
+    assert_eq!(rt; held_in(log), (4, 5, [false, true, true, false]));
+    assert_eq!(rt; (log.last_cell(), log.in_file()), (5, 3));
+}
+
+fn check_filled(rt: &impl Abort, alloc: Global, disk: &mut MemoryDisk) -> Result<(), Fail> {
+    let log = fill(alloc, disk)?;
+    assert_eq!(rt; disk.bytes(3).len(), 6144);
+    check_held(rt, &log);
+    let_go_of_log(log);
+    Ok(())
+}
+
 #[test]
 fn a_log_holds_its_last_entries(rt: HostRuntime) -> Result<(), Fail> {
     let alloc = rt.alloc();
     let mut disk = MemoryDisk::new(alloc, Fails::none(alloc))?;
-    let log = fill(alloc, &mut disk)?;
-    assert_eq!(rt; disk.bytes(3).len(), 6144);
-    assert_eq!(rt; held_in(&log), (4, 5, [false, true, true, false]));
-    assert_eq!(rt; (log.last_cell(), log.in_file()), (5, 3));
-    Ok(())
+    check_filled(&rt, alloc, &mut disk)
 }
 
 // Prepares the next entry, where the disk fails.
@@ -151,7 +189,9 @@ fn prepare_in_vain(alloc: Global, disk: &mut MemoryDisk, log: &mut Log) -> Resul
 {
     let (_, last) = log.held();
     let entry = next_entry(alloc, &last)?;
-    match log.prepare(alloc, disk, &entry, 1) {
+    let prepared = log.prepare(alloc, disk, &entry, 1);
+    let_go_of_entry(entry);
+    match prepared {
         Err(Halt::DiskFault) => Ok(()),
         _ => Err(Fail::from(Unexpected)),
     }
@@ -160,22 +200,42 @@ fn prepare_in_vain(alloc: Global, disk: &mut MemoryDisk, log: &mut Log) -> Resul
 // Makes a log, and prepares an entry of it in vain.
 fn stop_preparing(alloc: Global, disk: &mut MemoryDisk) -> Result<(), Fail> {
     let mut log = make_on(alloc, disk)?;
-    prepare_in_vain(alloc, disk, &mut log)
+    let prepared = prepare_in_vain(alloc, disk, &mut log);
+    let_go_of_log(log);
+    prepared
+}
+
+fn begins_with_marker(disk: &MemoryDisk) -> bool {
+    match disk.bytes(3).get(..2048) {
+        Some(slot) => is_marker(slot),
+        None => false,
+    }
+}
+
+// Whether the base marker stands in this image inside this call.
+fn is_marked(alloc: Global, disk: &MemoryDisk, call: u64, pick: Pick) -> Result<bool, Fail> {
+    if call >= disk.calls() {
+        return Ok(false);
+    }
+    let image = disk.image_at(alloc, call, pick)?;
+    Ok(begins_with_marker(&image))
 }
 
 // Whether the base marker stands in each image inside this call.
 fn keeps_marker(alloc: Global, disk: &MemoryDisk, call: u64) -> Result<bool, Fail> {
-    if call >= disk.calls() {
-        return Ok(false);
-    }
     for pick in [Pick::Written, Pick::Old, Pick::Noise] {
-        let image = disk.image_at(alloc, call, pick)?;
-        match image.bytes(3).get(..2048) {
-            Some(slot) if is_marker(slot) => {}
-            _ => return Ok(false),
+        if !is_marked(alloc, disk, call, pick)? {
+            return Ok(false);
         }
     }
     Ok(true)
+}
+
+fn check_marker(rt: &impl Abort, alloc: Global, disk: &MemoryDisk) -> Result<(), Fail> {
+    for call in 9..13 {
+        assert!(rt; keeps_marker(alloc, disk, call)?, "inside call {call}");
+    }
+    Ok(())
 }
 
 // A log is made in nine calls. Then the file's length is asked for, the slot is begun in two calls, and
@@ -186,8 +246,5 @@ fn an_entry_is_prepared_in_vain(rt: HostRuntime) -> Result<(), Fail> {
     let fails = Fails::from_vec(vec![in alloc; 12u64]?);
     let mut disk = MemoryDisk::new(alloc, fails)?;
     stop_preparing(alloc, &mut disk)?;
-    for call in 9..13 {
-        assert!(rt; keeps_marker(alloc, &disk, call)?, "inside call {call}");
-    }
-    Ok(())
+    check_marker(&rt, alloc, &disk)
 }

@@ -1,7 +1,7 @@
 //! What is asked of the files of a disk, and of the database that they stand for.
 
-use crate::places::found;
-use crate::records::{Change, Record, op_of, padded, row};
+use crate::places::{let_go_of_place, look_through};
+use crate::records::{Change, Record, let_go_of_op, op_of, padded, row};
 use crate::steps::{At, bytes_at, copied, point};
 use kdb_disk::{FILES, MemoryDisk};
 use kdb_store::{Database, entry_length};
@@ -45,41 +45,81 @@ pub(crate) enum Look {
     TooLong(Change),
 }
 
+// ---- the database
+
+fn has_format(database: &Database, format: u16, size: u32, block: u32) -> bool {
+    database.format() == format && database.log_size() == size && database.block() == block
+}
+
+// Whether these are the points of the first entry that the log holds and of the last one.
+fn holds(database: &Database, first: (u32, At), last: (u32, At)) -> bool {
+    database.held() == (point(first.0, first.1), point(last.0, last.1))
+}
+
+fn has_entry(database: &Database, sno: u32, kind: u8, key: &[u8]) -> bool {
+    match database.log().entry(sno) {
+        Some(entry) => kind_of(&entry.op) == kind && key_of(&entry.op) == key,
+        None => false,
+    }
+}
+
+// Whether the entry of the change is too long for a block.
+fn is_too_long(alloc: Global, database: &Database, change: &Change) -> Result<bool, Fail> {
+    let op = op_of(alloc, change)?;
+    let fits = database.fits(&op);
+    let_go_of_op(op);
+    Ok(!fits)
+}
+
 // What is asked of the database.
 fn keeps(alloc: Global, database: &Database, look: &Look) -> Result<bool, Fail> {
     match look {
-        Look::Format(format, size, block) => Ok(
-            database.format() == *format
-                && database.log_size() == *size
-                && database.block() == *block,
-        ),
-        Look::Holds((first, begin), (last, end)) => {
-            Ok(database.held() == (point(*first, *begin), point(*last, *end)))
-        }
-        Look::Entry(sno, kind, key) => match database.log().entry(*sno) {
-            Some(entry) => Ok(kind_of(&entry.op) == *kind && key_of(&entry.op) == *key),
-            None => Ok(false),
-        },
+        Look::Format(format, size, block) => Ok(has_format(database, *format, *size, *block)),
+        Look::Holds(first, last) => Ok(holds(database, *first, *last)),
+        Look::Entry(sno, kind, key) => Ok(has_entry(database, *sno, *kind, key)),
         Look::NoEntry(sno) => Ok(database.log().entry(*sno).is_none()),
         Look::Has(name) => Ok(database.get(name).is_some()),
         Look::Lacks(name) => Ok(database.get(name).is_none()),
         Look::HasPolicy(name) => Ok(database.policy(name).is_some()),
         Look::LacksPolicy(name) => Ok(database.policy(name).is_none()),
         Look::Stash(stash) => Ok(database.stash() == *stash),
-        Look::TooLong(change) => Ok(!database.fits(&op_of(alloc, change)?)),
+        Look::TooLong(change) => is_too_long(alloc, database, change),
         _ => Ok(false),
     }
 }
 
-fn stays_same(alloc: Global, disk: &mut MemoryDisk) -> Result<bool, Fail> {
-    let before = copied(alloc, disk)?;
-    found(alloc, disk)?;
+// What is asked of the database, if there is one.
+fn is_kept(alloc: Global, disk: &mut MemoryDisk, look: &Look) -> Result<bool, Fail> {
+    match Database::recover(alloc, disk) {
+        Ok(database) => {
+            let kept = keeps(alloc, &database, look);
+            let_go_of_place(Some(database));
+            kept
+        }
+        Err(stop) => Err(Fail::from(stop)),
+    }
+}
+
+// ---- the files
+
+fn are_same_files(one: &MemoryDisk, other: &MemoryDisk) -> bool {
     for file in 0..FILES {
-        if disk.bytes(file) != before.bytes(file) {
-            return Ok(false);
+        if one.bytes(file) != other.bytes(file) {
+            return false;
         }
     }
-    Ok(true)
+    true
+}
+
+// Whether the files are these, once the database was opened.
+fn opens_as(alloc: Global, disk: &mut MemoryDisk, before: &MemoryDisk) -> Result<bool, Fail> {
+    look_through(alloc, disk)?;
+    Ok(are_same_files(disk, before))
+}
+
+fn stays_same(alloc: Global, disk: &mut MemoryDisk) -> Result<bool, Fail> {
+    let before = copied(alloc, disk)?;
+    opens_as(alloc, disk, &before)
 }
 
 fn has_row(
@@ -97,20 +137,16 @@ fn has_row(
     }
 }
 
-fn row_length(alloc: Global, record: &Record) -> Result<usize, Fail> {
-    Ok(row(alloc, record)?.len())
+fn has_row_length(alloc: Global, record: &Record, length: usize) -> Result<bool, Fail> {
+    let bytes = row(alloc, record)?;
+    Ok(bytes.len() == length)
 }
 
-fn length_of_entry(alloc: Global, change: &Change) -> Result<usize, Fail> {
-    Ok(entry_length(&op_of(alloc, change)?))
-}
-
-// What is asked of the database, if there is one.
-fn is_kept(alloc: Global, disk: &mut MemoryDisk, look: &Look) -> Result<bool, Fail> {
-    match Database::recover(alloc, disk) {
-        Ok(database) => keeps(alloc, &database, look),
-        Err(stop) => Err(Fail::from(stop)),
-    }
+fn has_entry_length(alloc: Global, change: &Change, length: usize) -> Result<bool, Fail> {
+    let op = op_of(alloc, change)?;
+    let told = entry_length(&op);
+    let_go_of_op(op);
+    Ok(told == length)
 }
 
 /// Whether it is so.
@@ -124,8 +160,8 @@ pub(crate) fn is_seen(alloc: Global, disk: &mut MemoryDisk, look: &Look) -> Resu
             has_row(alloc, disk, *file, *at, front, record, *length)
         }
         Look::Length(file, length) => Ok(*file <= 6 && disk.bytes(*file).len() == *length),
-        Look::RowLength(record, length) => Ok(row_length(alloc, record)? == *length),
-        Look::EntryLength(change, length) => Ok(length_of_entry(alloc, change)? == *length),
+        Look::RowLength(record, length) => has_row_length(alloc, record, *length),
+        Look::EntryLength(change, length) => has_entry_length(alloc, change, *length),
         Look::StaysSame => stays_same(alloc, disk),
         _ => is_kept(alloc, disk, look),
     }

@@ -118,15 +118,19 @@ impl Disk for LongDisk {
     ghost reads_as_image = { λ d tells. absurd tells };
 }
 
+fn open(alloc: Global, long: &mut LongDisk) -> Answer {
+    match Database::recover(alloc, long).err() {
+        None => Ok(None),
+        Some(stop) => answer_of(stop),
+    }
+}
+
 // What an opening over so many rows answers.
 fn opened(alloc: Global, steps: &[Step], units: u64) -> Answer {
     let disk = made(alloc, steps)?;
     let unit = padded(alloc, b"\x01", &NUMBERED, UNIT)?;
     let mut long = LongDisk { disk, unit, units };
-    match Database::recover(alloc, &mut long) {
-        Ok(_) => Ok(None),
-        Err(stop) => answer_of(stop),
-    }
+    open(alloc, &mut long)
 }
 
 /// The last entry puts `bob` into the unit 100000, in the place of the row that stands there, or 100001.

@@ -1,6 +1,6 @@
 //! What the files of a disk stand for.
 
-use kdb_base::{Refusal, Stop};
+use kdb_base::{MemoryOut, Refusal, Stop};
 use kdb_disk::MemoryDisk;
 use kdb_store::Database;
 use princ_rows::Rows;
@@ -13,6 +13,21 @@ pub(crate) fn found(alloc: Global, disk: &mut MemoryDisk) -> Result<Option<Datab
         Ok(database) => Ok(Some(database)),
         Err(Stop::Refused(Refusal::NotADatabase)) => Ok(None),
         Err(stop) => Err(Fail::from(stop)),
+    }
+}
+
+/// Drops the database, if there is one, by a call of the library, so that no caller is proved with
+/// all that it owns.
+pub(crate) fn let_go_of_place(place: Option<Database>) {
+    let held: Result<Option<Database>, MemoryOut> = Ok(place);
+    let _ = held.err();
+}
+
+/// Reads the files of the disk, as an opening does, and keeps nothing.
+pub(crate) fn look_through(alloc: Global, disk: &mut MemoryDisk) -> Result<(), Fail> {
+    match found(alloc, disk).err() {
+        None => Ok(()),
+        Some(fail) => Err(fail),
     }
 }
 

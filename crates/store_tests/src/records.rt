@@ -4,7 +4,7 @@ ghost use Rattle.princ_name.specs.Printed.{IsPrinted};
 ghost use Rattle.princ_record.specs.RowLimits.{IsRow};
 ghost use Rattle.princ_rows.specs.Entries.{IsOp};
 
-use kdb_base::Blob;
+use kdb_base::{Blob, MemoryOut};
 use policy_rules::is_policy_name;
 use princ_name::is_printed;
 use princ_record::{Princ, decode, decode_policy, is_row};
@@ -232,6 +232,12 @@ pub(crate) fn princ(alloc: Global, record: &Record) -> Result<Princ, Fail>
         return Err(Fail::from("a row"));
     }
     Ok(princ)
+}
+
+/// Drops the change by a call of the library, so that no caller is proved with all that it may own.
+pub(crate) fn let_go_of_op(op: Op) {
+    let held: Result<Op, MemoryOut> = Ok(op);
+    let _ = held.err();
 }
 
 // The name.

@@ -2,7 +2,7 @@
 
 use crate::counts::is_counted;
 use crate::looks::{Look, is_seen};
-use crate::places::{found, is_one_place};
+use crate::places::{found, is_one_place, let_go_of_place, look_through};
 use crate::steps::{Step, copied, image, run};
 use kdb_base::{Fails, Refusal};
 use kdb_disk::{MemoryDisk, Pick};
@@ -55,15 +55,23 @@ fn places_of(
     Ok(places)
 }
 
+// How many calls the disk has had behind an opening.
+fn calls_behind(alloc: Global, aside: &mut MemoryDisk) -> Result<u64, Fail> {
+    look_through(alloc, aside)?;
+    Ok(aside.calls())
+}
+
+// How many calls are an opening's.
+fn calls_of_opening(alloc: Global, disk: &mut MemoryDisk) -> Result<u64, Fail> {
+    let mut aside = copied(alloc, disk)?;
+    calls_behind(alloc, &mut aside)
+}
+
 /// How many calls are an opening's, before those of the step itself.
 pub(crate) fn calls_before(alloc: Global, disk: &mut MemoryDisk, step: &Step) -> Result<u64, Fail> {
     match step {
         Step::Create(_, _) | Step::Open | Step::Destroy => Ok(0),
-        _ => {
-            let mut aside = copied(alloc, disk)?;
-            found(alloc, &mut aside)?;
-            Ok(aside.calls())
-        }
+        _ => calls_of_opening(alloc, disk),
     }
 }
 
@@ -83,7 +91,11 @@ fn is_found_among(
     places: &[Option<Database>],
 ) -> Result<bool, Fail> {
     match found(alloc, disk) {
-        Ok(place) => Ok(is_among(&place, places)),
+        Ok(place) => {
+            let among = is_among(&place, places);
+            let_go_of_place(place);
+            Ok(among)
+        }
         Err(fail) => Err(fail),
     }
 }

@@ -9,7 +9,8 @@ ghost use Rattle.kdb_places.specs.Applying.{may_apply};
 ghost use Rattle.kdb_places.specs.Places.{point_of};
 ghost use Rattle.store_files.specs.Kept.{IsOnDisk, place_kept};
 
-use crate::records::{Change, HISTORY, KM, KRBTGT, Record, op_of, padded, princ};
+use crate::places::let_go_of_place;
+use crate::records::{Change, HISTORY, KM, KRBTGT, Record, let_go_of_op, op_of, padded, princ};
 use kdb_base::{Fails, Halt, Point, Refusal, Stop, Time};
 use kdb_disk::{Disk, MemoryDisk, Pick};
 use kdb_places::laws::what_may_be_applied;
@@ -106,6 +107,7 @@ fn put_row(alloc: Global, rows: &mut Rows, record: &Record) -> Result<(), Fail> 
     what_may_be_applied();
     let op = Op::PutPrinc(princ(alloc, record)?);
     if !may_apply(rows, &op) {
+        let_go_of_op(op);
         return Err(Fail::from("a row that may be put"));
     }
     rows.apply(op)?;
@@ -145,9 +147,9 @@ fn make(
     if !is_realm(REALM) || size < 2 || size > 10000 {
         return Err(Fail::from("a realm and a size"));
     }
-    match Database::create(alloc, disk, format, REALM, rows, base, size, 2048, stash) {
-        Ok(_) => Ok(None),
-        Err(stop) => answer_of(stop),
+    match Database::create(alloc, disk, format, REALM, rows, base, size, 2048, stash).err() {
+        None => Ok(None),
+        Some(stop) => answer_of(stop),
     }
 }
 
@@ -203,6 +205,7 @@ fn commit(
     let op = op_of(alloc, change)?;
     let time = point(1, at).time;
     if !may_take(database, &op) || !may_come(database, &time) || !database.fits(&op) {
+        let_go_of_op(op);
         return Err(Fail::from("a change that may be made"));
     }
     match database.commit(alloc, disk, op, time) {
@@ -250,6 +253,7 @@ fn reset_and_commit(
 {
     let op = op_of(alloc, change)?;
     if !may_take(database, &op) || !is_log(2, block) || entry_length(&op) > block as usize - 1 {
+        let_go_of_op(op);
         return Err(Fail::from("a change that may be made"));
     }
     let base = point(1, at);
@@ -321,6 +325,19 @@ fn write(disk: &mut MemoryDisk, file: u8, at: u64, bytes: &[u8]) -> Answer {
     }
 }
 
+fn write_row(
+    alloc: Global,
+    disk: &mut MemoryDisk,
+    file: u8,
+    at: u64,
+    front: &[u8],
+    record: &Record,
+    length: usize,
+) -> Answer {
+    let bytes = padded(alloc, front, record, length)?;
+    write(disk, file, at, &bytes)
+}
+
 fn cut(disk: &mut MemoryDisk, file: u8, length: u64) -> Answer {
     if file > 6 {
         return Err(Fail::from("a file"));
@@ -354,35 +371,52 @@ fn run_opened(alloc: Global, disk: &mut MemoryDisk, database: &mut Database, ste
     }
 }
 
+fn open_and_run(alloc: Global, disk: &mut MemoryDisk, step: &Step) -> Answer {
+    match Database::recover(alloc, disk) {
+        Ok(mut database) => {
+            let answer = run_opened(alloc, disk, &mut database, step);
+            let_go_of_place(Some(database));
+            answer
+        }
+        Err(stop) => answer_of(stop),
+    }
+}
+
+fn destroy(disk: &mut MemoryDisk) -> Answer {
+    match destroy_files(disk) {
+        Ok(()) => Ok(None),
+        Err(stop) => answer_of(stop),
+    }
+}
+
 /// Does the step. All that is done to a database but a creation and an end opens it first.
 pub(crate) fn run(alloc: Global, disk: &mut MemoryDisk, step: &Step) -> Answer {
     match step {
         Step::Create(at, size) => create(alloc, disk, *at, *size),
         Step::CreateFirst(at) => create_first(alloc, disk, *at),
-        Step::Destroy => match destroy_files(disk) {
-            Ok(()) => Ok(None),
-            Err(stop) => answer_of(stop),
-        },
+        Step::Destroy => destroy(disk),
         Step::Write(file, at, bytes) => write(disk, *file, *at, bytes),
         Step::WriteRow(file, at, front, record, length) => {
-            write(disk, *file, *at, &padded(alloc, front, record, *length)?)
+            write_row(alloc, disk, *file, *at, front, record, *length)
         }
         Step::Cut(file, length) => cut(disk, *file, *length),
-        _ => match Database::recover(alloc, disk) {
-            Ok(mut database) => run_opened(alloc, disk, &mut database, step),
-            Err(stop) => answer_of(stop),
-        },
+        _ => open_and_run(alloc, disk, step),
     }
+}
+
+fn run_all(alloc: Global, disk: &mut MemoryDisk, steps: &[Step]) -> Result<(), Fail> {
+    for step in steps {
+        if run(alloc, disk, step)?.is_some() {
+            return Err(Fail::from("a step that is not refused"));
+        }
+    }
+    Ok(())
 }
 
 /// The disk with nothing done, and then these steps.
 pub(crate) fn made(alloc: Global, steps: &[Step]) -> Result<MemoryDisk, Fail> {
     let mut disk = MemoryDisk::new(alloc, Fails::none(alloc))?;
-    for step in steps {
-        if run(alloc, &mut disk, step)?.is_some() {
-            return Err(Fail::from("a step that is not refused"));
-        }
-    }
+    run_all(alloc, &mut disk, steps)?;
     Ok(disk)
 }
 

@@ -3,7 +3,5 @@
 
 pub mod links;
 pub mod streams;
-#[cfg(test)]
-mod tests;
 
 pub use links::TcpLink;

@@ -1,6 +1,7 @@
 use dump_text::{Dump, DumpReader, DumpStop, write_dump};
 use kdb_ports::{Sink, WriteFailed};
 use std::alloc::Global;
+use std::process::Abort;
 use std::test::Fail;
 
 /// A database without rows.
@@ -59,15 +60,24 @@ fn joined(alloc: Global, parts: &[&[u8]]) -> Result<Vec<u8>, Fail> {
     Ok(text)
 }
 
-/// Reads a text in pieces of this size.
-fn read(alloc: Global, text: &[u8], size: usize) -> Result<Dump, DumpStop> {
-    let mut reader = match DumpReader::new(alloc) {
-        Ok(reader) => reader,
-        Err(_) => return Err(DumpStop::MemoryOut),
-    };
+fn new_reader(alloc: Global) -> Result<DumpReader, DumpStop> {
+    match DumpReader::new(alloc) {
+        Ok(reader) => Ok(reader),
+        Err(_) => Err(DumpStop::MemoryOut),
+    }
+}
+
+fn feed_pieces(reader: &mut DumpReader, text: &[u8], size: usize) -> Result<(), DumpStop> {
     for piece in text.chunks(size.max(1)) {
         reader.feed(piece)?;
     }
+    Ok(())
+}
+
+/// Reads a text in pieces of this size.
+fn read(alloc: Global, text: &[u8], size: usize) -> Result<Dump, DumpStop> {
+    let mut reader = new_reader(alloc)?;
+    feed_pieces(&mut reader, text, size)?;
     reader.finish()
 }
 
@@ -92,24 +102,40 @@ fn sink_of(alloc: Global, fails: usize) -> OneByteSink {
     }
 }
 
+/// The dump is written as this text.
+fn check_written(rt: &impl Abort, alloc: Global, dump: &Dump, text: &[u8]) -> Result<(), Fail> {
+    let mut sink = sink_of(alloc, 1000);
+    write(alloc, dump, &mut sink)?;
+    assert_eq!(rt; sink.bytes.as_slice(), text);
+    Ok(())
+}
+
+/// The text is read, in pieces of this size, and written again.
+fn check_again(rt: &impl Abort, alloc: Global, text: &[u8], size: usize) -> Result<(), Fail> {
+    let dump = read(alloc, text, size)?;
+    check_written(rt, alloc, &dump, text)
+}
+
 #[test]
 fn dumps_are_read_and_written(rt: HostRuntime) -> Result<(), Fail> {
     let rows = joined(rt.alloc(), &ROWS)?;
     for text in [EMPTY, rows.as_slice()] {
         for size in [1, 7, 1000] {
-            let dump = read(rt.alloc(), text, size)?;
-            let mut sink = sink_of(rt.alloc(), 1000);
-            write(rt.alloc(), &dump, &mut sink)?;
-            assert_eq!(rt; sink.bytes.as_slice(), text);
+            check_again(&rt, rt.alloc(), text, size)?;
         }
     }
     Ok(())
 }
 
+/// The dump of the rows, in pieces of this size.
+fn dump_of_rows(alloc: Global, size: usize) -> Result<Dump, Fail> {
+    let rows = joined(alloc, &ROWS)?;
+    Ok(read(alloc, &rows, size)?)
+}
+
 #[test]
 fn what_a_dump_says(rt: HostRuntime) -> Result<(), Fail> {
-    let rows = joined(rt.alloc(), &ROWS)?;
-    let dump = read(rt.alloc(), &rows, 3)?;
+    let dump = dump_of_rows(rt.alloc(), 3)?;
     assert_eq!(rt; dump.realm.as_slice(), b"R".as_slice());
     assert_eq!(rt; (dump.point.sno, dump.point.time.secs()), (1, 0));
     assert_eq!(rt; dump.rows.princs().len(), 1);
@@ -120,8 +146,7 @@ fn what_a_dump_says(rt: HostRuntime) -> Result<(), Fail> {
 
 #[test]
 fn a_sink_that_fails(rt: HostRuntime) -> Result<(), Fail> {
-    let rows = joined(rt.alloc(), &ROWS)?;
-    let dump = read(rt.alloc(), &rows, 1000)?;
+    let dump = dump_of_rows(rt.alloc(), 1000)?;
     let mut sink = sink_of(rt.alloc(), 36);
     assert_eq!(rt;
         write(rt.alloc(), &dump, &mut sink),
@@ -153,13 +178,19 @@ const NEAR: [(&[&[u8]], u32); 18] = [
     (&[], 1),
 ];
 
+/// The text of these parts is bad at this line, in pieces of any size.
+fn check_near(rt: &impl Abort, alloc: Global, parts: &[&[u8]], line: u32) -> Result<(), Fail> {
+    let text = joined(alloc, parts)?;
+    for size in [1, 5, 1000] {
+        assert_eq!(rt; bad_line(alloc, &text, size), line);
+    }
+    Ok(())
+}
+
 #[test]
 fn near_misses(rt: HostRuntime) -> Result<(), Fail> {
     for (parts, line) in NEAR {
-        let text = joined(rt.alloc(), parts)?;
-        for size in [1, 5, 1000] {
-            assert_eq!(rt; bad_line(rt.alloc(), &text, size), line);
-        }
+        check_near(&rt, rt.alloc(), parts, line)?;
     }
     Ok(())
 }
@@ -197,6 +228,20 @@ fn one_row(alloc: Global, title: &[u8], length: &[u8], bytes: u16) -> Result<Vec
     )
 }
 
+/// A dump of one row is bad at this line.
+fn check_row(
+    rt: &impl Abort,
+    alloc: Global,
+    title: &[u8],
+    length: &[u8],
+    bytes: u16,
+    line: u32,
+) -> Result<(), Fail> {
+    let text = one_row(alloc, title, length, bytes)?;
+    assert_eq!(rt; bad_line(alloc, &text, 1000), line);
+    Ok(())
+}
+
 #[test]
 fn rows_of_the_versions(rt: HostRuntime) -> Result<(), Fail> {
     // Rows of 8000, 8001, 16000 and 16001 bytes.
@@ -207,10 +252,17 @@ fn rows_of_the_versions(rt: HostRuntime) -> Result<(), Fail> {
         (b"3e44", 15940, 4, 4),
     ];
     for (length, bytes, first, second) in rows {
-        let text = one_row(rt.alloc(), FIRST, length, bytes)?;
-        assert_eq!(rt; bad_line(rt.alloc(), &text, 1000), first);
-        let text = one_row(rt.alloc(), SECOND, length, bytes)?;
-        assert_eq!(rt; bad_line(rt.alloc(), &text, 1000), second);
+        check_row(&rt, rt.alloc(), FIRST, length, bytes, first)?;
+        check_row(&rt, rt.alloc(), SECOND, length, bytes, second)?;
+    }
+    Ok(())
+}
+
+/// Attributes are bad at this line of a dump with this title.
+fn check_attributes(rt: &impl Abort, alloc: Global, title: &[u8], line: u32) -> Result<(), Fail> {
+    let text = joined(alloc, &[title, REALM_AND_POINT, ATTRIBUTES, b"\nend 1\n"])?;
+    for size in [1, 1000] {
+        assert_eq!(rt; bad_line(alloc, &text, size), line);
     }
     Ok(())
 }
@@ -218,29 +270,25 @@ fn rows_of_the_versions(rt: HostRuntime) -> Result<(), Fail> {
 #[test]
 fn attributes_stand_in_the_second_version(rt: HostRuntime) -> Result<(), Fail> {
     for (title, line) in [(FIRST, 4), (SECOND, 0)] {
-        let text = joined(
-            rt.alloc(),
-            &[title, REALM_AND_POINT, ATTRIBUTES, b"\nend 1\n"],
-        )?;
-        for size in [1, 1000] {
-            assert_eq!(rt; bad_line(rt.alloc(), &text, size), line);
-        }
+        check_attributes(&rt, rt.alloc(), title, line)?;
     }
     Ok(())
 }
 
-#[test]
-fn the_first_version_is_read(rt: HostRuntime) -> Result<(), Fail> {
+/// The dump of the rows in the first version.
+fn old_dump(alloc: Global) -> Result<Dump, Fail> {
     let old = joined(
-        rt.alloc(),
+        alloc,
         &[FIRST, REALM_AND_POINT, PRINC, b"\n", POLICY, b"\nend 2\n"],
     )?;
-    let dump = read(rt.alloc(), &old, 1)?;
-    let mut sink = sink_of(rt.alloc(), 1000);
-    write(rt.alloc(), &dump, &mut sink)?;
+    Ok(read(alloc, &old, 1)?)
+}
+
+#[test]
+fn the_first_version_is_read(rt: HostRuntime) -> Result<(), Fail> {
     let new = joined(rt.alloc(), &ROWS)?;
-    assert_eq!(rt; sink.bytes.as_slice(), new.as_slice());
-    Ok(())
+    let dump = old_dump(rt.alloc())?;
+    check_written(&rt, rt.alloc(), &dump, &new)
 }
 
 #[test]

@@ -68,16 +68,44 @@ fn policy_drop(alloc: Global, name: &[u8]) -> Result<Op, Fail>
     Ok(Op::DropPolicy(Blob::from_bytes(alloc, name)?))
 }
 
+fn append_put(alloc: Global, log: &mut Log) -> Result<(), Fail>
+    requires { log.old.block ≡ 2048 }
+    ensures { OnOk result (log.new.block ≡ 2048) }
+{
+    append(alloc, log, Op::PutPrinc(princ(alloc)?))
+}
+
+fn append_drop(alloc: Global, log: &mut Log) -> Result<(), Fail>
+    requires { log.old.block ≡ 2048 }
+    ensures { OnOk result (log.new.block ≡ 2048) }
+{
+    append(alloc, log, Op::DropPrinc(printed(alloc, b"d@EXAMPLE.ORG")?))
+}
+
+fn append_rename(alloc: Global, log: &mut Log) -> Result<(), Fail>
+    requires { log.old.block ≡ 2048 }
+    ensures { OnOk result (log.new.block ≡ 2048) }
+{
+    let old = printed(alloc, b"d@EXAMPLE.ORG")?;
+    append(alloc, log, Op::Rename(old, princ(alloc)?))
+}
+
+fn append_policy(alloc: Global, log: &mut Log) -> Result<(), Fail>
+    requires { log.old.block ≡ 2048 }
+    ensures { OnOk result (log.new.block ≡ 2048) }
+{
+    append(alloc, log, Op::PutPolicy(decode_policy(alloc, POLICY)?))
+}
+
 /// One change of each kind.
 fn append_each(alloc: Global, log: &mut Log) -> Result<(), Fail>
     requires { log.old.block ≡ 2048 }
     ensures { OnOk result (log.new.block ≡ 2048) }
 {
-    append(alloc, log, Op::PutPrinc(princ(alloc)?))?;
-    append(alloc, log, Op::DropPrinc(printed(alloc, b"d@EXAMPLE.ORG")?))?;
-    let old = printed(alloc, b"d@EXAMPLE.ORG")?;
-    append(alloc, log, Op::Rename(old, princ(alloc)?))?;
-    append(alloc, log, Op::PutPolicy(decode_policy(alloc, POLICY)?))?;
+    append_put(alloc, log)?;
+    append_drop(alloc, log)?;
+    append_rename(alloc, log)?;
+    append_policy(alloc, log)?;
     append(alloc, log, policy_drop(alloc, b"std")?)
 }
 

@@ -8,12 +8,12 @@ use Rattle.kprop_rounds.proofs.dumps.install.Goals as goal
 pub returns-in-Ok-load-clause-some : goal.returns-in-Ok-load-clause-some
 returns-in-Ok-load-clause-some g c =
     crash_some g.D.Disk c.args.disk.now c.load.new.disk c.args.replica.now.size (place_of c.args.replica.now)
-    (Install (told_dump c.in-Ok.dump)) c.load.ensures.crash
+    (Install (told_dump c.in-Ok.dump)) tt c.load.ensures.crash
 
 pub returns-in-Err-clause-some : goal.returns-in-Err-clause-some
 returns-in-Err-clause-some g c =
     crash_some g.D.Disk c.args.disk.now c.load.new.disk c.args.replica.now.size (place_of c.args.replica.now)
-    (Install (told_dump c.in-Ok.dump)) c.load.ensures.crash
+    (Install (told_dump c.in-Ok.dump)) tt c.load.ensures.crash
 
 pub returns-in-Err-DumpBad-clause-crash : goal.returns-in-Err-DumpBad-clause-crash
 returns-in-Err-DumpBad-clause-crash g c =

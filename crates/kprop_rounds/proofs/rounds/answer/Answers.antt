@@ -29,7 +29,7 @@ returns-in-Ok-Some-clause-crash g c rest told =
 pub returns-in-Ok-Some-clause-some : goal.returns-in-Ok-Some-clause-some
 returns-in-Ok-Some-clause-some g c =
     crash_some g.D.Disk c.args.disk.now c.take.new.disk c.args.replica.now.size (place_of c.args.replica.now)
-    (Take (told_reply c.args.reply)) c.take.ensures.crash
+    (Take (told_reply c.args.reply)) tt c.take.ensures.crash
 
 pub returns-in-Ok-Some-clause-said : goal.returns-in-Ok-Some-clause-said
 returns-in-Ok-Some-clause-said g c rest told =
@@ -103,7 +103,7 @@ returns-in-Err-clause-crash g c rest told =
 pub returns-in-Err-clause-some : goal.returns-in-Err-clause-some
 returns-in-Err-clause-some g c =
     crash_some g.D.Disk c.args.disk.now c.take.new.disk c.args.replica.now.size (place_of c.args.replica.now)
-    (Take (told_reply c.args.reply)) c.take.ensures.crash
+    (Take (told_reply c.args.reply)) tt c.take.ensures.crash
 
 pub returns-in-Err-clause-part : goal.returns-in-Err-clause-part
 returns-in-Err-clause-part g c rest told = inl refl

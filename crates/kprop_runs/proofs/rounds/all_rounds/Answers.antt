@@ -1,7 +1,7 @@
 use Rattle.std.proofs.Common.{false, refl, ◌∙◌, arith}
 use Rattle.iprop_links.specs.Asking.{sent_in}
 use Rattle.kdb_ports.specs.Links.{Wire}
-use Rattle.kprop_runs.proofs.Going.{all_end, crash_on, goes_on, lead_on, long_here, none_ended, none_led}
+use Rattle.kprop_runs.proofs.Going.{all_end, crash_on, goes_on, holds_here, lead_on, long_here, none_ended, none_led}
 use Rattle.kprop_runs.proofs.Going.{rounds_start, starts, stops_here, told_wire, untold_on, untold_start}
 use Rattle.kprop_runs.proofs.Overlong.{long_behind}
 use Rattle.kprop_runs.specs.Stages.{Stage, stage_of}
@@ -90,6 +90,19 @@ returns-in-Err-clause-stopped g c w told =
     (place_of c.loop-done.replica) c.loop-done.refused at
     c.args.count c.loop-done-test.true (sent_in (g.L.Link.wire c.turn.new.link)) (g.K.Sink.taken c.turn.new.sink)
     (c.in-Err.ensures.stopped here.0 c.loop-done.refused here.1)
+
+pub returns-in-Err-clause-holds : goal.returns-in-Err-clause-holds
+returns-in-Err-clause-holds g c tells w told =
+    let inv = c.loop-done.invariant in
+    let wire = g.L.Link.wire c.loop-done.link in
+    let at = inv.stands w told in
+    let here = told_wire wire _ at.sent_is in
+    holds_here c.args.name.now c.args.replica.now.size c.loop-done.done
+    (stage_of w (g.K.Sink.taken c.args.sink.now) (place_of c.args.replica.now) false)
+    c.loop-done.replica.size inv.sized wire here.0 here.1 (g.K.Sink.taken c.loop-done.sink)
+    (place_of c.loop-done.replica) c.loop-done.refused at
+    c.args.count c.loop-done-test.true (g.K.Sink.taken c.turn.new.sink) (g.D.Disk.view c.turn.new.disk)
+    (c.in-Err.ensures.holds tells here.0 c.loop-done.refused here.1)
 
 pub returns-in-Err-clause-crash : goal.returns-in-Err-clause-crash
 returns-in-Err-clause-crash g c w told =

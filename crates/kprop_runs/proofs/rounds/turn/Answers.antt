@@ -1,7 +1,7 @@
-use Rattle.std.proofs.Common.{Err, sym, ap, ◌∙◌}
+use Rattle.std.proofs.Common.{Err, refl, sym, ap, ◌∙◌}
 use Rattle.kprop_runs.proofs.Overlong.{err_is, for_long}
 use Rattle.kprop_runs.proofs.Saying.{call_halted, call_said, links_halted, links_said, on_ok}
-use Rattle.kprop_runs.proofs.Turning.{came, round_stopped, turn_stopped, turned}
+use Rattle.kprop_runs.proofs.Turning.{came, round_holds, round_stopped, turn_holds, turn_stopped, turned}
 use Rattle.replica_core.specs.Opened.{place_of}
 use Rattle.kprop_runs.proofs.rounds.turn.Goals as goal
 
@@ -21,6 +21,15 @@ returns-in-Ok-clause-stopped g c w refused told =
     (place_of c.args.replica.now) refused
     (place_of c.round.new.replica) (g.L.Link.wire c.round.new.link) c.in-Ok.word
     (c.in-Ok.ensures.round w told) c.point-point.result c.point-point.ensures
+    c.say_round.result (g.K.Sink.taken c.say_round.new.sink) c.say_round.ensures.err
+
+pub returns-in-Ok-clause-holds : goal.returns-in-Ok-clause-holds
+returns-in-Ok-clause-holds g c tells w refused told =
+    turn_holds c.args.name.now c.args.replica.now.size c.args.number w (g.K.Sink.taken c.args.sink.now)
+    (place_of c.args.replica.now) refused
+    (place_of c.round.new.replica) (g.L.Link.wire c.round.new.link) c.in-Ok.word
+    (c.in-Ok.ensures.round w told) c.point-point.result c.point-point.ensures
+    c.round.new.replica.database refl (g.D.Disk.view c.round.new.disk) (c.in-Ok.ensures.on tells)
     c.say_round.result (g.K.Sink.taken c.say_round.new.sink) c.say_round.ensures.err
 
 pub returns-in-Ok-clause-comes : goal.returns-in-Ok-clause-comes
@@ -54,6 +63,12 @@ returns-in-Err-clause-stopped g c w refused told =
     round_stopped c.args.name.now c.args.replica.now.size c.args.number w (g.K.Sink.taken c.args.sink.now)
     (place_of c.args.replica.now) refused
     (place_of c.round.new.replica) (g.L.Link.wire c.round.new.link) c.in-Err.halt (c.in-Err.ensures.round w told)
+
+pub returns-in-Err-clause-holds : goal.returns-in-Err-clause-holds
+returns-in-Err-clause-holds g c tells w refused told =
+    round_holds c.args.name.now c.args.replica.now.size c.args.number w (g.K.Sink.taken c.args.sink.now)
+    (place_of c.args.replica.now) refused
+    (g.D.Disk.view c.args.disk.now) (g.D.Disk.view c.round.new.disk) ((c.round.ensures.crash w told).told tells)
 
 pub returns-in-Err-clause-call : goal.returns-in-Err-clause-call
 returns-in-Err-clause-call g c = call_halted c.round.result c.in-Err.halt c.in-Err.is c.from.result c.from.ensures

@@ -18,7 +18,8 @@ returns-in-Ok-clause-run g c tells w told =
     c.in-Ok.opened (c.in-Ok.ensures.answer tells) (g.D.Disk.view c.run_rounds.new.disk)
     w (g.K.Sink.taken c.args.sink.now) (g.L.Link.wire c.run_rounds.new.link)
     (g.K.Sink.taken c.run_rounds.new.sink) c.run_rounds.result
-    (c.run_rounds.ensures.rounds w told) (c.run_rounds.ensures.stands tells w told)
+    (c.run_rounds.ensures.rounds w told) (c.run_rounds.ensures.holds tells w told)
+    (c.run_rounds.ensures.stands tells w told)
     ((c.run_rounds.ensures.crash w told).told tells)
 
 pub returns-in-Ok-clause-some : goal.returns-in-Ok-clause-some

@@ -2,7 +2,8 @@ use Rattle.std.proofs.Common.{ℕ, refl, subst, ◌∙◌}
 use Rattle.iprop_links.specs.Asking.{sent_in}
 use Rattle.kdb_disk.proofs.Runs.{weaken}
 use Rattle.kdb_disk.specs.Frames.{IsCrashSafe}
-use Rattle.kprop_runs.proofs.Running.{ran, rounds_end, rounds_leave, rounds_long, rounds_stopped, stands}
+use Rattle.kprop_runs.proofs.Running.{ran, ran_holds, rounds_end, rounds_hold, rounds_leave, rounds_long}
+use Rattle.kprop_runs.proofs.Running.{rounds_stopped, stands}
 use Rattle.kprop_runs.proofs.Saying.{call_said, links_said, on_ok}
 use Rattle.kprop_runs.specs.Runs.{first_stage}
 use Rattle.kprop_runs.specs.Stages.{LeavesUntold}
@@ -19,6 +20,16 @@ returns-in-Ok-clause-rounds g c w told =
     (place_of c.all_rounds.new.replica) c.in-Ok.refused (c.in-Ok.ensures.done w told)
     c.point.result c.point.ensures c.say_done.result (g.K.Sink.taken c.say_done.new.sink) c.say_done.ensures.ok
     c.say_done.ensures.value c.say_done.ensures.err
+
+pub returns-in-Ok-clause-holds : goal.returns-in-Ok-clause-holds
+returns-in-Ok-clause-holds g c tells w told =
+    ran_holds c.args.asked.now (first_stage w (g.K.Sink.taken c.args.sink.now) (place_of c.args.replica.now))
+    c.as_slice-name.result.now c.args.replica.now.size c.as_slice-name.ensures c.requires.size
+    (g.L.Link.wire c.all_rounds.new.link) (g.K.Sink.taken c.all_rounds.new.sink)
+    (place_of c.all_rounds.new.replica) c.in-Ok.refused (c.in-Ok.ensures.done w told)
+    c.point.result c.point.ensures c.all_rounds.new.replica.database refl
+    (g.D.Disk.view c.all_rounds.new.disk) (c.in-Ok.ensures.on tells)
+    c.say_done.result (g.K.Sink.taken c.say_done.new.sink) c.say_done.ensures.err
 
 pub returns-in-Ok-clause-stands : goal.returns-in-Ok-clause-stands
 returns-in-Ok-clause-stands g c tells w told =
@@ -57,6 +68,12 @@ returns-in-Err-clause-rounds g c w told =
     c.as_slice-name.result.now c.args.replica.now.size c.as_slice-name.ensures c.requires.size
     (g.L.Link.wire c.all_rounds.new.link) (g.K.Sink.taken c.all_rounds.new.sink) c.in-Err.halt
     (c.in-Err.ensures.stopped w told)
+
+pub returns-in-Err-clause-holds : goal.returns-in-Err-clause-holds
+returns-in-Err-clause-holds g c tells w told =
+    rounds_hold c.args.asked.now (first_stage w (g.K.Sink.taken c.args.sink.now) (place_of c.args.replica.now))
+    c.as_slice-name.result.now c.args.replica.now.size c.as_slice-name.ensures c.requires.size
+    (g.K.Sink.taken c.all_rounds.new.sink) (g.D.Disk.view c.all_rounds.new.disk) (c.in-Err.ensures.holds tells w told)
 
 pub returns-in-Err-clause-crash : goal.returns-in-Err-clause-crash
 returns-in-Err-clause-crash g c w told = record {

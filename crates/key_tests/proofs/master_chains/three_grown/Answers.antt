@@ -1,0 +1,8 @@
+use Rattle.std.proofs.Common.{◌≡◌, ◌+◌, ℕ, subst}
+use Rattle.std.specs.Prelude.{IfOk}
+use Rattle.master_keys.specs.Versions.{last_version}
+use Rattle.key_tests.proofs.master_chains.three_grown.Goals as goal
+
+pub returns-clause-last : goal.returns-clause-last
+returns-clause-last c = subst (λ (n : ℕ). IfOk c.grown.result (λ both. last_version both.1 ≡ n + 1))
+    c.in_ok-entry.ensures.last c.grown.ensures.last
