@@ -8,10 +8,10 @@ use Rattle.std.proofs.lemmas.List.Elements.{All-from_recursion}
 use Rattle.kdb_format.specs.Moments.{point}
 use Rattle.kdb_format.specs.Spellings.{big}
 use Rattle.princ_rows.specs.declared.entries.Entry.{Entry}
-use Rattle.iprop_wire.specs.Frames.{frame, text_of, frame_text, most_behind, hello_kind}
+use Rattle.iprop_wire.specs.Frames.{Frame, frame, text_of, frame_text, most_behind, hello_kind}
 use Rattle.iprop_wire.specs.Frames.{poll_kind, ask_kind, reply_kind, piece_kind, total_kind}
 use Rattle.iprop_wire.specs.Messages.{dump_frames, head_of, head_text, message_text, pieces_text, update_text}
-use Rattle.iprop_wire.specs.Spelled.{IsMessage, IsPiece, Spells, update_frame}
+use Rattle.iprop_wire.specs.Spelled.{IsMessage, IsPiece, IsUncut, Spells, update_frame}
 use Rattle.iprop_wire.specs.declared.messages.Message.{Message}
 use Rattle.iprop_wire.specs.declared.messages.Message.TheVariants.{Hello, Poll, Ask, Reply, DumpText}
 use Rattle.iprop_wire.proofs.Pieces.{no_pieces, some_pieces}
@@ -93,3 +93,17 @@ message_spelled (DumpText text) is =
           (sym (append-nil (text_of total)))
           ∙ sym (flat_map-append text_of (map (frame piece_kind) c.pieces) (total ∷ []));
     }
+
+-- what spells a message that is no dump is what is written of it
+pub one_text : (text : List ℕ) (m : Message) → IsUncut m → Spells text m → text ≡ message_text m
+unfolding message_text
+one_text text (Hello name) uncut s =
+    s.whole ∙ ap (λ (fs : List Frame). flat_map text_of fs) s.are ∙ append-nil (frame_text hello_kind name)
+one_text text (Poll asked) uncut s =
+    s.whole ∙ ap (λ (fs : List Frame). flat_map text_of fs) s.are ∙ append-nil (frame_text poll_kind (point asked))
+one_text text Ask uncut s =
+    s.whole ∙ ap (λ (fs : List Frame). flat_map text_of fs) s.are ∙ append-nil (frame_text ask_kind [])
+one_text text (Reply r) uncut s =
+    s.whole ∙ ap (λ (fs : List Frame). flat_map text_of fs) s.are
+    ∙ ap (λ (t : List ℕ). frame_text reply_kind (head_text (head_of r)) ++ t) (sym (updates_same r.updates))
+one_text text (DumpText dump) uncut s = absurd uncut

@@ -53,3 +53,11 @@ pub record Spells (text : List ℕ) (message : Message) : Type 0 where
   pub frames : List Frame
   pub are : AreFrames frames message
   pub whole : text ≡ flat_map text_of frames
+
+-- it is no dump, which may be cut into pieces anywhere
+abbrev pub IsUncut : Message → Type 0
+IsUncut (Hello name) = Unit {0}
+IsUncut (Poll asked) = Unit {0}
+IsUncut Ask = Unit {0}
+IsUncut (Reply r) = Unit {0}
+IsUncut (DumpText text) = ⊥

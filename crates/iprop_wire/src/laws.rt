@@ -7,7 +7,7 @@ ghost use Rattle.iprop_wire.specs.Decoding.{Begun, Broken, Going, State, Waits, 
 ghost use Rattle.iprop_wire.specs.Due.{is_due, is_due_message};
 ghost use Rattle.iprop_wire.specs.Frames.{longest_body};
 ghost use Rattle.iprop_wire.specs.Messages.{message_text};
-ghost use Rattle.iprop_wire.specs.Spelled.{IsMessage, Spells};
+ghost use Rattle.iprop_wire.specs.Spelled.{IsMessage, IsUncut, Spells};
 ghost use Rattle.iprop_wire.specs.declared.due.Due.{Due};
 ghost use Rattle.iprop_wire.specs.declared.messages.Message.{Message};
 
@@ -57,6 +57,12 @@ pub fn no_more_than_a_frame_is_held()
 /// What is written of a message spells it.
 pub fn what_is_written_spells_the_message()
     ensures { (message : Message) → IsMessage message → Spells (message_text message) message }
+{}
+
+/// A message that is no dump has one text, the one that is written.
+pub fn all_but_dumps_have_one_text()
+    ensures { (text : List ℕ) (message : Message) → IsUncut message → Spells text message
+        → text ≡ message_text message }
 {}
 
 /// What is not due stays so, whatever follows, and no message that is due begins so.

@@ -58,7 +58,14 @@ fn ready_renewal(
     ensures { IfOk result (λ ready. ready.command ≡ renew_command name.now etypes.now) }
 {
     let command = renew_command(alloc, name, etypes)?;
-    let ready = prepare(alloc, &command, realm)?;
+    let ready = match prepare(alloc, &command, realm) {
+        Ok(ready) => ready,
+        Err(fault) => {
+            drop(command);
+            return Err(fault);
+        }
+    };
+    drop(command);
     Ok(ready)
 }
 
@@ -112,7 +119,9 @@ pub(crate) fn judge_renewal(
     ensures may { (change : Changes) → IfOk result (λ j. j.change ≡ Some change → MayMake primary.now now change) }
 {
     let ready = ready_renewal(alloc, primary.realm().as_slice(), name, etypes)?;
-    judge_ready(alloc, primary, client, &ready, now, random)
+    let judged = judge_ready(alloc, primary, client, &ready, now, random);
+    drop(ready);
+    judged
 }
 
 /// Makes the change, where there is one, and gives the reply.

@@ -213,9 +213,15 @@ fn prepare_renewal(
     decisions_are_asked();
     let judged = judge_renewal(alloc, primary, client, name, etypes, now, random)?;
     let reply = &judged.reply;
-    let answer = answer_judged(
+    let answer = match answer_judged(
         alloc, primary, client, name, etypes, list, now, random, reply,
-    )?;
+    ) {
+        Ok(answer) => answer,
+        Err(fault) => {
+            drop(judged);
+            return Err(fault);
+        }
+    };
     Ok(Renewal { judged, answer })
 }
 

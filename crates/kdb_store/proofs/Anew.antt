@@ -17,9 +17,9 @@ use Rattle.princ_rows.specs.declared.entries.Logged.{Logged}
 use Rattle.princ_rows.specs.declared.entries.Op.{Op}
 use Rattle.princ_rows.specs.Rows.{RowLists}
 use Rattle.princ_rows.specs.Effects.{effect}
-use Rattle.update_log.specs.Logs.{Journal, ComesNext, begun, marker_of, with_prepared, log_committed, entry_of}
+use Rattle.update_log.specs.Logs.{Journal, ComesNext, begun, marker_of, newest, with_prepared, log_committed, entry_of}
 use Rattle.update_log.specs.Moments.{HasLog, IsDurable}
-use Rattle.kdb_cells.specs.CellFiles.{CellFile}
+use Rattle.kdb_cells.specs.CellFiles.{CellFile, units}
 use Rattle.kdb_cells.specs.FileCells.{IsFileOf}
 use Rattle.kdb_places.specs.Places.{Place, base_marker, change, last_point}
 use Rattle.kdb_places.specs.Places.{next_point, last_entries, committed, log_anew}
@@ -32,7 +32,7 @@ use Rattle.store_files.proofs.Placed.{kept_recovers}
 use Rattle.store_switches.specs.Switched.{with_log, IsUnder}
 use Rattle.kdb_store.specs.Anew.{IsBehind, point_behind}
 use Rattle.kdb_store.specs.Parts.{LeadsAlike, MayCommit, SameNumbers}
-use Rattle.kdb_store.specs.Writes.{number_of}
+use Rattle.kdb_store.specs.Writes.{number_of, HasEntered, IsPlan}
 use Rattle.store_opening.specs.declared.unit_writes.UnitWrite.{UnitWrite}
 use Rattle.kdb_store.proofs.Changed.{IsReady, may_commit, change_leaves, change_on, alike_tie, held_now}
 use Rattle.kdb_store.proofs.DiskChanges.{noted_commit}
@@ -258,6 +258,30 @@ anew_numbers file base size of block later p same is = record {
   size_is = ap (λ (j : Journal). j.size) is ∙ same;
   block_is = ap (λ (j : Journal). j.block) is;
 }
+
+-- the entry behind the marker, in the unit that was planned for it
+pub anew_entry : (file : ℕ) (base : Point) (size of block : ℕ) (later : Journal) (e : Entry) (w : UnitWrite)
+    (point : Point) (time : Moment) (op : Op) (cells : CellFile) (rows : RowLists)
+    → IsPlan w op (units cells) rows
+    → e ≡ record { point = point; op = Some op } → point ≡ point_behind base time → size ≡ of
+    → later ≡ log_committed (with_prepared (Some (record { entry = e; cell = number_of w })) (begun file base size block))
+    → HasEntered op (point_behind base time) (begun file base of block) later cells rows
+anew_entry file base size of block later e w point time op cells rows plan is at same held = record {
+  cell = number_of w;
+  unit = record { given = plan.given; none = plan.none; only = plan.only };
+  held =
+      let behind : Entry → ℕ → List Logged = λ (x : Entry) (n : ℕ).
+      newest n (marker_of base ∷ record { entry = x; cell = number_of w } ∷ []) in
+      ap (λ (j : Journal). j.held) held ∙ ap (λ (x : Entry). behind x size) is
+      ∙ ap (λ (q : Point). behind (change op q) size) at ∙ ap (behind (change op (point_behind base time))) same;
+}
+
+-- and it is so of what was kept
+pub anew_entered : (k old : Kept) (op : Op) (p : Point) (file : ℕ) (base : Point) (block : ℕ) (log : Journal) → k ≡ old
+    → HasEntered op p (begun file base k.control.size block) log k.cells k.rows
+    → HasEntered op p (begun file base (place_kept old).size block) log old.cells old.rows
+anew_entered k old op p file base block log is entered =
+    subst (λ (x : Kept). HasEntered op p (begun file base x.control.size block) log x.cells x.rows) is entered
 
 -- ---- where memory ran out
 

@@ -79,6 +79,7 @@ plan_alike w op rows same plan = record {
   writes = plan.writes;
   given = λ some. given_alike (key_of (Some op)) (number_of w) same (plan.given some);
   none = plan.none;
+  only = plan.only;
   near = plan.near;
 }
 

@@ -30,10 +30,12 @@ HasNoRow (Rename old p) rows = ⊥
 HasNoRow (PutPolicy p) rows = ⊥
 HasNoRow (DropPolicy name) rows = All (λ q. q.name ≡ name → ⊥) rows.policies
 
--- An entry's unit: the one that is given for its key, or none, which is the number 0, where it drops what is not there.
+-- An entry's unit: the one that is given for its key, or none, which is the number 0, where it drops what is not there,
+-- and nowhere else.
 pub record HasUnit (op : Op) (cell : ℕ) (u : Units) (rows : RowLists) : Type 0 where
   pub given : cell ≢ 0 → IsGivenFor (key_of (Some op)) cell u
   pub none : cell ≡ 0 → HasNoRow op rows
+  pub only : HasNoRow op rows → cell ≡ 0
 
 -- The log holds one entry more, that of the change at this point in its unit, and of the others the last ones.
 pub record HasEntered (op : Op) (point : Point) (old new : Journal) (cells : CellFile) (rows : RowLists) : Type 0 where
@@ -41,9 +43,11 @@ pub record HasEntered (op : Op) (point : Point) (old new : Journal) (cells : Cel
   pub unit : HasUnit op cell (units cells) rows
   pub held : new.held ≡ newest old.size (old.held ++ record { entry = change op point; cell = cell } ∷ [])
 
--- What is written for a change: into the unit that is given for its key, or nothing where it drops what is not there.
+-- What is written for a change: into the unit that is given for its key, or nothing where it drops what is not there,
+-- and nowhere else.
 pub record IsPlan (w : UnitWrite) (op : Op) (u : Units) (rows : RowLists) : Type 0 where
   pub writes : Writes w (cell_after op)
   pub given : number_of w ≢ 0 → IsGivenFor (key_of (Some op)) (number_of w) u
   pub none : number_of w ≡ 0 → HasNoRow op rows
+  pub only : HasNoRow op rows → number_of w ≡ 0
   pub near : number_of w ≤ last_unit

@@ -161,10 +161,12 @@ fn write_begun<D: Disk>(
 {
     match write_change(alloc, disk, log, cells, &entry, write) {
         Ok(()) => {
+            drop(entry);
             rows.finish(begun);
             Ok(())
         }
         Err(halt) => {
+            drop(entry);
             rows.undo(begun);
             Err(halt)
         }

@@ -1,5 +1,5 @@
 //! A database made anew.
-ghost use Rattle.std.specs.Prelude.{◌≡◌, ◌≢◌, ◌&&◌, true, false, nat_le, Err, IfOk, OnOk, option_map};
+ghost use Rattle.std.specs.Prelude.{◌≡◌, ◌≢◌, ◌&&◌, true, false, nat_le, Err, IfErr, IfOk, OnOk, option_map};
 ghost use Rattle.std.specs.List.{All};
 ghost use Rattle.kdb_base.specs.declared.outcomes.Halt.TheVariants.{MemoryOut as IsMemoryOut, DiskFault as IsDiskFault};
 ghost use Rattle.kdb_base.specs.declared.outcomes.Refusal.{Refusal as Refuses};
@@ -17,7 +17,7 @@ ghost use Rattle.kdb_places.specs.Places.{created};
 ghost use Rattle.store_files.specs.Kept.{IsKept, IsOnDisk, place_kept};
 ghost use Rattle.store_files.specs.Recovery.{Creates};
 ghost use Rattle.store_files.specs.Switches.{first_choice};
-ghost use Rattle.store_opening.specs.Made.{AnswersMade, first_stash};
+ghost use Rattle.store_opening.specs.Made.{AnswersMade, StopsMaking, first_stash};
 ghost use Rattle.store_opening.specs.Moments.{HasFile};
 ghost use Rattle.store_opening.specs.Parts.{kept_of};
 
@@ -69,6 +69,8 @@ impl Database {
         // in format 1 rows are shorter, and have no string attributes
         requires rows { All (IsRowOf format) rows.princs }
         ensures answer { D.tells → AnswersMade result (in_force ((D.view disk.old).seen 0)) }
+        // whatever the disk tells
+        ensures stops { IfErr result StopsMaking }
         ensures place { IfOk result
             (λ d. place_kept d ≡ created realm.now rows base size block (option_map (λ s. s.now) stash.entry) format) }
         ensures whole { IfOk result (λ d. d.broken ≡ false) }

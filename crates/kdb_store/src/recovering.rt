@@ -1,5 +1,5 @@
 //! A database opened.
-ghost use Rattle.std.specs.Prelude.{◌≡◌, false, IfOk, IfErr, Err};
+ghost use Rattle.std.specs.Prelude.{◌≡◌, ◌≢◌, ℕ, false, IfOk, IfErr, Err};
 ghost use Rattle.kdb_base.specs.declared.outcomes.Halt.TheVariants.{MemoryOut as IsMemoryOut, DiskFault as IsDiskFault};
 ghost use Rattle.kdb_base.specs.declared.outcomes.Refusal.{Refusal as Refuses};
 ghost use Rattle.kdb_base.specs.declared.outcomes.Stop.TheVariants.{Refused, Halt as Halts};
@@ -40,6 +40,11 @@ impl Database {
         ensures refused_keeps { D.tells → (why : Refuses) → result ≡ Err (Refused why)
             → Keeps (D.view disk.old) (D.view disk.new) }
         ensures memory_keeps { D.tells → result ≡ Err (Halts IsMemoryOut) → Keeps (D.view disk.old) (D.view disk.new) }
+        // Whatever the answer is, no file is written but one of the two of cells.
+        ensures others { D.tells → (g : ℕ) → g ≢ 1 → g ≢ 2 → (D.view disk.new).seen g ≡ (D.view disk.old).seen g }
+        // Where it was opened, it is the one that is in force.
+        ensures image { D.tells → IfOk result (λ d. (g : ℕ) → g ≢ d.control.image
+            → (D.view disk.new).seen g ≡ (D.view disk.old).seen g) }
         // after a refusal no crash leaves anything but what is read
         ensures refused_settled { D.tells → (why : Refuses) → result ≡ Err (Refused why) → IsSettled (D.view disk.new) }
         ensures call { IsCall D.Disk disk.old disk.new (result ≡ Err (Halts IsDiskFault)) }

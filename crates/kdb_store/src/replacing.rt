@@ -1,5 +1,5 @@
 //! All rows written anew, with a log begun anew.
-ghost use Rattle.std.specs.Prelude.{◌≡◌, ◌≤◌, ◌∷◌, [], List, ℕ, false, true, Err, IfOk, OnOk, OnErr, IsErr};
+ghost use Rattle.std.specs.Prelude.{◌≡◌, ◌≢◌, ◌≤◌, ◌∷◌, [], List, ℕ, false, true, Err, IfOk, OnOk, OnErr, IsErr};
 ghost use Rattle.kdb_base.specs.declared.outcomes.Halt.TheVariants.{MemoryOut as IsMemoryOut, DiskFault as IsDiskFault};
 ghost use Rattle.kdb_disk.specs.View.{View};
 ghost use Rattle.kdb_disk.specs.Frames.{IsCall, IsCrashSafe};
@@ -84,6 +84,8 @@ fn put_renewal<D: Disk>(
         → HasRows realm rows plan.image
         → OnOk result (IsOnDisk (renewed next.now log.new cells.new realm rows k) (D.view disk.new)) }
     ensures written { D.tells → OnOk result ((D.view disk.new).seen next.now.image ≡ plan.image.content) }
+    ensures others { D.tells → OnOk result ((g : ℕ) → g ≢ 0 → g ≢ next.now.image → g ≢ next.now.log
+        → (D.view disk.new).seen g ≡ (D.view disk.old).seen g) }
     ensures call { IsCall D.Disk disk.old disk.new (IsErr result) }
 {
     let mut plan = plan;
@@ -93,7 +95,10 @@ fn put_renewal<D: Disk>(
             *cells = plan.image.into_cells();
             Ok(())
         }
-        Err(failed) => Err(failed),
+        Err(failed) => {
+            drop(plan);
+            Err(failed)
+        }
     }
 }
 
@@ -125,6 +130,8 @@ fn renew_parts<D: Disk>(
         → OnOk result (IsOnDisk (renewed control.new log.new cells.new realm.now rows.now k) (D.view disk.new)) }
     ensures written { D.tells
         → OnOk result ((D.view disk.new).seen control.new.image ≡ file_text 2 realm.now base rows.now) }
+    ensures others { D.tells → OnOk result ((g : ℕ) → g ≢ 0 → g ≢ control.new.image → g ≢ control.new.log
+        → (D.view disk.new).seen g ≡ (D.view disk.old).seen g) }
     ensures memory { result ≡ Err IsMemoryOut → disk.new ≡ disk.old }
     ensures call { IsCall D.Disk disk.old disk.new (result ≡ Err IsDiskFault) }
 {
@@ -171,6 +178,8 @@ fn replace_parts<D: Disk>(
         → OnOk result (IsOnDisk (renewed control.new log.new cells.new realm.new rows.new k) (D.view disk.new)) }
     ensures written { D.tells
         → OnOk result ((D.view disk.new).seen control.new.image ≡ file_text 2 new_realm base new) }
+    ensures others { D.tells → OnOk result ((g : ℕ) → g ≢ 0 → g ≢ control.new.image → g ≢ control.new.log
+        → (D.view disk.new).seen g ≡ (D.view disk.old).seen g) }
     ensures memory { result ≡ Err IsMemoryOut → disk.new ≡ disk.old }
     ensures call { IsCall D.Disk disk.old disk.new (result ≡ Err IsDiskFault) }
 {
@@ -213,6 +222,10 @@ impl Database {
         // The rows stand one behind the other from the first unit on, in their order.
         ensures written { D.tells → OnOk result
             ((D.view disk.new).seen self.new.control.image ≡ file_text 2 self.old.realm base self.old.rows) }
+        // No file is written but those that now have the rows and the log, and the choice of files.
+        ensures others { D.tells → OnOk result
+            ((g : ℕ) → g ≢ 0 → g ≢ self.new.control.image → g ≢ self.new.control.log
+            → (D.view disk.new).seen g ≡ (D.view disk.old).seen g) }
         ensures crash { IsCrashSafe D.Disk disk.old disk.new
             (LeavesPart (place_kept self.old) (log_anew base size block (place_kept self.old) ∷ [])) }
         ensures err { OnErr result (place_kept self.new ≡ place_kept self.old) }
@@ -266,6 +279,10 @@ impl Database {
         // The rows stand one behind the other from the first unit on, in their order.
         ensures written { D.tells
             → OnOk result ((D.view disk.new).seen self.new.control.image ≡ file_text 2 realm base rows) }
+        // No file is written but those that now have the rows and the log, and the choice of files.
+        ensures others { D.tells → OnOk result
+            ((g : ℕ) → g ≢ 0 → g ≢ self.new.control.image → g ≢ self.new.control.log
+            → (D.view disk.new).seen g ≡ (D.view disk.old).seen g) }
         ensures crash { IsCrashSafe D.Disk disk.old disk.new
             (LeavesPart (place_kept self.old) (replaced realm rows base (place_kept self.old) ∷ [])) }
         ensures err { OnErr result (place_kept self.new ≡ place_kept self.old) }

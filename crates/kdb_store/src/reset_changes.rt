@@ -1,5 +1,5 @@
 //! The log of a database begun anew, with a change behind it.
-ghost use Rattle.std.specs.Prelude.{◌≡◌, ◌≤◌, ◌<◌, ◌-◌, ◌*◌, ◌∷◌, [], List, ℕ, Some};
+ghost use Rattle.std.specs.Prelude.{◌≡◌, ◌≢◌, ◌≤◌, ◌<◌, ◌-◌, ◌*◌, ◌∷◌, [], List, ℕ, Some};
 ghost use Rattle.std.specs.Prelude.{Err, IfOk, OnOk, OnErr, IsErr, length, map};
 ghost use Rattle.kdb_base.specs.Moment.{Moment};
 ghost use Rattle.kdb_base.specs.Moments.{micros};
@@ -24,7 +24,7 @@ ghost use Rattle.store_files.specs.Switches.{IsSpareFor, reset_choice};
 ghost use Rattle.store_switches.specs.Switched.{with_log, IsUnder};
 ghost use Rattle.kdb_store.specs.Anew.{IsBehind, point_behind};
 ghost use Rattle.kdb_store.specs.Parts.{SameNumbers};
-ghost use Rattle.kdb_store.specs.Writes.{number_of, Writes, IsGivenTo, MayWrite, HoldsCells};
+ghost use Rattle.kdb_store.specs.Writes.{number_of, Writes, IsGivenTo, MayWrite, HasEntered, HoldsCells};
 
 use crate::changing::{Planned, begin_change, holds_rows};
 use crate::disk_changes::write_prepared;
@@ -115,6 +115,8 @@ fn write_anew<D: Disk>(
         → IsBehind now.now next.now.base time k cells.old entry.now write op (D.view disk.old)
         → OnOk result (IsOnDisk (with_parts log.new cells.new (effect (Some op) k.rows) (with_log next.now log.new k))
         (D.view disk.new)) }
+    ensures others { D.tells → OnOk result ((g : ℕ) → g ≢ 0 → g ≢ next.now.log → g ≢ cells.old.file
+        → (D.view disk.new).seen g ≡ (D.view disk.old).seen g) }
     ensures held { OnOk result (log.new ≡ log_committed log.old) }
     ensures leads { (held : List Cell) → HoldsCells cells.old held → number_of write ≤ length held
         → OnOk result (HoldsCells cells.new (with_unit (unit_numbered (number_of write)) (left_by entry.now.op) held)) }
@@ -164,6 +166,8 @@ fn put_anew<D: Disk>(
         → IsBehind now.now next.now.base time k cells.old entry.now write op (D.view disk.old)
         → IfOk result (λ log.
         IsOnDisk (with_parts log cells.new (effect (Some op) k.rows) (with_log next.now log k)) (D.view disk.new)) }
+    ensures others { D.tells → OnOk result ((g : ℕ) → g ≢ 0 → g ≢ next.now.log → g ≢ cells.old.file
+        → (D.view disk.new).seen g ≡ (D.view disk.old).seen g) }
     ensures held { IfOk result (λ log. log ≡ log_committed (with_prepared (Some (record {
       entry = entry.now;
       cell = number_of write;
@@ -217,6 +221,8 @@ fn reset_parts<D: Disk>(
         → IsBehind control.old base time k cells.old entry.now write op (D.view disk.old)
         → OnOk result (IsOnDisk
         (with_parts log.new cells.new (effect (Some op) k.rows) (with_log control.new log.new k)) (D.view disk.new)) }
+    ensures others { D.tells → OnOk result ((g : ℕ) → g ≢ 0 → g ≢ control.new.log → g ≢ cells.old.file
+        → (D.view disk.new).seen g ≡ (D.view disk.old).seen g) }
     ensures control { OnOk result (control.new ≡ reset_choice control.new.log base size block control.old) }
     ensures held { OnOk result (log.new ≡ log_committed (with_prepared (Some (record {
       entry = entry.now;
@@ -302,6 +308,8 @@ fn reset_begun<D: Disk>(
         → IsBehind control.old base time k cells.old entry write op (D.view disk.old)
         → OnOk result (IsOnDisk
         (with_parts log.new cells.new (effect (Some op) k.rows) (with_log control.new log.new k)) (D.view disk.new)) }
+    ensures others { D.tells → OnOk result ((g : ℕ) → g ≢ 0 → g ≢ control.new.log → g ≢ cells.old.file
+        → (D.view disk.new).seen g ≡ (D.view disk.old).seen g) }
     ensures control { OnOk result (control.new ≡ reset_choice control.new.log base size block control.old) }
     ensures held { OnOk result (log.new ≡ log_committed (with_prepared (Some (record {
       entry = entry;
@@ -321,10 +329,12 @@ fn reset_begun<D: Disk>(
         alloc, disk, control, log, cells, &entry, write, base, size, block,
     ) {
         Ok(()) => {
+            drop(entry);
             rows.finish(under_way);
             Ok(())
         }
         Err(halt) => {
+            drop(entry);
             rows.undo(under_way);
             Err(halt)
         }
@@ -376,6 +386,8 @@ pub(crate) fn reset_change<D: Disk>(
     ensures alike { OnOk result (SameNumbers (begun control.new.log base control.old.size block) log.new) }
     ensures held { OnOk result (map entry_of log.new.held
         ≡ last_entries control.old.size (base_marker base ∷ change op (point_behind base time) ∷ [])) }
+    ensures entered { OnOk result (HasEntered op (point_behind base time)
+        (begun control.new.log base control.old.size block) log.new cells.old rows.old) }
     ensures same_control { OnErr result (control.new ≡ control.old) }
     ensures same_log { OnErr result (log.new ≡ log.old) }
     ensures number { cells.new.file ≡ cells.old.file }
@@ -389,6 +401,8 @@ pub(crate) fn reset_change<D: Disk>(
     ensures on { D.tells → (k : Kept) → IsUnder control.old (with_parts log.old cells.old rows.old k) (D.view disk.old)
         → OnOk result
         (IsOnDisk (with_parts log.new cells.new rows.new (with_log control.new log.new k)) (D.view disk.new)) }
+    ensures others { D.tells → OnOk result ((g : ℕ) → g ≢ 0 → g ≢ control.new.log → g ≢ cells.old.file
+        → (D.view disk.new).seen g ≡ (D.view disk.old).seen g) }
     ensures still { D.tells → (k : Kept)
         → IsUnder control.old (with_parts log.old cells.old rows.old k) (D.view disk.old)
         → result ≡ Err IsMemoryOut

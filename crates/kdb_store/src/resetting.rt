@@ -1,5 +1,5 @@
 //! The log of a database begun anew.
-ghost use Rattle.std.specs.Prelude.{◌≡◌, ◌≤◌, ◌∷◌, [], false, true, Err, OnOk, OnErr, IfOk, IsErr};
+ghost use Rattle.std.specs.Prelude.{◌≡◌, ◌≢◌, ◌≤◌, ◌∷◌, [], ℕ, false, true, Err, OnOk, OnErr, IfOk, IsErr};
 ghost use Rattle.kdb_base.specs.declared.outcomes.Halt.TheVariants.{MemoryOut as IsMemoryOut, DiskFault as IsDiskFault};
 ghost use Rattle.kdb_disk.specs.View.{View};
 ghost use Rattle.kdb_disk.specs.Frames.{IsCall, IsCrashSafe};
@@ -41,6 +41,8 @@ fn put_log<D: Disk>(
         (LeavesPart (place_kept k) (log_anew next.now.base next.now.size next.now.block (place_kept k) ∷ [])) }
     ensures on { D.tells → (k : Kept) → IsUnder now.now k (D.view disk.old)
         → OnOk result (IsOnDisk (with_log next.now log k) (D.view disk.new)) }
+    ensures others { D.tells
+        → OnOk result ((g : ℕ) → g ≢ 0 → g ≢ next.now.log → (D.view disk.new).seen g ≡ (D.view disk.old).seen g) }
     ensures call { IsCall D.Disk disk.old disk.new (IsErr result) }
 {
     match reset_files(disk, now, next, &log) {
@@ -71,6 +73,8 @@ fn reset_parts<D: Disk>(
         (D.view disk.new) (LeavesPart (place_kept k) (log_anew base size block (place_kept k) ∷ [])) }
     ensures on { D.tells → (k : Kept) → IsUnder control.old k (D.view disk.old)
         → OnOk result (IsOnDisk (with_log control.new log.new k) (D.view disk.new)) }
+    ensures others { D.tells → OnOk result ((g : ℕ) → g ≢ 0 → g ≢ control.new.log
+        → (D.view disk.new).seen g ≡ (D.view disk.old).seen g) }
     ensures memory { result ≡ Err IsMemoryOut → disk.new ≡ disk.old }
     ensures call { IsCall D.Disk disk.old disk.new (result ≡ Err IsDiskFault) }
 {
@@ -109,6 +113,9 @@ impl Database {
         requires block { (2048 ≤ block) × (block ≤ 16384) }
         ensures place { OnOk result (place_kept self.new ≡ log_anew base size block (place_kept self.old)) }
         ensures on { D.tells → OnOk result (IsOnDisk self.new (D.view disk.new)) }
+        // No file is written but the one that now has the log, and the choice of files.
+        ensures others { D.tells → OnOk result ((g : ℕ) → g ≢ 0 → g ≢ self.new.control.log
+            → (D.view disk.new).seen g ≡ (D.view disk.old).seen g) }
         ensures crash { IsCrashSafe D.Disk disk.old disk.new
             (LeavesPart (place_kept self.old) (log_anew base size block (place_kept self.old) ∷ [])) }
         ensures err { OnErr result (place_kept self.new ≡ place_kept self.old) }

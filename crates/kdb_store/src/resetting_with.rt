@@ -1,5 +1,5 @@
 //! The log of a database begun anew, and one change behind it.
-ghost use Rattle.std.specs.Prelude.{◌≡◌, ◌≤◌, ◌<◌, ◌-◌, ◌+◌, ◌⊎◌, ◌∷◌, [], true, false, Some, Err, IfOk, OnOk, OnErr};
+ghost use Rattle.std.specs.Prelude.{◌≡◌, ◌≢◌, ◌≤◌, ◌<◌, ◌-◌, ◌+◌, ◌⊎◌, ◌∷◌, [], ℕ, true, false, Some, Err, IfOk, OnOk, OnErr};
 ghost use Rattle.kdb_base.specs.Moments.{micros};
 ghost use Rattle.kdb_base.specs.declared.outcomes.Halt.TheVariants.{MemoryOut as IsMemoryOut, DiskFault as IsDiskFault};
 ghost use Rattle.kdb_disk.specs.View.{View};
@@ -7,9 +7,11 @@ ghost use Rattle.kdb_disk.specs.Frames.{IsCall, IsCrashSafe};
 ghost use Rattle.princ_rows.specs.Entries.{IsOp, entry_len};
 ghost use Rattle.kdb_places.specs.Applying.{may_apply};
 ghost use Rattle.kdb_places.specs.Places.{committed, log_anew};
+ghost use Rattle.update_log.specs.Logs.{begun};
 ghost use Rattle.store_files.specs.Kept.{IsOnDisk, place_kept};
 ghost use Rattle.store_files.specs.Recovery.{LeavesPart};
 ghost use Rattle.kdb_store.specs.Anew.{point_behind};
+ghost use Rattle.kdb_store.specs.Writes.{HasEntered};
 
 use crate::database::Database;
 use crate::reset_changes::{behind, reset_change};
@@ -47,7 +49,16 @@ impl Database {
         ensures point { IfOk result (λ p. p ≡ point_behind base time) }
         ensures place { OnOk result (place_kept self.new
             ≡ committed op time (log_anew base (place_kept self.old).size block (place_kept self.old))) }
+        // The entry behind the marker names the unit of its row: the one that the row has, the least free one for a
+        // new row, or none.
+        ensures entered { OnOk result (HasEntered op (point_behind base time)
+            (begun self.new.control.log base (place_kept self.old).size block) self.new.log
+            self.old.cells self.old.rows) }
         ensures on { D.tells → OnOk result (IsOnDisk self.new (D.view disk.new)) }
+        // No file is written but those that now have the log and the rows, and the choice of files.
+        ensures others { D.tells → OnOk result
+            ((g : ℕ) → g ≢ 0 → g ≢ self.new.control.log → g ≢ self.old.control.image
+            → (D.view disk.new).seen g ≡ (D.view disk.old).seen g) }
         ensures err { OnErr result ((place_kept self.new ≡ place_kept self.old)
             ⊎ (place_kept self.new ≡ log_anew base (place_kept self.old).size block (place_kept self.old))) }
         ensures crash { IsCrashSafe D.Disk disk.old disk.new

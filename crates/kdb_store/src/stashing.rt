@@ -1,5 +1,5 @@
 //! Another stash.
-ghost use Rattle.std.specs.Prelude.{◌≡◌, ◌∷◌, [], false, true, Some, Err, OnOk, OnErr};
+ghost use Rattle.std.specs.Prelude.{◌≡◌, ◌≢◌, ◌∷◌, [], ℕ, false, true, Some, Err, OnOk, OnErr};
 ghost use Rattle.kdb_base.specs.declared.outcomes.Halt.TheVariants.{MemoryOut as IsMemoryOut, DiskFault as IsDiskFault};
 ghost use Rattle.kdb_disk.specs.View.{View};
 ghost use Rattle.kdb_disk.specs.Frames.{IsCall, IsCrashSafe};
@@ -38,6 +38,8 @@ fn restash_parts<D: Disk>(
         (D.view disk.new) (LeavesPart (place_kept k) (restashed bytes.now (place_kept k) ∷ [])) }
     ensures on { D.tells → (k : Kept) → IsUnder control.old k (D.view disk.old)
         → OnOk result (IsOnDisk (with_stash control.new bytes.now k) (D.view disk.new)) }
+    ensures others { D.tells → OnOk result ((g : ℕ) → g ≢ 0 → g ≢ control.new.stash
+        → (D.view disk.new).seen g ≡ (D.view disk.old).seen g) }
     ensures memory { result ≡ Err IsMemoryOut → disk.new ≡ disk.old }
     ensures call { IsCall D.Disk disk.old disk.new (result ≡ Err IsDiskFault) }
 {
@@ -74,6 +76,9 @@ impl Database {
         // The first stash of a database without one stands in the first of the two files.
         ensures first { OnOk result (self.old.control.stash ≡ 0 → self.new.control.stash ≡ 5) }
         ensures on { D.tells → OnOk result (IsOnDisk self.new (D.view disk.new)) }
+        // No file is written but the one that now has the stash, and the choice of files.
+        ensures others { D.tells → OnOk result ((g : ℕ) → g ≢ 0 → g ≢ self.new.control.stash
+            → (D.view disk.new).seen g ≡ (D.view disk.old).seen g) }
         ensures crash { IsCrashSafe D.Disk disk.old disk.new
             (LeavesPart (place_kept self.old) (restashed bytes.now (place_kept self.old) ∷ [])) }
         ensures err { OnErr result (place_kept self.new ≡ place_kept self.old) }

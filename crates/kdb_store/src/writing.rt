@@ -89,6 +89,7 @@ fn drop_princ(cells: &mut Cells, rows: &Rows, name: &[u8]) -> Result<UnitWrite, 
     ensures writes { IfOk result (λ w. Writes w None) }
     ensures given { IfOk result (λ w. number_of w ≢ 0 → IsGivenFor name.now (number_of w) (units cells.old)) }
     ensures none { IfOk result (λ w. number_of w ≡ 0 → HasNoRow (op.DropPrinc name.now) rows.now) }
+    ensures only { IfOk result (λ w. HasNoRow (op.DropPrinc name.now) rows.now → number_of w ≡ 0) }
     ensures ready { IfOk result (λ w. IsGivenTo w cells.new) }
     ensures near { IfOk result (λ w. number_of w ≤ last_unit) }
     ensures alike { LeadsAlike cells.old cells.new }
@@ -104,6 +105,7 @@ fn drop_policy(cells: &mut Cells, rows: &Rows, name: &[u8]) -> Result<UnitWrite,
     ensures writes { IfOk result (λ w. Writes w None) }
     ensures given { IfOk result (λ w. number_of w ≢ 0 → IsGivenFor name.now (number_of w) (units cells.old)) }
     ensures none { IfOk result (λ w. number_of w ≡ 0 → HasNoRow (op.DropPolicy name.now) rows.now) }
+    ensures only { IfOk result (λ w. HasNoRow (op.DropPolicy name.now) rows.now → number_of w ≡ 0) }
     ensures ready { IfOk result (λ w. IsGivenTo w cells.new) }
     ensures near { IfOk result (λ w. number_of w ≤ last_unit) }
     ensures alike { LeadsAlike cells.old cells.new }
@@ -127,6 +129,7 @@ pub(crate) fn plan(
     ensures given { IfOk result
         (λ w. number_of w ≢ 0 → IsGivenFor (key_of (Some op.now)) (number_of w) (units cells.old)) }
     ensures none { IfOk result (λ w. number_of w ≡ 0 → HasNoRow op.now rows.now) }
+    ensures only { IfOk result (λ w. HasNoRow op.now rows.now → number_of w ≡ 0) }
     ensures ready { IfOk result (λ w. IsGivenTo w cells.new) }
     ensures near { IfOk result (λ w. number_of w ≤ last_unit) }
     ensures alike { LeadsAlike cells.old cells.new }

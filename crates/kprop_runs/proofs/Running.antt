@@ -20,9 +20,10 @@ use Rattle.kprop_runs.proofs.Saying.{said_nothing}
 use Rattle.kprop_runs.specs.Longs.{AllEnd, RunRoundsEnd, RunStopsLong, StopsLongIn}
 use Rattle.kprop_runs.specs.Openings.{Opening, Opens, Refuses, opens_with}
 use Rattle.kprop_runs.specs.Runs.{EndsAs, HasRefusal, HasRounds, HasRun, HoldsRounds, RunHolds}
-use Rattle.kprop_runs.specs.Runs.{RunLeaves, RunLeavesSome}
+use Rattle.kprop_runs.specs.Runs.{EndsSome, RunEndsSome, RunLeaves, RunLeavesSome}
 use Rattle.kprop_runs.specs.Runs.{StandsFor, end_behind, first_stage, last_stage, refusal_end}
-use Rattle.kprop_runs.specs.Stages.{HoldsIn, LeavesRounds, LeavesUntold, Stage, StandsAt, StopsIn, after_rounds}
+use Rattle.kprop_runs.specs.Stages.{HoldsIn, LeavesRounds, LeavesUntold, MayLead, Stage, StandsAt, StopsIn}
+use Rattle.kprop_runs.specs.Stages.{after_rounds}
 use Rattle.kprop_runs.specs.declared.halts.RunHalt.{RunHalt}
 use Rattle.kprop_runs.specs.declared.words.Asked.{Asked}
 use Rattle.replica_core.proofs.Moments.{nothing_made}
@@ -127,6 +128,20 @@ module _ (a : Asked) (s : Stage) (name : List ℕ) (size : ℕ) (name_is : name 
   rounds_leave c is = subst (λ (m : ℕ). LeavesRounds a.name m a.rounds s c) size_is
       (subst (λ (n : List ℕ). LeavesRounds n size a.rounds s c) name_is is)
 
+-- where nothing is told of what came
+pub rounds_end_some : (size rounds : ℕ) (place : Option Place) (o : Option Kept) (now : View)
+    → MayLead size rounds place (place_in o) → IsHeldOn o now
+    → (point : Point) → point ≡ point_in (place_in o) → (lines out : Option (List ℕ)) (r : Result Bool RunHalt)
+    → OnOk r (out ≡ after_told lines (done_text point)) → OnOk r (EndsSome size rounds place out now)
+rounds_end_some size rounds place o now leads held point is lines out (Ok answer) said = record {
+  at = place_in o;
+  leads = leads;
+  stands = record { each = λ c here. at_end (nothing_made o [] now held) c here };
+  lines = lines;
+  said = said ∙ ap (λ (p : Point). after_told lines (done_text p)) is;
+}
+rounds_end_some size rounds place o now leads held point is lines out (Err halt) said = tt
+
 -- ---- openings
 
 refuses_with : (a : Asked) (why : Refusal) → why ≢ NotADatabase → opens_with a (Err why) ≡ Refuses why
@@ -156,6 +171,28 @@ pub opened_end : (a : Asked) (o : Opened) (found : Result Place Refusal) → Ans
     → OnOk r (RunRoundsEnd (opens_with a found) w taken)
 opened_end a o found is w taken r all =
     subst (λ (x : Opening). OnOk r (RunRoundsEnd x w taken)) (sym (opens_as a o found is)) all
+
+pub opened_end_some : (a : Asked) (o : Opened) (found : Result Place Refusal) → AnswersOpened a.size (Ok o) found
+    → (taken out : Option (List ℕ)) (old now : View) (r : Result Bool RunHalt)
+    → OnOk r (EndsSome a.size a.rounds (place_of o) out now)
+    → OnOk r (RunEndsSome (opens_with a found) taken out old now)
+opened_end_some a o found is taken out old now r ends =
+    subst (λ (x : Opening). OnOk r (RunEndsSome x taken out old now)) (sym (opens_as a o found is)) ends
+
+pub refused_some : (why : Refusal) (taken out : Option (List ℕ)) (old now : View) (r : Result Bool RunHalt)
+    → OnOk r (out ≡ after_told taken (refusal_text why)) → Keeps old now
+    → OnOk r (RunEndsSome (Refuses why) taken out old now)
+refused_some why taken out old now (Ok answer) said keeps = (said, keeps)
+refused_some why taken out old now (Err halt) said keeps = tt
+
+pub refused_end_some : (a : Asked) (why : Refusal) (found : Result Place Refusal)
+    → AnswersOpened a.size (Err (stop.Refused why)) found
+    → (taken out : Option (List ℕ)) (old now : View) (r : Result Bool RunHalt)
+    → OnOk r (out ≡ after_told taken (refusal_text why)) → Keeps old now
+    → OnOk r (RunEndsSome (opens_with a found) taken out old now)
+refused_end_some a why found is taken out old now r said keeps =
+    subst (λ (x : Opening). OnOk r (RunEndsSome x taken out old now)) (sym (refuses_as a why found is))
+    (refused_some why taken out old now r said keeps)
 
 -- there are no rounds
 pub refused_end : (a : Asked) (why : Refusal) (found : Result Place Refusal)

@@ -14,7 +14,7 @@ use Rattle.kdb_ports.specs.Parts.{SaidPart}
 use Rattle.kdb_ports.specs.Told.{after_told}
 use Rattle.kprop_runs.specs.Halts.{OnEnd, OnStop}
 use Rattle.kprop_runs.specs.Openings.{Opening, Opens, Refuses}
-use Rattle.kprop_runs.specs.Stages.{HoldsBehind, HoldsIn, LeavesRounds, LeavesUntold, Stage, StandsFrom}
+use Rattle.kprop_runs.specs.Stages.{HoldsBehind, HoldsIn, LeavesRounds, LeavesUntold, MayLead, Stage, StandsFrom}
 use Rattle.kprop_runs.specs.Stages.{StopsBehind, StopsIn, after_rounds, stage_of}
 use Rattle.kprop_runs.specs.declared.halts.RunHalt.{RunHalt}
 use Rattle.kprop_runs.specs.declared.words.Asked.{Asked}
@@ -98,6 +98,19 @@ abbrev pub RunLeavesSome : Opening → Result Place Refusal → View → Files �
 RunLeavesSome (Refuses why) found old files = IsLike old files
 RunLeavesSome (Opens a place) found old files =
     MayOpen old a.size found files ⊎ LeavesUntold a.size a.rounds place files
+
+-- Some replies and dumps led to a place. It stands then, and the last line tells its point.
+pub record EndsSome (size rounds : ℕ) (place : Option Place) (out : Option (List ℕ)) (now : View) : Type 0 where
+  pub at : Option Place
+  pub leads : MayLead size rounds place at
+  pub stands : StandsFor at now
+  pub lines : Option (List ℕ)
+  pub said : out ≡ after_told lines (done_text (point_in at))
+
+-- where nothing is told of what came, and nothing stopped it
+abbrev pub RunEndsSome : Opening → Option (List ℕ) → Option (List ℕ) → View → View → Type 0
+RunEndsSome (Refuses why) taken out old now = (out ≡ after_told taken (refusal_text why)) × Keeps old now
+RunEndsSome (Opens a place) taken out old now = EndsSome a.size a.rounds place out now
 
 -- ---- all of it
 

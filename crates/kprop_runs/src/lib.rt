@@ -1,6 +1,8 @@
 //! A replica's run: a stated number of rounds over a link, each told in a line.
 #![tactic(auto)]
 
+#[cfg(test)]
+mod disk_tests;
 pub mod halts;
 pub mod laws;
 pub mod lines;

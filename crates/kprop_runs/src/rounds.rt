@@ -106,6 +106,8 @@ pub(crate) fn all_rounds<L: Link, K: Sink, D: Disk>(
         (LeavesRounds name.now replica.old.size count (stage_of w (K.taken sink.old) (place_of replica.old) false)) }
     // Of a link that tells nothing.
     ensures some { IsCrashSafe D.Disk disk.old disk.new (LeavesUntold replica.old.size count (place_of replica.old)) }
+    ensures leads { D.tells
+        → OnOk result (MayLead replica.old.size count (place_of replica.old) (place_of replica.new)) }
     ensures on { D.tells → OnOk result (IsHeldOn replica.new.database (D.view disk.new)) }
     ensures too_long { (w : Wire) → L.wire link.old ≡ Some w → result ≡ Err RunHalt.InputTooLong
         → GivesTooMuch w.to_come }

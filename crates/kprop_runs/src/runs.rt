@@ -10,7 +10,7 @@ ghost use Rattle.kprop_runs.specs.Halts.{OnEnd};
 ghost use Rattle.kprop_runs.specs.Longs.{AllEnd, GivesTooMuch, RunRoundsEnd, RunStopsLong, StopsLongIn};
 ghost use Rattle.kprop_runs.specs.Openings.{opening, opening_by, opens_with};
 ghost use Rattle.kprop_runs.specs.Runs.{HasRefusal, HasRounds, HasRun, HoldsRounds, IsRefusal, IsRun};
-ghost use Rattle.kprop_runs.specs.Runs.{RunLeavesSome, StandsFor, first_stage, last_stage};
+ghost use Rattle.kprop_runs.specs.Runs.{EndsSome, RunEndsSome, RunLeavesSome, StandsFor, first_stage, last_stage};
 ghost use Rattle.kprop_runs.specs.Stages.{LeavesRounds, LeavesUntold};
 ghost use Rattle.kprop_runs.specs.Words.{IsAsked, asked_in};
 ghost use Rattle.replica_core.specs.Opened.{IsHeldOn, is_broken, place_of};
@@ -53,6 +53,8 @@ fn run_rounds<L: Link, K: Sink, D: Disk>(
         (first_stage w (K.taken sink.old) (place_of replica.old))) }
     ensures some { IsCrashSafe D.Disk disk.old disk.new
         (LeavesUntold asked.now.size asked.now.rounds (place_of replica.old)) }
+    ensures ends_some { D.tells → OnOk result (EndsSome asked.now.size asked.now.rounds (place_of replica.old)
+        (K.taken sink.new) (D.view disk.new)) }
     ensures too_long { (w : Wire) → L.wire link.old ≡ Some w → result ≡ Err RunHalt.InputTooLong
         → GivesTooMuch w.to_come }
     ensures long { (w : Wire) → L.wire link.old ≡ Some w → result ≡ Err RunHalt.InputTooLong
@@ -86,6 +88,8 @@ fn open_and_run<L: Link, K: Sink, D: Disk>(
         (K.taken sink.old) (D.view disk.old) (D.view disk.new) (L.wire link.new) (K.taken sink.new) result }
     ensures some { D.tells → LeavesOnly (D.view disk.old) (D.view disk.new) (RunLeavesSome
         (opens_with asked.now (recovers (D.view disk.old).seen)) (recovers (D.view disk.old).seen) (D.view disk.old)) }
+    ensures ends_some { D.tells → OnOk result (RunEndsSome (opens_with asked.now (recovers (D.view disk.old).seen))
+        (K.taken sink.old) (K.taken sink.new) (D.view disk.old) (D.view disk.new)) }
     ensures too_long { (w : Wire) → L.wire link.old ≡ Some w → result ≡ Err RunHalt.InputTooLong
         → GivesTooMuch w.to_come }
     ensures long { D.tells → (w : Wire) → L.wire link.old ≡ Some w → result ≡ Err RunHalt.InputTooLong
@@ -100,7 +104,9 @@ fn open_and_run<L: Link, K: Sink, D: Disk>(
     match Replica::recover(alloc, disk, asked.size) {
         Ok(opened) => {
             let mut replica = opened;
-            run_rounds(alloc, &mut replica, asked, link, sink, disk)
+            let refused = run_rounds(alloc, &mut replica, asked, link, sink, disk);
+            drop(replica);
+            refused
         }
         Err(Stop::Refused(refusal)) => refuse(alloc, sink, &refusal),
         Err(Stop::Halt(halt)) => Err(RunHalt::from(halt)),
@@ -121,6 +127,8 @@ fn run_asked<L: Link, K: Sink, D: Disk>(
         (K.taken sink.old) (D.view disk.old) (D.view disk.new) (L.wire link.new) (K.taken sink.new) result }
     ensures some { D.tells → LeavesOnly (D.view disk.old) (D.view disk.new) (RunLeavesSome
         (opening_by asked.now (recovers (D.view disk.old).seen)) (recovers (D.view disk.old).seen) (D.view disk.old)) }
+    ensures ends_some { D.tells → OnOk result (RunEndsSome (opening_by asked.now (recovers (D.view disk.old).seen))
+        (K.taken sink.old) (K.taken sink.new) (D.view disk.old) (D.view disk.new)) }
     ensures other { asked.now ≡ None
         → HasRefusal (refusal_text Refusal.BadLine) (K.taken sink.old) (K.taken sink.new) result }
     ensures no_disk { asked.now ≡ None → disk.new ≡ disk.old }
@@ -171,6 +179,9 @@ pub fn run_replica<L: Link, K: Sink, D: Disk>(
     ensures some { D.tells → LeavesOnly (D.view disk.old) (D.view disk.new)
         (RunLeavesSome (opening (map (λ word. word.items) words.now) (D.view disk.old).seen)
         (recovers (D.view disk.old).seen) (D.view disk.old)) }
+    ensures ends_some { D.tells → OnEnd result (λ refused.
+        RunEndsSome (opening (map (λ word. word.items) words.now) (D.view disk.old).seen) (K.taken sink.old)
+        (K.taken sink.new) (D.view disk.old) (D.view disk.new)) }
 
     // Other words are refused, whatever is told: no file is touched, and no connection made.
     ensures other { asked_in (map (λ word. word.items) words.now) ≡ None

@@ -15,11 +15,11 @@ const RESYNC: &[u8] =
     b"\x00\x00\x00\x12\x11\x02\x00\x00\x00\x00\x00\x00\x00\x00\x00\x00\x00\x00\x00\x00\x00\x00";
 
 /// There is nothing new behind serial 4 at 1700000000.
-const NIL: &[u8] =
+pub(crate) const NIL: &[u8] =
     b"\x00\x00\x00\x12\x11\x04\x00\x00\x00\x04\x65\x53\xf1\x00\x00\x00\x00\x00\x00\x00\x00\x00";
 
 /// A database at serial 4 with the principal bob.
-const DUMP: &[u8] = b"kdb dump 2\nrealm EXAMPLE.ORG\npoint 4 1700000000.000000\n\
+pub(crate) const DUMP: &[u8] = b"kdb dump 2\nrealm EXAMPLE.ORG\npoint 4 1700000000.000000\n\
 princ 000f626f62404558414d504c452e4f5247000000000000000000000000000000000000000000020002\
 001400f15365626f62404558414d504c452e4f524700000800020100000000000000\nend 1\n";
 
@@ -32,20 +32,20 @@ princ 000f626f62404558414d504c452e4f52470000000000000000000000000000000000000000
 const BAD: &[u8] = b"kdb dump 2\nrealm EXAMPLE.ORG\npoint\n";
 
 /// A database at serial 2 with the principals amy and bob.
-const TWO: &[u8] = b"kdb dump 2\nrealm EXAMPLE.ORG\npoint 2 1700000000.000000\n\
+pub(crate) const TWO: &[u8] = b"kdb dump 2\nrealm EXAMPLE.ORG\npoint 2 1700000000.000000\n\
 princ 000f616d79404558414d504c452e4f5247000000000000000000000000000000000000000000020002\
 001400f15365626f62404558414d504c452e4f524700000800020100000000000000\n\
 princ 000f626f62404558414d504c452e4f5247000000000000000000000000000000000000000000020002\
 001400f15365626f62404558414d504c452e4f524700000800020100000000000000\nend 2\n";
 
 /// Two updates behind serial 2 at 1700000000, by which bob and then amy are deleted.
-const UPDATES: &[u8] =
+pub(crate) const UPDATES: &[u8] =
     b"\x00\x00\x00\x12\x11\x00\x00\x00\x00\x02\x65\x53\xf1\x00\x00\x00\x00\x00\x00\x00\x00\x02\
 \x00\x00\x00\x21\x14\x00\x00\x00\x03\x65\x53\xf1\x00\x00\x00\x00\x00\x02\x00\x0fbob@EXAMPLE.ORG\x00\x00\
 \x00\x00\x00\x21\x14\x00\x00\x00\x04\x65\x53\xf1\x00\x00\x00\x00\x00\x02\x00\x0famy@EXAMPLE.ORG\x00\x00";
 
 /// The words of a run.
-const WORDS: &str = "replica/one@EXAMPLE.ORG 2 1000";
+pub(crate) const WORDS: &str = "replica/one@EXAMPLE.ORG 2 1000";
 
 /// The frames of a dump.
 fn frames_of(alloc: Global, dump: &[u8]) -> Result<Blob, Fail> {
@@ -54,7 +54,7 @@ fn frames_of(alloc: Global, dump: &[u8]) -> Result<Blob, Fail> {
 }
 
 /// The reply that the whole database has to be loaded, and this dump behind it.
-fn resync(alloc: Global, dump: &[u8]) -> Result<Blob, Fail> {
+pub(crate) fn resync(alloc: Global, dump: &[u8]) -> Result<Blob, Fail> {
     let frames = frames_of(alloc, dump)?;
     behind_resync(alloc, frames.as_slice())
 }
@@ -76,12 +76,12 @@ fn gives_of(alloc: Global, first: Blob, others: &[&[u8]]) -> Result<VecDeque<Blo
 }
 
 /// A link with such connections.
-fn link_of(alloc: Global, first: Blob, others: &[&[u8]]) -> Result<MemoryLink, Fail> {
+pub(crate) fn link_of(alloc: Global, first: Blob, others: &[&[u8]]) -> Result<MemoryLink, Fail> {
     let gives = gives_of(alloc, first, others)?;
     Ok(MemoryLink::new(alloc, gives, Fails::none(alloc))?)
 }
 
-fn words_of(alloc: Global, line: &str) -> Result<Vec<Vec<u8>>, Fail> {
+pub(crate) fn words_of(alloc: Global, line: &str) -> Result<Vec<Vec<u8>>, Fail> {
     let mut words = Vec::new(alloc);
     for word in line.split(' ') {
         words.push(word.as_bytes().to_vec(alloc)?)?;
@@ -240,6 +240,209 @@ fn updates_are_taken_once(rt: HostRuntime) -> Result<(), Fail> {
 - round 3 refused WrongPoint 4 1700000000.000000\nok 4 1700000000.000000\n";
     let words = "replica/one@EXAMPLE.ORG 3 1000";
     check(&rt, alloc, words, &mut link, Status::Refused, text)
+}
+
+/// The primary is busy.
+const BUSY: &[u8] =
+    b"\x00\x00\x00\x12\x11\x03\x00\x00\x00\x00\x00\x00\x00\x00\x00\x00\x00\x00\x00\x00\x00\x00";
+
+/// The replica may not ask.
+const DENIED: &[u8] =
+    b"\x00\x00\x00\x12\x11\x05\x00\x00\x00\x00\x00\x00\x00\x00\x00\x00\x00\x00\x00\x00\x00\x00";
+
+/// There is nothing new behind no database.
+const NOTHING: &[u8] =
+    b"\x00\x00\x00\x12\x11\x04\x00\x00\x00\x00\x00\x00\x00\x00\x00\x00\x00\x00\x00\x00\x00\x00";
+
+/// Update 1 behind no database, by which bob is deleted.
+const FIRST: &[u8] =
+    b"\x00\x00\x00\x12\x11\x00\x00\x00\x00\x00\x00\x00\x00\x00\x00\x00\x00\x00\x00\x00\x00\x01\
+\x00\x00\x00\x21\x14\x00\x00\x00\x01\x65\x53\xf1\x00\x00\x00\x00\x00\x02\x00\x0fbob@EXAMPLE.ORG\x00\x00";
+
+/// Update 4 where update 3 is due.
+const SKIPPED: &[u8] =
+    b"\x00\x00\x00\x12\x11\x00\x00\x00\x00\x02\x65\x53\xf1\x00\x00\x00\x00\x00\x00\x00\x00\x01\
+\x00\x00\x00\x21\x14\x00\x00\x00\x04\x65\x53\xf1\x00\x00\x00\x00\x00\x02\x00\x0fbob@EXAMPLE.ORG\x00\x00";
+
+/// Update 3, and update 4 a microsecond before it.
+const FALLING: &[u8] =
+    b"\x00\x00\x00\x12\x11\x00\x00\x00\x00\x02\x65\x53\xf1\x00\x00\x00\x00\x00\x00\x00\x00\x02\
+\x00\x00\x00\x21\x14\x00\x00\x00\x03\x65\x53\xf1\x00\x00\x00\x00\x01\x02\x00\x0fbob@EXAMPLE.ORG\x00\x00\
+\x00\x00\x00\x21\x14\x00\x00\x00\x04\x65\x53\xf1\x00\x00\x00\x00\x00\x02\x00\x0famy@EXAMPLE.ORG\x00\x00";
+
+/// Update 3, which puts eve, and update 4, which renames her to the name of amy.
+const MOVED: &[u8] =
+    b"\x00\x00\x00\x12\x11\x00\x00\x00\x00\x02\x65\x53\xf1\x00\x00\x00\x00\x00\x00\x00\x00\x02\
+\x00\x00\x00\x6c\x14\x00\x00\x00\x03\x65\x53\xf1\x00\x00\x00\x00\x00\x01\x00\x0feve@EXAMPLE.ORG\x00\x4b\
+\x00\x0feve@EXAMPLE.ORG\x00\x00\x00\x00\x00\x00\x00\x00\x00\x00\x00\x00\x00\x00\x00\x00\x00\x00\x00\x00\
+\x00\x02\x00\x02\x00\x14\x00\xf1\x53\x65bob@EXAMPLE.ORG\x00\x00\x08\x00\x02\x01\x00\x00\x00\x00\x00\x00\x00\
+\x00\x00\x00\x6c\x14\x00\x00\x00\x04\x65\x53\xf1\x00\x00\x00\x00\x00\x03\x00\x0feve@EXAMPLE.ORG\x00\x4b\
+\x00\x0famy@EXAMPLE.ORG\x00\x00\x00\x00\x00\x00\x00\x00\x00\x00\x00\x00\x00\x00\x00\x00\x00\x00\x00\x00\
+\x00\x02\x00\x02\x00\x14\x00\xf1\x53\x65bob@EXAMPLE.ORG\x00\x00\x08\x00\x02\x01\x00\x00\x00\x00\x00\x00\x00";
+
+/// The line of a round that a replica without a database polls in, and the last one.
+const POLLED: [(&[u8], Status, &[u8]); 5] = [
+    (
+        NOTHING,
+        Status::Done,
+        b"- round 1 nil 0 0.000000\nok 0 0.000000\n",
+    ),
+    (
+        BUSY,
+        Status::Done,
+        b"- round 1 busy 0 0.000000\nok 0 0.000000\n",
+    ),
+    (
+        DENIED,
+        Status::Done,
+        b"- round 1 denied 0 0.000000\nok 0 0.000000\n",
+    ),
+    // no serial runs on from no database
+    (
+        FIRST,
+        Status::Refused,
+        b"- round 1 refused Gap 0 0.000000\nok 0 0.000000\n",
+    ),
+    (
+        UPDATES,
+        Status::Refused,
+        b"- round 1 refused WrongPoint 0 0.000000\nok 0 0.000000\n",
+    ),
+];
+
+fn check_polled(
+    rt: &impl Abort,
+    alloc: Global,
+    reply: &[u8],
+    status: Status,
+    text: &[u8],
+) -> Result<(), Fail> {
+    let mut link = link_of(alloc, Blob::from_bytes(alloc, reply)?, &[])?;
+    let words = "replica/one@EXAMPLE.ORG 1 1000";
+    check(rt, alloc, words, &mut link, status, text)
+}
+
+#[test]
+fn the_word_of_a_round_tells_the_reply(rt: HostRuntime) -> Result<(), Fail> {
+    for (reply, status, text) in POLLED {
+        check_polled(&rt, rt.alloc(), reply, status, text)?;
+    }
+    Ok(())
+}
+
+/// The primary is busy, in answer to a poll at serial 2 at 1700000000.
+const BUSY_AT_2: &[u8] =
+    b"\x00\x00\x00\x12\x11\x03\x00\x00\x00\x02\x65\x53\xf1\x00\x00\x00\x00\x00\x00\x00\x00\x00";
+
+/// The same behind an asking, which is answered by a dump, or by a reply that it is not given now or may not be asked
+/// for. Such a reply names no point.
+const ASKED: [(&[u8], Status, &[u8]); 5] = [
+    (
+        BUSY,
+        Status::Done,
+        b"- round 1 busy 0 0.000000\nok 0 0.000000\n",
+    ),
+    (
+        DENIED,
+        Status::Done,
+        b"- round 1 denied 0 0.000000\nok 0 0.000000\n",
+    ),
+    (
+        BUSY_AT_2,
+        Status::Refused,
+        b"- round 1 refused BadFrame 0 0.000000\nok 0 0.000000\n",
+    ),
+    (
+        NOTHING,
+        Status::Refused,
+        b"- round 1 refused BadFrame 0 0.000000\nok 0 0.000000\n",
+    ),
+    (
+        RESYNC,
+        Status::Refused,
+        b"- round 1 refused BadFrame 0 0.000000\nok 0 0.000000\n",
+    ),
+];
+
+fn check_asked(
+    rt: &impl Abort,
+    alloc: Global,
+    reply: &[u8],
+    status: Status,
+    text: &[u8],
+) -> Result<(), Fail> {
+    let mut link = link_of(alloc, behind_resync(alloc, reply)?, &[])?;
+    let words = "replica/one@EXAMPLE.ORG 1 1000";
+    check(rt, alloc, words, &mut link, status, text)
+}
+
+#[test]
+fn an_asking_may_be_answered_by_a_reply(rt: HostRuntime) -> Result<(), Fail> {
+    for (reply, status, text) in ASKED {
+        check_asked(&rt, rt.alloc(), reply, status, text)?;
+    }
+    Ok(())
+}
+
+/// The lines of a replica that has loaded the database at serial 2, and then polls.
+const POLLED_AT_2: [(&[u8], Status, &[u8]); 6] = [
+    (
+        BUSY_AT_2,
+        Status::Done,
+        b"- round 1 loaded 2 1700000000.000000\n- round 2 busy 2 1700000000.000000\n\
+ok 2 1700000000.000000\n",
+    ),
+    (
+        BUSY,
+        Status::Done,
+        b"- round 1 loaded 2 1700000000.000000\n- round 2 busy 2 1700000000.000000\n\
+ok 2 1700000000.000000\n",
+    ),
+    (
+        DENIED,
+        Status::Done,
+        b"- round 1 loaded 2 1700000000.000000\n- round 2 denied 2 1700000000.000000\n\
+ok 2 1700000000.000000\n",
+    ),
+    (
+        SKIPPED,
+        Status::Refused,
+        b"- round 1 loaded 2 1700000000.000000\n- round 2 refused Gap 2 1700000000.000000\n\
+ok 2 1700000000.000000\n",
+    ),
+    // the whole reply is judged before its first update is made
+    (
+        FALLING,
+        Status::Refused,
+        b"- round 1 loaded 2 1700000000.000000\n- round 2 refused Gap 2 1700000000.000000\n\
+ok 2 1700000000.000000\n",
+    ),
+    // but whether an update may be made of the rows shows behind those before it
+    (
+        MOVED,
+        Status::Refused,
+        b"- round 1 loaded 2 1700000000.000000\n- round 2 refused Gap 3 1700000000.000000\n\
+ok 3 1700000000.000000\n",
+    ),
+];
+
+fn check_polled_at_2(
+    rt: &impl Abort,
+    alloc: Global,
+    reply: &[u8],
+    status: Status,
+    text: &[u8],
+) -> Result<(), Fail> {
+    let mut link = link_of(alloc, resync(alloc, TWO)?, &[reply])?;
+    check(rt, alloc, WORDS, &mut link, status, text)
+}
+
+#[test]
+fn updates_that_leave_a_gap_are_refused(rt: HostRuntime) -> Result<(), Fail> {
+    for (reply, status, text) in POLLED_AT_2 {
+        check_polled_at_2(&rt, rt.alloc(), reply, status, text)?;
+    }
+    Ok(())
 }
 
 /// The first bytes of the reply with a dump.

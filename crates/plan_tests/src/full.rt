@@ -94,7 +94,7 @@ fn filled(rt: &impl Abort, alloc: Global) -> Result<Database, Fail> {
 }
 
 /// All that may be said of a new principal or a new policy comes before there being no room for it.
-const ORDER: [Case; 13] = [
+static ORDER: [Case; 13] = [
     (DENIES, "joe", "addprinc -nokey bob", "err 7 Denied 1"),
     (ANY, "joe", "addprinc -nokey K/M", "err 8 Protected"),
     (
@@ -141,7 +141,7 @@ const ORDER: [Case; 13] = [
 ];
 
 /// What adds no row is done, and where one has gone there is room for one.
-const ROOM: [Case; 10] = [
+static ROOM: [Case; 10] = [
     (
         ANY,
         "joe",

@@ -18,7 +18,7 @@ const DENIES: Option<&str> = Some("joe i\n");
 const BARE: Option<&str> = Some("");
 
 /// What is there before the tables.
-const THERE: [Turn; 4] = [
+static THERE: [Turn; 4] = [
     (
         "addpol -minlength 8 -minclasses 3 std",
         "ok 2 1700000000.000000",
@@ -242,7 +242,7 @@ const OF_PASSWORDS: [Case; 16] = [
 ];
 
 /// 32 keys are the most; what is wanted of a password, and its least life, come before.
-const KEYS_FULL: [Case; 7] = [
+static KEYS_FULL: [Case; 7] = [
     (
         BARE,
         "eve",
@@ -267,7 +267,7 @@ const KEYS_FULL: [Case; 7] = [
     (ANY, "joe", "cpw -randkey -keepold eve", "err 28 KeysFull"),
 ];
 
-const TABLES: [&[Case]; 4] = [&DENIED, &PROTECTED, &THERE_OR_NOT, &OF_PASSWORDS];
+static TABLES: [&[Case]; 4] = [&DENIED, &PROTECTED, &THERE_OR_NOT, &OF_PASSWORDS];
 
 /// Gives the lines of tables that go on one behind the other.
 pub(crate) fn check_tables(
@@ -326,7 +326,7 @@ pub(crate) fn check_strings(
 }
 
 /// A record has at most 16000 bytes and 16 attributes, and the latter is told first.
-pub(crate) const OF_BOB: [(u8, usize, &str); 19] = [
+pub(crate) static OF_BOB: [(u8, usize, &str); 19] = [
     (b'a', 1024, "ok 3 1700000000.000000"),
     (b'b', 1024, "ok 4 1700000000.000000"),
     (b'c', 1024, "ok 5 1700000000.000000"),
@@ -363,7 +363,7 @@ const LAST_OF_BOB: [(u8, usize, &str); 1] = [(b'p', 480, "ok 18 1700000000.00000
 const LONG: &str = "cccccccccccccccccccccccccccccc";
 
 /// A policy, a new name and the name of whoever changes it make the record longer.
-const LONGER: [Case; 8] = [
+static LONGER: [Case; 8] = [
     (
         None,
         "admin/local",
@@ -446,7 +446,7 @@ fn filled(rt: &impl Abort, alloc: Global) -> Result<Database, Fail> {
 }
 
 /// What more her record has.
-const OF_EVE: [(u8, usize, &str); 15] = [
+static OF_EVE: [(u8, usize, &str); 15] = [
     (b'a', 1024, "ok 19 1700000000.000000"),
     (b'b', 1024, "ok 20 1700000000.000000"),
     (b'c', 1024, "ok 21 1700000000.000000"),
@@ -511,7 +511,7 @@ fn check_version(
 }
 
 /// 32 versions are the most. A denial is told before that, and a version that is not there before a denial.
-const MASTERS_FULL: [Case; 6] = [
+static MASTERS_FULL: [Case; 6] = [
     (None, "admin/local", "add_mkey", "err 15 TooManyMasters 32"),
     (
         ANY,

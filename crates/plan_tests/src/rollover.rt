@@ -6,7 +6,7 @@ use std::process::Abort;
 use std::test::Fail;
 
 /// A version that is added is not active, and what is made before it is stays under the old one.
-const ADDED: [Turn; 5] = [
+static ADDED: [Turn; 5] = [
     ("addprinc -pw s3cret alice", "ok 2 1700000000.000000"),
     ("addprinc -nokey bob", "ok 3 1700000000.000000"),
     ("add_mkey", "ok 4 1700000000.000000 mkvno 2"),

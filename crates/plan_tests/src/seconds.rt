@@ -139,7 +139,7 @@ const STILL_ACTIVE: [Case; 5] = [
     ),
 ];
 
-const ROLLING: [Second; 5] = [
+static ROLLING: [Second; 5] = [
     (1_700_000_100, &FIRST),
     (1_700_000_000, &BEHIND),
     (1_700_000_199, &BEFORE),
@@ -238,7 +238,7 @@ const BACK: [Case; 4] = [
     ),
 ];
 
-const WAITING: [Second; 4] = [
+static WAITING: [Second; 4] = [
     (1_700_000_000, &SLOW),
     (1_700_086_399, &TOO_SOON),
     (1_700_086_400, &A_DAY_LATER),

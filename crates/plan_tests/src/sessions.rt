@@ -30,7 +30,7 @@ const NAMES: [Turn; 8] = [
 ];
 
 /// Length, classes, and the keys of passwords before.
-const PASSWORDS: [Turn; 10] = [
+static PASSWORDS: [Turn; 10] = [
     (
         "addpol -minlength 8 -minclasses 3 -history 2 std",
         "ok 2 1700000000.000000",
@@ -136,7 +136,7 @@ const KEYS: [Turn; 12] = [
 
 /// Keys expire by the greatest life of their policy, one day here, unless the line itself says when. `addprinc` leaves
 /// needchange as the line says, and new keys clear it.
-const EXPIRING: [Turn; 13] = [
+static EXPIRING: [Turn; 13] = [
     ("addpol -maxlife 1d p", "ok 2 1700000000.000000"),
     (
         "addprinc -policy p -pw x +needchange -expire 2030-01-01T00:00:00Z a",

@@ -1,5 +1,6 @@
 -- The end of a database, by what is kept of it.
 use Rattle.std.proofs.Common.{◌≡◌, Result, Ok, Err, inl, inr, ap, subst, ◌∙◌}
+use Rattle.std.specs.Prelude.{IfErr}
 use Rattle.kdb_base.specs.declared.outcomes.Refusal.{Refusal}
 use Rattle.kdb_base.specs.declared.outcomes.Stop.{Stop}
 use Rattle.kdb_base.specs.declared.outcomes.Stop.TheVariants as stop
@@ -12,7 +13,8 @@ use Rattle.kdb_places.specs.Places.{Place}
 use Rattle.primary_core.specs.Ending.{MayEnd}
 use Rattle.store_files.specs.Found.{found_by, found_in, place_in, recovers}
 use Rattle.store_files.specs.Recovery.{Destroys, RecoversTo}
-use Rattle.store_switches.specs.Ending.{AnswersEnded, RefusesEnd}
+use Rattle.store_opening.specs.Looking.{StopsOpening}
+use Rattle.store_switches.specs.Ending.{AnswersEnded, RefusesEnd, StopsEnding}
 
 pub may_end : (old : View) (p : Place) (f : Files) → RecoversTo p old → Destroys old f → MayEnd p f
 may_end old p f stands (inl like) = inl (ap place_in like.same ∙ stands like.before like.was)
@@ -34,3 +36,9 @@ pub never_refused : (A : Type 0) (files : Files) (p : Place) (r : Result A Stop)
     → r ≡ Err (stop.Refused why) → ⊥
 never_refused A files p r why is answers e =
     never_ends files p why is (subst (λ (x : Result A Stop). AnswersEnded x (in_force (files 0))) e answers)
+
+-- an end is refused as an opening is
+pub ends_as_opening : {A : Type 0} (r : Result A Stop) → IfErr r StopsEnding → IfErr r StopsOpening
+ends_as_opening (Ok a) stops = tt
+ends_as_opening (Err (stop.Refused why)) stops = stops
+ends_as_opening (Err (stop.Halt halt)) stops = tt

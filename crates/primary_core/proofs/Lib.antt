@@ -15,3 +15,4 @@ pub mod Ends
 pub mod StashLine
 pub mod Renewed
 pub mod Recovered
+pub mod Whole

@@ -1,6 +1,6 @@
 -- What the files stand for, as what was read of them and opened.
 use Rattle.std.proofs.Common.{◌≡◌, ◌≢◌, ◌⊎◌, ℕ, List, [], Option, Result, Ok, Err, inl, inr, refl, sym, ap, subst, ◌∙◌}
-use Rattle.std.specs.Prelude.{IfOk}
+use Rattle.std.specs.Prelude.{IfErr, IfOk}
 use Rattle.kdb_base.specs.Moment.{Moment}
 use Rattle.kdb_base.specs.declared.outcomes.Refusal.{Refusal}
 use Rattle.kdb_base.specs.declared.outcomes.Stop.{Stop}
@@ -11,13 +11,15 @@ use Rattle.kdb_disk.specs.Files.{Files}
 use Rattle.kdb_disk.specs.Moments.{IsSettled, Keeps, LeavesOnly}
 use Rattle.kdb_disk.specs.View.{View}
 use Rattle.kdb_histories.specs.Calls.{HasTimeLeft, resized}
+use Rattle.kdb_histories.specs.Seen.{reset_point}
 use Rattle.kdb_histories.specs.Stages.{places}
 use Rattle.kdb_places.specs.Places.{Place, point_of}
 use Rattle.kdb_store.specs.Reading.{IsFoundAs}
-use Rattle.primary_core.specs.Opened.{Opened}
+use Rattle.primary_core.specs.Opened.{IsWrittenAnew, Opened}
 use Rattle.primary_core.specs.Opening.{EndsTime, HasNoTime, IsHalt, IsRefusedAs, LeavesOpening, MayOpen}
 use Rattle.primary_core.specs.Opening.{OpeningRefused, OpensAt, OpensFrom, OpensHaving, OpensTo, OpensWith}
-use Rattle.primary_core.specs.Opening.{RecoversAs, RefusesAt, RowsRefused, StashRefuses, place_found}
+use Rattle.primary_core.specs.Opening.{RecoversAs, RefusesAt, RowsRefused, StashRefuses, StopsPrimary, StopsRows}
+use Rattle.primary_core.specs.Opening.{place_found}
 use Rattle.princ_rows.specs.Rows.{RowLists}
 use Rattle.row_keys.specs.Sound.{AreSound, judged}
 use Rattle.stash_opening.specs.Answers.{Gives, Refuses}
@@ -25,6 +27,7 @@ use Rattle.stash_opening.specs.Finding.{IsOpeningCause, StashOpens, own_record}
 use Rattle.store_files.specs.Found.{Found, found_in, place_in, place_of, recovers}
 use Rattle.store_files.specs.Kept.{Kept, found_with, place_kept}
 use Rattle.store_files.specs.Recovery.{IsLike, LeavesPart, RecoversTo}
+use Rattle.store_opening.specs.Looking.{StopsOpening}
 
 -- ---- what is read of a database
 
@@ -322,3 +325,38 @@ pub opened_at_ok : (p : Place) (masters : List Master) (size : Option ℕ) (cloc
     → IfOk r (OpensFrom p masters size clock) → OpensFrom p masters size clock o
 opened_at_ok p masters size clock r o e h =
     subst (λ (x : Result Opened Stop). IfOk x (OpensFrom p masters size clock)) e h
+
+-- ---- why it stops, whatever a disk tells
+
+pub unopened_stops : (s : Stop) → StopsOpening s → StopsRows s
+unopened_stops (stop.Refused why) unopened = inl unopened
+unopened_stops (stop.Halt halt) any = tt
+
+pub masters_stop : (p : Place) (file : ℕ) (s : Stop) (r : Result (List Master) Stop) → r ≡ Err s
+    → ((why : Refusal) → r ≡ Err (stop.Refused why) → RefusesAt p file why) → StopsRows s
+masters_stop p file (stop.Refused why) r is refused = inr (record { place = p; file = file; cause = refused why is })
+masters_stop p file (stop.Halt halt) r is refused = tt
+
+pub rows_stop_it : (size : Option ℕ) (clock : Moment) (s : Stop) → StopsRows s → StopsPrimary size clock s
+rows_stop_it size clock (stop.Refused why) (inl unopened) = inl unopened
+rows_stop_it size clock (stop.Refused why) (inr refused) = inr (inl refused)
+rows_stop_it size clock (stop.Halt halt) any = tt
+
+pub late_stops : (p : Place) (size : Option ℕ) (clock : Moment) (r : Result Opened Stop)
+    → ((why : Refusal) → r ≡ Err (stop.Refused why) → EndsTime size clock p why) → IfErr r (StopsPrimary size clock)
+late_stops p size clock (Ok o) ends = tt
+late_stops p size clock (Err (stop.Refused why)) ends = inr (inr (record { place = p; ends = ends why refl }))
+late_stops p size clock (Err (stop.Halt halt)) ends = tt
+
+-- ---- what is written of files of format 1
+
+-- the rows written anew, by the place that was found
+pub found_written : (k : Kept) (found : Result Found Refusal) → IsFoundAs k found → (clock : Moment) (now : View)
+    (r : Result Opened Stop)
+    → ((place_kept k).format ≢ 2 → IfOk r (λ o. IsWrittenAnew now o.kept (reset_point clock (place_kept k))))
+    → (f : Found) → found ≡ Ok f → (place_found f).format ≢ 2
+    → IfOk r (λ o. IsWrittenAnew now o.kept (reset_point clock (place_found f)))
+found_written k found h clock now r written f is =
+    let same : place_found f ≡ place_kept k = ap place_of (one_found k found h f is) ∙ place_is k found h in
+    subst (λ (p : Place). p.format ≢ 2 → IfOk r (λ o. IsWrittenAnew now o.kept (reset_point clock p))) (sym same)
+    written

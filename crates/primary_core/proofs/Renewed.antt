@@ -71,14 +71,20 @@ module _ (p : Place) (size : Option ℕ) (clock : Moment) (n : ℕ) (last : Poin
   has_time point more =
       subst (λ (q : Point). micros q.time < 4294967295999999) r.last_is (time_left last.time point.time more)
 
+  pub base_is : (base : Point) → base ≡ record { sno = 1; time = later_moment clock (next_moment last.time) }
+      → base ≡ reset_point clock p
+  base_is base is = is ∙ ap (λ (q : Point). let x : Point =
+      record { sno = 1; time = later_moment clock (next_moment q.time) } in x) r.last_is
+
+  pub same_format : Same n ≡ true → p.format ≡ 2
+  same_format e = eqb-true p.format 2 (both (nat_eq p.format 2) (nat_eq n p.size) e).0
+
   -- the place with the log begun anew is the one that is made
   pub places_made : (base : Point) → Same n ≡ false
       → base ≡ record { sno = 1; time = later_moment clock (next_moment last.time) }
       → log_anew base n p.block p ∷ [] ≡ places (resized size clock p)
   places_made base e is =
-      let at : base ≡ reset_point clock p = is ∙ ap (λ (q : Point). let x : Point =
-      record { sno = 1; time = later_moment clock (next_moment q.time) } in x) r.last_is in
-      ap (λ (x : Point). log_anew x n p.block p ∷ []) at
+      ap (λ (x : Point). log_anew x n p.block p ∷ []) (base_is base is)
       ∙ ap (λ (m : ℕ). log_anew (reset_point clock p) m p.block p ∷ []) r.size_is
       ∙ sym (ap places (one_made e))
 

@@ -1,11 +1,14 @@
 -- A primary as it is kept in memory, and what its calls say of the disk.
 use Rattle.std.specs.Prelude.{ℕ, ◌≡◌, ◌≤◌, true, false, List, [], Option, Some, None, Ok, unwrap_or}
 use Rattle.acl_text.specs.declared.rules.AclLine.{AclLine}
+use Rattle.cell_files.specs.NewFiles.{file_text}
 use Rattle.kadm_commands.specs.declared.commands.Command.{Command}
 use Rattle.kadm_commands.specs.declared.replies.Reply.{Reply}
 use Rattle.kdb_base.specs.Moment.{Moment}
+use Rattle.kdb_base.specs.declared.moments.Point.{Point}
 use Rattle.kdb_base.specs.declared.versions.Master.{Master}
 use Rattle.kdb_disk.specs.Files.{Files}
+use Rattle.kdb_disk.specs.View.{View}
 use Rattle.kdb_histories.specs.Asks.{Answer, Ask, Commanded, Replied}
 use Rattle.command_plans.specs.Given.{IsApplied}
 use Rattle.kdb_histories.specs.Calls.{Call, HasTimeLeft, Performs}
@@ -56,6 +59,11 @@ pub record MayLeave (p : Place) (s : State) (call : Call) (c : Files) : Type 0 w
   pub place : Place
   pub is : recovers c ≡ Ok place
   pub may : MayReach p s call place
+
+-- The file of cells that is in force was written whole, in format 2: behind the unit of the realm the rows stand one
+-- behind the other, in their order.
+abbrev pub IsWrittenAnew : View → Kept → Point → Type 0
+IsWrittenAnew now k base = now.seen k.control.image ≡ file_text 2 k.realm base k.rows
 
 -- a command as it is asked of the primary
 abbrev pub command_ask : NameParts → Option (List AclLine) → Command → Moment → List ℕ → Ask

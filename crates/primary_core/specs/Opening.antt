@@ -11,6 +11,8 @@ use Rattle.kdb_base.specs.declared.outcomes.Stop.{Stop}
 use Rattle.kdb_base.specs.declared.outcomes.Stop.TheVariants as stop
 use Rattle.kdb_base.specs.declared.versions.Master.{Master}
 use Rattle.kdb_control.specs.Choice.{Choice}
+use Rattle.kdb_control.specs.Moments.{HasInForce}
+use Rattle.kdb_control.specs.declared.force.Force.TheVariants.{Is}
 use Rattle.kdb_disk.specs.Files.{Files}
 use Rattle.kdb_disk.specs.View.{View}
 use Rattle.kdb_histories.specs.Calls.{HasTimeLeft, resized}
@@ -21,8 +23,10 @@ use Rattle.row_keys.specs.Sound.{AreSound, judged}
 use Rattle.stash_file.specs.Written.{stash_text}
 use Rattle.stash_opening.specs.Finding.{IsOpeningCause, StashOpens, own_record}
 use Rattle.store_files.specs.Found.{Found, place_of, recovers}
-use Rattle.store_files.specs.Recovery.{IsLike, LeavesPart}
+use Rattle.store_files.specs.Recovery.{IsLike, LeavesPart, RecoversTo}
 use Rattle.store_files.specs.Switches.{first_choice}
+use Rattle.store_opening.specs.Looking.{IsUnopened}
+use Rattle.store_opening.specs.Moments.{HasFile}
 
 -- ---- a creation
 
@@ -40,6 +44,13 @@ first_control spec now = first_choice 2 5 (first_point now) spec.size 2048
 -- the bytes of its file of rows: behind the unit of the realm the rows one behind the other, in their order
 abbrev pub first_file : SpecParts → Moment → List ℕ → List ℕ
 first_file spec now random = file_text 2 spec.realm (first_point now) (first_rows spec now random)
+
+-- Whatever a crash leaves recovers to the place of the creation. Its files are the first of each kind, at the first
+-- turn, and the rows stand one behind the other from unit 1 on, in their order.
+pub record IsCreated (spec : SpecParts) (moment : Moment) (random : List ℕ) (now : View) : Type 0 where
+  pub place : RecoversTo (first_place spec moment random) now
+  pub control : HasInForce (Is (first_control spec moment)) now
+  pub written : HasFile 1 (first_file spec moment random) now
 
 -- ---- an opening
 
@@ -84,6 +95,32 @@ pub record HasNoTime (size : Option ℕ) (clock : Moment) (f : Found) (why : Ref
 abbrev pub OpeningRefused : Result Found Refusal → Option ℕ → Moment → Refusal → Type 0
 OpeningRefused (Err refusal) size clock why = why ≡ refusal
 OpeningRefused (Ok f) size clock why = StashRefuses f why ⊎ HasNoTime size clock f why
+
+-- ---- why an opening stops, whatever a disk tells
+
+-- the stash or the rows of some place are refused
+pub record RefusesSomePlace (why : Refusal) : Type 0 where
+  pub place : Place
+  pub file : ℕ
+  pub cause : RefusesAt place file why
+
+-- at some place a log is to begin anew, and no later time is left for it
+pub record EndsAtSomePlace (size : Option ℕ) (clock : Moment) (why : Refusal) : Type 0 where
+  pub place : Place
+  pub ends : EndsTime size clock place why
+
+-- The rows are not opened: no database is there or a file is damaged, or the stash or the rows are refused. Else memory
+-- ran out or the disk failed.
+abbrev pub StopsRows : Stop → Type 0
+StopsRows (stop.Refused why) = IsUnopened why ⊎ RefusesSomePlace why
+StopsRows (stop.Halt halt) = Unit {0}
+
+-- The primary is not opened: its rows are not, or no later time is left. Else memory ran out or the disk failed.
+abbrev pub StopsPrimary : Option ℕ → Moment → Stop → Type 0
+StopsPrimary size clock (stop.Refused why) = IsUnopened why ⊎ (RefusesSomePlace why ⊎ EndsAtSomePlace size clock why)
+StopsPrimary size clock (stop.Halt halt) = Unit {0}
+
+-- ---- what is opened
 
 -- It is opened with these master keys: the place is this one, or that of the log begun anew.
 pub record OpensFrom (p : Place) (masters : List Master) (size : Option ℕ) (clock : Moment) (o : Opened) : Type 0 where

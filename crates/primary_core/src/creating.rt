@@ -1,6 +1,6 @@
 //! A primary made anew.
 
-ghost use Rattle.std.specs.Prelude.{◌≡◌, ◌≢◌, false, Err, IfOk, OnOk, Some, length};
+ghost use Rattle.std.specs.Prelude.{◌≡◌, ◌≢◌, false, Err, IfErr, IfOk, OnOk, Some, length};
 ghost use Rattle.std.specs.List.{All};
 ghost use Rattle.cell_files.specs.NewFiles.{file_text};
 ghost use Rattle.first_rows.specs.Creation.{first_point, first_rows, first_state};
@@ -18,7 +18,7 @@ ghost use Rattle.primary_core.specs.Opening.{first_control, first_file, first_pl
 ghost use Rattle.stash_file.specs.Written.{stash_text};
 ghost use Rattle.store_files.specs.Kept.{IsOnDisk, place_kept};
 ghost use Rattle.store_files.specs.Recovery.{Creates};
-ghost use Rattle.store_opening.specs.Made.{AnswersMade};
+ghost use Rattle.store_opening.specs.Made.{AnswersMade, StopsMaking};
 ghost use Rattle.store_opening.specs.Moments.{HasFile};
 
 use crate::primary::Primary;
@@ -77,6 +77,7 @@ fn make_database<D: Disk>(
     stash: &[u8],
 ) -> Result<Database, Stop>
     ensures answer { D.tells → AnswersMade result (in_force ((D.view disk.old).seen 0)) }
+    ensures stops { IfErr result StopsMaking }
     ensures place { IfOk result
         (λ d. place_kept d ≡ created spec.now.realm rows (first_point now) spec.now.size 2048 (Some stash.now) 2) }
     ensures control { IfOk result (λ d. d.control ≡ first_control spec.now now) }
@@ -146,6 +147,8 @@ impl Primary {
     ) -> Result<Primary, Stop>
         requires random { length random.now ≡ 2048 }
         ensures answer { D.tells → AnswersMade result (in_force ((D.view disk.old).seen 0)) }
+        // Nothing else is refused, whatever the disk tells.
+        ensures stops { IfErr result StopsMaking }
         ensures place { IfOk result (λ o. place_of o ≡ first_place spec.now now random.now) }
         // The files are the first of each kind, and so is the turn of the slot.
         ensures control { IfOk result (λ o. o.kept.control ≡ first_control spec.now now) }

@@ -1,6 +1,6 @@
 //! The end of a database.
 
-ghost use Rattle.std.specs.Prelude.{◌≡◌, false, Err, OnOk};
+ghost use Rattle.std.specs.Prelude.{◌≡◌, false, Err, IfErr, OnOk};
 ghost use Rattle.kdb_base.specs.declared.outcomes.Halt.TheVariants.{DiskFault as IsDiskFault, MemoryOut as IsMemoryOut};
 ghost use Rattle.kdb_base.specs.declared.outcomes.Refusal.{Refusal as Refuses};
 ghost use Rattle.kdb_base.specs.declared.outcomes.Stop.TheVariants as stops;
@@ -10,6 +10,7 @@ ghost use Rattle.primary_core.specs.Ending.{IsCut, MayEnd};
 ghost use Rattle.primary_core.specs.Opened.{place_of};
 ghost use Rattle.store_files.specs.Kept.{IsOnDisk};
 ghost use Rattle.store_files.specs.Recovery.{Destroys, RecoversToNone};
+ghost use Rattle.store_opening.specs.Looking.{StopsOpening};
 
 use crate::primary::Primary;
 use kdb_base::Stop;
@@ -34,6 +35,8 @@ impl Primary {
             → Keeps (D.view disk.old) (D.view disk.new) }
         ensures crash { self.kept.broken ≡ false → IsCrashSafe D.Disk disk.old disk.new (MayEnd (place_of self)) }
         ensures refused { D.tells → self.kept.broken ≡ false → (why : Refuses) → result ≡ Err (stops.Refused why) → ⊥ }
+        // A refusal is one of an opening of the files, whatever the disk tells.
+        ensures stops { IfErr result StopsOpening }
         ensures memory { result ≡ Err (stops.Halt IsMemoryOut) → ⊥ }
         ensures call { IsCall D.Disk disk.old disk.new (result ≡ Err (stops.Halt IsDiskFault)) }
     {

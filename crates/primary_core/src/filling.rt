@@ -8,7 +8,7 @@ ghost use Rattle.kdb_histories.specs.Seen.{reset_point};
 ghost use Rattle.kdb_model.specs.Calls.{is_last};
 ghost use Rattle.kdb_places.specs.Places.{point_of, replaced};
 ghost use Rattle.kdb_plain.specs.declared.states.State.{State};
-ghost use Rattle.primary_core.specs.Opened.{HasState, place_of};
+ghost use Rattle.primary_core.specs.Opened.{HasState, IsWrittenAnew, place_of};
 ghost use Rattle.row_keys.specs.Sound.{HasState as HasStateOf, ShowsValid, judged};
 ghost use Rattle.store_files.specs.Kept.{IsOnDisk};
 ghost use Rattle.store_files.specs.Recovery.{LeavesPart};
@@ -64,6 +64,8 @@ impl Primary {
         ensures err_masters { OnErr result (self.new.masters ≡ self.old.masters) }
         ensures dumps { (self.new.dumps ≡ self.old.dumps) × (self.new.room ≡ self.old.room) }
         ensures on { D.tells → OnOk result (IsOnDisk self.new.kept (D.view disk.new)) }
+        // The file of cells is written whole, in format 2.
+        ensures written { D.tells → OnOk result (IsWrittenAnew (D.view disk.new) self.new.kept base) }
         ensures crash { IsCrashSafe D.Disk disk.old disk.new
             (LeavesPart (place_of self.old) (replaced (place_of self.old).realm rows base (place_of self.old) ∷ [])) }
         ensures memory { result ≡ Err IsMemoryOut → disk.new ≡ disk.old }
@@ -110,6 +112,8 @@ impl Primary {
         ensures err_masters { OnErr result (self.new.masters ≡ self.old.masters) }
         ensures dumps { (self.new.dumps ≡ self.old.dumps) × (self.new.room ≡ self.old.room) }
         ensures on { D.tells → OnOk result (IsOnDisk self.new.kept (D.view disk.new)) }
+        // The file of cells is written whole, in format 2.
+        ensures written { D.tells → OnOk result (IsWrittenAnew (D.view disk.new) self.new.kept base) }
         ensures crash { IsCrashSafe D.Disk disk.old disk.new
             (LeavesPart (place_of self.old) (replaced (place_of self.old).realm rows base (place_of self.old) ∷ [])) }
         ensures memory { result ≡ Err IsMemoryOut → disk.new ≡ disk.old }

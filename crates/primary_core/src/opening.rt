@@ -1,7 +1,7 @@
 //! A primary opened.
 
 ghost use Rattle.std.specs.Prelude.{◌≡◌, ◌≢◌, ◌≤◌, ◌⊎◌, ◌&&◌, ◌∷◌, [], false, Err};
-ghost use Rattle.std.specs.Prelude.{IfOk, IfSome, List, MatchResult, Ok, OnOk, nat_eq};
+ghost use Rattle.std.specs.Prelude.{IfErr, IfOk, IfSome, List, MatchResult, Ok, OnOk, nat_eq};
 ghost use Rattle.iprop_truths.specs.Parts.{end_of};
 ghost use Rattle.kdb_base.specs.declared.outcomes.Halt.{Halt as Halting};
 ghost use Rattle.kdb_base.specs.declared.outcomes.Halt.TheVariants.{MemoryOut as IsMemoryOut, DiskFault as IsDiskFault};
@@ -11,13 +11,15 @@ ghost use Rattle.kdb_base.specs.declared.versions.Master.{Master as Masterly};
 ghost use Rattle.kdb_disk.specs.Frames.{IsCall, IsCrashSafe};
 ghost use Rattle.kdb_disk.specs.Moments.{LeavesOnly};
 ghost use Rattle.kdb_histories.specs.Calls.{HasTimeLeft, resized, size_or};
+ghost use Rattle.kdb_histories.specs.Seen.{reset_point};
 ghost use Rattle.kdb_histories.specs.Stages.{places};
 ghost use Rattle.kdb_places.specs.Places.{log_anew};
 ghost use Rattle.kdb_store.specs.Reading.{IsFoundAs};
-ghost use Rattle.primary_core.specs.Opened.{IsShown};
+ghost use Rattle.primary_core.specs.Opened.{IsShown, IsWrittenAnew};
 ghost use Rattle.primary_core.specs.Opening.{EndsTime, IsHalt, IsRefusedAs, MayOpen, OpeningRefused};
 ghost use Rattle.primary_core.specs.Opening.{OpensAt, OpensFrom, OpensHaving, OpensTo, OpensWith};
-ghost use Rattle.primary_core.specs.Opening.{RecoversAs, RefusesAt, RowsRefused, place_found};
+ghost use Rattle.primary_core.specs.Opening.{RecoversAs, RefusesAt, RowsRefused, StopsPrimary, StopsRows};
+ghost use Rattle.primary_core.specs.Opening.{place_found};
 ghost use Rattle.stash_opening.specs.Answers.{Gives, Refuses as RefusesFor};
 ghost use Rattle.store_files.specs.Found.{Found, found_in};
 ghost use Rattle.store_files.specs.Kept.{IsOnDisk, place_kept};
@@ -64,6 +66,8 @@ fn open_rows<D: Disk>(alloc: Global, disk: &mut D) -> Result<(Database, Masters)
         → OpensWith f masters → MatchResult result (λ both. both.1 ≡ masters) IsHalt }
     ensures only_refused { D.tells → (why : Refuses) → RowsRefused (found_in (D.view disk.old).seen) why
         → IsRefusedAs result why }
+    // whatever the disk tells
+    ensures stops { IfErr result StopsRows }
     ensures whole { IfOk result (λ both. both.0.broken ≡ false) }
     ensures on { D.tells → IfOk result (λ both. IsOnDisk both.0 (D.view disk.new)) }
     ensures refused_stays { D.tells → (why : Refuses) → result ≡ Err (Refused why)
@@ -78,7 +82,10 @@ fn open_rows<D: Disk>(alloc: Global, disk: &mut D) -> Result<(Database, Masters)
     what_is_kept_is_recovered(disk);
     match masters_of(alloc, &database) {
         Ok(masters) => Ok((database, masters)),
-        Err(stop) => Err(stop),
+        Err(stop) => {
+            drop(database);
+            Err(stop)
+        }
     }
 }
 
@@ -117,6 +124,9 @@ fn begin_anew<D: Disk>(
     ensures place { OnOk result
         (place_kept database.new ≡ log_anew base size (place_kept database.old).block (place_kept database.old)) }
     ensures on { D.tells → OnOk result (IsOnDisk database.new (D.view disk.new)) }
+    // Files of format 1 are written whole.
+    ensures written { D.tells → (place_kept database.old).format ≢ 2
+        → OnOk result (IsWrittenAnew (D.view disk.new) database.new base) }
     ensures crash { IsCrashSafe D.Disk disk.old disk.new (LeavesPart (place_kept database.old)
         (log_anew base size (place_kept database.old).block (place_kept database.old) ∷ [])) }
     ensures memory { result ≡ Err IsMemoryOut → disk.new ≡ disk.old }
@@ -150,6 +160,9 @@ fn renew<D: Disk>(
     ensures late { (resized size now (place_kept database.old) ≢ [] → HasTimeLeft (place_kept database.old))
         ⊎ (disk.new ≡ disk.old) }
     ensures on { D.tells → OnOk result (IsOnDisk database.new (D.view disk.new)) }
+    // Files of format 1 are written whole.
+    ensures written { D.tells → (place_kept database.old).format ≢ 2
+        → OnOk result (IsWrittenAnew (D.view disk.new) database.new (reset_point now (place_kept database.old))) }
     ensures crash { IsCrashSafe D.Disk disk.old disk.new
         (LeavesPart (place_kept database.old) (places (resized size now (place_kept database.old)))) }
     ensures memory { result ≡ Err (Halts IsMemoryOut) → disk.new ≡ disk.old }
@@ -206,6 +219,9 @@ fn open_as<D: Disk>(
     ensures room { IfOk result (λ o. (o.dumps ≡ 0) × (o.room ≡ room)) }
     ensures whole { IfOk result (λ o. o.kept.broken ≡ false) }
     ensures on { D.tells → IfOk result (λ o. IsOnDisk o.kept (D.view disk.new)) }
+    // Files of format 1 are written whole.
+    ensures written { D.tells → (place_kept database).format ≢ 2
+        → IfOk result (λ o. IsWrittenAnew (D.view disk.new) o.kept (reset_point now (place_kept database))) }
     ensures crash { IsCrashSafe D.Disk disk.old disk.new
         (LeavesPart (place_kept database) (places (resized size now (place_kept database)))) }
     ensures memory { result ≡ Err (Halts IsMemoryOut) → disk.new ≡ disk.old }
@@ -249,9 +265,14 @@ impl Primary {
         ensures complete { D.tells → (f : Found) (masters : List Masterly) → found_in (D.view disk.old).seen ≡ Ok f
             → OpensWith f masters → (resized size now (place_found f) ≢ [] → HasTimeLeft (place_found f))
             → OpensHaving result masters }
+        // It stops for a cause, whatever the disk tells.
+        ensures stops { IfErr result (StopsPrimary size now) }
         ensures room { IfOk result (λ o. (o.dumps ≡ 0) × (o.room ≡ room)) }
         ensures whole { IfOk result (λ o. o.kept.broken ≡ false) }
         ensures on { D.tells → IfOk result (λ o. IsOnDisk o.kept (D.view disk.new)) }
+        // Files of format 1 are written whole, in format 2.
+        ensures written { D.tells → (f : Found) → found_in (D.view disk.old).seen ≡ Ok f → (place_found f).format ≢ 2
+            → IfOk result (λ o. IsWrittenAnew (D.view disk.new) o.kept (reset_point now (place_found f))) }
         ensures moments { D.tells → LeavesOnly (D.view disk.old) (D.view disk.new)
             (MayOpen (D.view disk.old) (found_in (D.view disk.old).seen) size now) }
         // Want of memory begins no log anew.

@@ -13,7 +13,7 @@ ghost use Rattle.kdb_histories.specs.Leaving.{Does, MayReach};
 ghost use Rattle.kdb_histories.specs.Seen.{reset_point};
 ghost use Rattle.kdb_model.specs.Laws.{at_point};
 ghost use Rattle.kdb_plain.specs.declared.states.State.{State};
-ghost use Rattle.primary_core.specs.Opened.{HasState, MayLeave};
+ghost use Rattle.primary_core.specs.Opened.{HasState, IsWrittenAnew, MayLeave};
 ghost use Rattle.primary_core.specs.Refusing.{reset_refused, stash_refused};
 ghost use Rattle.primary_disk.specs.Held.{is_broken, place_in};
 ghost use Rattle.primary_disk.specs.Leaving.{Leaves, MayStop};
@@ -120,6 +120,9 @@ impl<D: Disk> DiskPrimary<D> {
             → OnErr result (MayReach (place_in self.old) s (Load dump.rows now) (place_in self.new)) }
         ensures err { OnErr result (place_in self.new ≡ place_in self.old) }
         ensures err_masters { OnErr result (self.new.opened.masters ≡ self.old.opened.masters) }
+        // The file of cells is written whole, in format 2.
+        ensures written { D.tells → OnOk result
+            (IsWrittenAnew (D.view self.new.disk) self.new.opened.kept (reset_point now (place_in self.old))) }
         ensures whole { OnOk result (is_broken self.new ≡ false) }
         ensures leaves { Leaves D.Disk self.old self.new (result ≡ Err (stops.Halt IsMemoryOut))
             (result ≡ Err (stops.Halt IsDiskFault)) }

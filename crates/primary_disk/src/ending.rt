@@ -1,6 +1,6 @@
 //! The end of a database, and the disk handed back.
 
-ghost use Rattle.std.specs.Prelude.{◌≡◌, false, Err, IfOk};
+ghost use Rattle.std.specs.Prelude.{◌≡◌, false, Err, IfErr, IfOk};
 ghost use Rattle.kdb_base.specs.declared.outcomes.Halt.TheVariants.{DiskFault as IsDiskFault, MemoryOut as IsMemoryOut};
 ghost use Rattle.kdb_base.specs.declared.outcomes.Refusal.{Refusal as Refuses};
 ghost use Rattle.kdb_base.specs.declared.outcomes.Stop.TheVariants as stops;
@@ -10,6 +10,7 @@ ghost use Rattle.primary_core.specs.Ending.{IsCut, MayEnd};
 ghost use Rattle.primary_disk.specs.Handing.{disk_back, ended_in};
 ghost use Rattle.primary_disk.specs.Held.{Stands, is_broken, place_in};
 ghost use Rattle.store_files.specs.Recovery.{Destroys, RecoversToNone};
+ghost use Rattle.store_opening.specs.Looking.{StopsOpening};
 
 use crate::primary::DiskPrimary;
 use kdb_base::Stop;
@@ -33,6 +34,8 @@ impl<D: Disk> DiskPrimary<D> {
             → IsCrashSafe D.Disk self.disk (disk_back result) (MayEnd (place_in self)) }
         ensures refused { D.tells → is_broken self ≡ false → (why : Refuses)
             → ended_in result ≡ Err (stops.Refused why) → ⊥ }
+        // A refusal is one of an opening of the files, whatever the disk tells.
+        ensures stops { IfErr (ended_in result) StopsOpening }
         ensures memory { ended_in result ≡ Err (stops.Halt IsMemoryOut) → ⊥ }
         ensures call { IsCall D.Disk self.disk (disk_back result) (ended_in result ≡ Err (stops.Halt IsDiskFault)) }
     {
@@ -48,6 +51,7 @@ impl<D: Disk> DiskPrimary<D> {
         ensures value { result ≡ self.disk }
         ensures stands { Stands D.Disk result self.opened }
     {
+        drop(self.primary);
         self.disk
     }
 }

@@ -1,6 +1,6 @@
 //! A primary made anew, or opened, on a disk that is handed over. An error hands it back.
 
-ghost use Rattle.std.specs.Prelude.{◌≡◌, ◌≢◌, ◌≤◌, [], false, Err, IfOk, IfSome, List, Ok};
+ghost use Rattle.std.specs.Prelude.{◌≡◌, ◌≢◌, ◌≤◌, [], false, Err, IfErr, IfOk, IfSome, List, Ok};
 ghost use Rattle.first_rows.specs.Creation.{first_state};
 ghost use Rattle.kdb_base.specs.declared.outcomes.Halt.TheVariants.{MemoryOut as IsMemoryOut, DiskFault as IsDiskFault};
 ghost use Rattle.kdb_base.specs.declared.outcomes.Refusal.{Refusal as Refuses};
@@ -11,14 +11,16 @@ ghost use Rattle.kdb_control.specs.declared.force.Force.TheVariants.{Nothing};
 ghost use Rattle.kdb_disk.specs.Frames.{IsCall};
 ghost use Rattle.kdb_disk.specs.Moments.{Keeps, LeavesOnly};
 ghost use Rattle.kdb_histories.specs.Calls.{HasTimeLeft, resized};
-ghost use Rattle.primary_core.specs.Opened.{HasState};
+ghost use Rattle.kdb_histories.specs.Seen.{reset_point};
+ghost use Rattle.primary_core.specs.Opened.{HasState, IsWrittenAnew};
 ghost use Rattle.primary_core.specs.Opening.{IsRefusedAs, MayOpen, OpeningRefused, OpensHaving, OpensTo, OpensWith};
-ghost use Rattle.primary_core.specs.Opening.{RecoversAs, first_control, first_file, first_place, place_found};
+ghost use Rattle.primary_core.specs.Opening.{RecoversAs, StopsPrimary, first_control, first_file, first_place};
+ghost use Rattle.primary_core.specs.Opening.{place_found};
 ghost use Rattle.primary_disk.specs.Handing.{disk_behind, opened_in};
 ghost use Rattle.primary_disk.specs.Held.{is_broken, place_in};
 ghost use Rattle.store_files.specs.Found.{Found, found_in};
 ghost use Rattle.store_files.specs.Recovery.{Creates, IsLike};
-ghost use Rattle.store_opening.specs.Made.{AnswersMade};
+ghost use Rattle.store_opening.specs.Made.{AnswersMade, StopsMaking};
 ghost use Rattle.store_opening.specs.Moments.{HasFile};
 
 use crate::primary::DiskPrimary;
@@ -44,6 +46,8 @@ impl<D: Disk> DiskPrimary<D> {
         random: &[u8; 2048],
     ) -> Result<DiskPrimary<D>, (D, Stop)>
         ensures answer { D.tells → AnswersMade (opened_in result) (in_force ((D.view disk).seen 0)) }
+        // Nothing else is refused, whatever the disk tells.
+        ensures stops { IfErr (opened_in result) StopsMaking }
         ensures place { IfOk result (λ h. place_in h ≡ first_place spec.now now random.now) }
         // The files are the first of each kind, and so is the turn of the slot.
         ensures control { IfOk result (λ h. h.opened.kept.control ≡ first_control spec.now now) }
@@ -95,8 +99,13 @@ impl<D: Disk> DiskPrimary<D> {
         ensures complete { D.tells → (f : Found) (masters : List Masterly) → found_in (D.view disk).seen ≡ Ok f
             → OpensWith f masters → (resized size now (place_found f) ≢ [] → HasTimeLeft (place_found f))
             → OpensHaving (opened_in result) masters }
+        // It stops for a cause, whatever the disk tells.
+        ensures stops { IfErr (opened_in result) (StopsPrimary size now) }
         ensures room { IfOk result (λ h. (h.opened.dumps ≡ 0) × (h.opened.room ≡ places)) }
         ensures whole { IfOk result (λ h. is_broken h ≡ false) }
+        // Files of format 1 are written whole, in format 2.
+        ensures written { D.tells → (f : Found) → found_in (D.view disk).seen ≡ Ok f → (place_found f).format ≢ 2
+            → IfOk result (λ h. IsWrittenAnew (D.view h.disk) h.opened.kept (reset_point now (place_found f))) }
         ensures moments { D.tells → LeavesOnly (D.view disk) (D.view (disk_behind result))
             (MayOpen (D.view disk) (found_in (D.view disk).seen) size now) }
         // Want of memory begins no log anew.

@@ -13,7 +13,7 @@ ghost use Rattle.kdb_histories.specs.Leaving.{Does, MayReach};
 ghost use Rattle.kdb_histories.specs.Seen.{reset_point};
 ghost use Rattle.kdb_places.specs.Places.{replaced};
 ghost use Rattle.kdb_plain.specs.declared.states.State.{State};
-ghost use Rattle.primary_core.specs.Opened.{MayLeave, place_of};
+ghost use Rattle.primary_core.specs.Opened.{IsWrittenAnew, MayLeave, place_of};
 ghost use Rattle.primary_loading.specs.Loading.{HasLoaded, IsFilled, LoadRefused, LoadsWith, MayLoad, load_time};
 ghost use Rattle.row_keys.specs.Sound.{AreSound, HasState as HasStateOf, judged};
 ghost use Rattle.stash_opening.specs.Answers.{Refuses as RefusesFor};
@@ -107,6 +107,7 @@ fn put_rows<D: Disk>(
     ensures err_masters { OnErr result (primary.new.masters ≡ primary.old.masters) }
     ensures dumps { (primary.new.dumps ≡ primary.old.dumps) × (primary.new.room ≡ primary.old.room) }
     ensures on { D.tells → OnOk result (IsOnDisk primary.new.kept (D.view disk.new)) }
+    ensures written { D.tells → OnOk result (IsWrittenAnew (D.view disk.new) primary.new.kept base) }
     ensures crash { IsCrashSafe D.Disk disk.old disk.new (LeavesPart (place_of primary.old)
         (replaced (place_of primary.old).realm rows base (place_of primary.old) ∷ [])) }
     ensures memory { result ≡ Err (stops.Halt IsMemoryOut) → disk.new ≡ disk.old }
@@ -167,6 +168,9 @@ pub fn load<D: Disk>(
     ensures err_masters { OnErr result (primary.new.masters ≡ primary.old.masters) }
     ensures dumps { (primary.new.dumps ≡ primary.old.dumps) × (primary.new.room ≡ primary.old.room) }
     ensures on { D.tells → OnOk result (IsOnDisk primary.new.kept (D.view disk.new)) }
+    // The file of cells is written whole, in format 2.
+    ensures written { D.tells
+        → OnOk result (IsWrittenAnew (D.view disk.new) primary.new.kept (reset_point now (place_of primary.old))) }
     ensures memory { result ≡ Err (stops.Halt IsMemoryOut) → disk.new ≡ disk.old }
     ensures still { D.tells → result ≡ Err (stops.Halt IsMemoryOut) → IsOnDisk primary.new.kept (D.view disk.new) }
     ensures whole { OnOk result (primary.new.kept.broken ≡ false) }

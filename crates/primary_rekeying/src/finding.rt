@@ -109,6 +109,7 @@ pub(crate) fn settled(
     let _ = rows.princs();
     let Some(active) = active_version(alloc, primary, now)? else {
         // A primary has an active version.
+        drop(work);
         return Err(MemoryOut);
     };
     let stored = record_named(rows, work.taken().princ().name.as_slice());

@@ -29,6 +29,12 @@ const DECIDED: [(&[u8], u8, &[u8], u32, bool); 8] = [
     (b"bob/text", b'i', b"*1", 4, true),
 ];
 
+/// The line that decides, its answer, and whether it has restrictions.
+fn decided(acl: &Acl, client: &Name, letter: u8, target: &Name) -> (u32, bool, bool) {
+    let verdict = acl.decide(client, letter, Some(target));
+    (verdict.line, verdict.allowed, verdict.limits.is_some())
+}
+
 fn check_decided(
     rt: &impl Abort,
     alloc: Global,
@@ -41,10 +47,8 @@ fn check_decided(
 ) -> Result<(), Fail> {
     let client = parse_name(alloc, client, REALM)?;
     let target = parse_name(alloc, target, REALM)?;
-    let verdict = acl.decide(&client, letter, Some(&target));
-    assert_eq!(rt; verdict.line, line);
-    assert_eq!(rt; verdict.allowed, allowed);
-    assert!(rt; verdict.limits.is_none());
+    let found = decided(acl, &client, letter, &target);
+    assert_eq!(rt; found, (line, allowed, false));
     Ok(())
 }
 

@@ -45,7 +45,9 @@ fn is_logged(alloc: Global, bytes: &[u8]) -> Result<bool, FormatFault> {
     match read_whole::<LoggedFormat>(alloc, bytes) {
         Ok(logged) => {
             let mut out = Vec::new(alloc);
-            LoggedFormat::write(&mut out, &logged)?;
+            let written = LoggedFormat::write(&mut out, &logged);
+            drop(logged);
+            written?;
             Ok(out.as_slice() == bytes)
         }
         Err(fault) => none_by(fault),
@@ -57,7 +59,9 @@ fn is_sent(alloc: Global, bytes: &[u8]) -> Result<bool, FormatFault> {
     match read_whole::<SentFormat>(alloc, bytes) {
         Ok(entry) => {
             let mut out = Vec::new(alloc);
-            SentFormat::write(&mut out, &entry)?;
+            let written = SentFormat::write(&mut out, &entry);
+            drop(entry);
+            written?;
             Ok(out.as_slice() == bytes)
         }
         Err(fault) => none_by(fault),

@@ -25,6 +25,7 @@ fn princ_named(alloc: Global, name: &[u8]) -> Result<Princ, Fail>
     bytes.extend_from_slice(BEHIND)?;
     let princ = decode(alloc, &bytes)?;
     if encoded_len(&princ) > MAX_ROW_LEN {
+        drop(princ);
         return Err(Fail::from("too long"));
     }
     Ok(princ)
@@ -37,6 +38,7 @@ fn begun(rows: &mut Rows, op: Op) -> Result<Begun, Fail>
     ensures { IfOk result (λ b. IsBegun b rows.new) }
 {
     if !rows.has_room_for(&op) {
+        drop(op);
         return Err(Fail::from("no room"));
     }
     Ok(rows.begin(op)?)
@@ -48,6 +50,7 @@ fn renaming(rows: &mut Rows, old: Blob, princ: Princ) -> Result<Begun, Fail>
     ensures { IfOk result (λ b. IsBegun b rows.new) }
 {
     if rows.princ(princ.name.as_slice()).is_some() {
+        drop(princ);
         return Err(Fail::from("the new name is there"));
     }
     begun(rows, Op::Rename(old, princ))

@@ -109,7 +109,7 @@ fn load_parts<D: Disk>(
         Some(database) => database.replace(alloc, disk, realm, rows, point),
         None => match make(alloc, disk, &realm, rows, point, size) {
             Ok(made) => {
-                *database = Some(made);
+                drop(database.replace(made));
                 Ok(())
             }
             Err(halt) => Err(halt),

@@ -106,7 +106,10 @@ fn open_as<D: Disk>(
 {
     match renew(alloc, &mut database, disk, size) {
         Ok(()) => Ok(Replica::of_parts(Some(database), size)),
-        Err(halt) => Err(halt),
+        Err(halt) => {
+            drop(database);
+            Err(halt)
+        }
     }
 }
 

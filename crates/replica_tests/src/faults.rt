@@ -50,8 +50,9 @@ const CASES: [Case; 3] = [
 fn play(alloc: Global, disk: &mut MemoryDisk, step: &Step) -> Result<(u64, Answer), Fail> {
     let mut replica = opened(alloc, disk)?;
     let before = disk.calls();
-    let answer = run(alloc, &mut replica, disk, step)?;
-    Ok((before, answer))
+    let answer = run(alloc, &mut replica, disk, step);
+    drop(replica);
+    Ok((before, answer?))
 }
 
 /// Does the steps one after another.
@@ -121,7 +122,9 @@ fn stands_at_one(replica: &Replica, places: &[Place]) -> bool {
 fn is_found(alloc: Global, disk: &MemoryDisk, places: &[Place]) -> Result<bool, Fail> {
     let mut copy = copied(alloc, disk)?;
     let replica = opened(alloc, &mut copy)?;
-    Ok(stands_at_one(&replica, places))
+    let stands = stands_at_one(&replica, places);
+    drop(replica);
+    Ok(stands)
 }
 
 /// This call of the step fails.

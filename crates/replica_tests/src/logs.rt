@@ -84,14 +84,18 @@ fn answers<D: Disk>(
 
 fn is_done(alloc: Global, disk: &mut MemoryDisk, turn: &Turn) -> Result<bool, Fail> {
     let mut replica = opened_with(alloc, disk, turn.size)?;
-    let answered = answers(alloc, &mut replica, disk, turn)?;
-    Ok(answered && is_there(&replica, turn))
+    let answered = answers(alloc, &mut replica, disk, turn);
+    let there = is_there(&replica, turn);
+    drop(replica);
+    Ok(answered? && there)
 }
 
 /// Whether the disk has the replica and its log there.
 fn is_found(alloc: Global, disk: &mut MemoryDisk, turn: &Turn) -> Result<bool, Fail> {
     let replica = opened_with(alloc, disk, turn.size)?;
-    Ok(is_there(&replica, turn))
+    let there = is_there(&replica, turn);
+    drop(replica);
+    Ok(there)
 }
 
 fn check_turn(

@@ -15,22 +15,26 @@ const AT_3: At = (3, SECS, 0);
 
 const AT_4: At = (4, SECS, 0);
 
+const TWO_LOADED: Turn = Turn {
+    step: Step::Load(TWO),
+    answer: Answer::Loaded(AT_2),
+    calls_disk: true,
+    point: AT_2,
+    names: &[AMY, BOB],
+};
+
+const UPDATED: Turn = Turn {
+    step: Step::Take(UPDATES),
+    answer: Answer::Taken(Taken4::Updated(2)),
+    calls_disk: true,
+    point: AT_4,
+    names: &[AMY, EVE],
+};
+
 // The same reply again answers another point than the replica then has.
 const ONCE: [Turn; 5] = [
-    Turn {
-        step: Step::Load(TWO),
-        answer: Answer::Loaded(AT_2),
-        calls_disk: true,
-        point: AT_2,
-        names: &[AMY, BOB],
-    },
-    Turn {
-        step: Step::Take(UPDATES),
-        answer: Answer::Taken(Taken4::Updated(2)),
-        calls_disk: true,
-        point: AT_4,
-        names: &[AMY, EVE],
-    },
+    TWO_LOADED,
+    UPDATED,
     Turn {
         step: Step::Take(UPDATES),
         answer: Answer::WrongPoint(AT_2, AT_4),
@@ -38,13 +42,7 @@ const ONCE: [Turn; 5] = [
         point: AT_4,
         names: &[AMY, EVE],
     },
-    Turn {
-        step: Step::Load(TWO),
-        answer: Answer::Loaded(AT_2),
-        calls_disk: true,
-        point: AT_2,
-        names: &[AMY, BOB],
-    },
+    TWO_LOADED,
     Turn {
         step: Step::TakeTwice(UPDATES),
         answer: Answer::WrongPoint(AT_2, AT_4),
@@ -61,13 +59,7 @@ fn updates_are_taken_once(rt: HostRuntime) -> Result<(), Fail> {
 
 // So it does behind a dump that was loaded meanwhile, of the point to which it leads.
 const LOADED: [Turn; 3] = [
-    Turn {
-        step: Step::Load(TWO),
-        answer: Answer::Loaded(AT_2),
-        calls_disk: true,
-        point: AT_2,
-        names: &[AMY, BOB],
-    },
+    TWO_LOADED,
     Turn {
         step: Step::LoadAndTake(FOUR, UPDATES),
         answer: Answer::WrongPoint(AT_2, AT_4),
@@ -98,13 +90,7 @@ const OLD: [Turn; 3] = [
         point: AT_2,
         names: &[AMY, BOB],
     },
-    Turn {
-        step: Step::Take(UPDATES),
-        answer: Answer::Taken(Taken4::Updated(2)),
-        calls_disk: true,
-        point: AT_4,
-        names: &[AMY, EVE],
-    },
+    UPDATED,
     Turn {
         step: Step::LoadAndTake(OLD_TWO, UPDATES),
         answer: Answer::Taken(Taken4::Updated(2)),
@@ -151,13 +137,7 @@ fn no_serial_comes_behind_no_database(rt: HostRuntime) -> Result<(), Fail> {
 
 // A reply is refused as a whole where its updates do not run on. Where one may not be made, those before it are.
 const GAPS: [Turn; 4] = [
-    Turn {
-        step: Step::Load(TWO),
-        answer: Answer::Loaded(AT_2),
-        calls_disk: true,
-        point: AT_2,
-        names: &[AMY, BOB],
-    },
+    TWO_LOADED,
     Turn {
         step: Step::Take(SKIPPED),
         answer: Answer::Gap(3, AT_4),

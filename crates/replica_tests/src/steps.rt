@@ -247,16 +247,19 @@ pub(crate) fn stands(replica: &Replica, point: At, names: &[&[u8]]) -> bool {
 fn is_done(alloc: Global, disk: &mut MemoryDisk, turn: &Turn) -> Result<bool, Fail> {
     let mut replica = opened(alloc, disk)?;
     let before = disk.calls();
-    let answer = run(alloc, &mut replica, disk, &turn.step)?;
+    let answer = run(alloc, &mut replica, disk, &turn.step);
     let called = disk.calls() != before;
     let stands = stands(&replica, turn.point, turn.names);
-    Ok(answer == turn.answer && called == turn.calls_disk && stands)
+    drop(replica);
+    Ok(answer? == turn.answer && called == turn.calls_disk && stands)
 }
 
 // Whether the disk has the replica there.
 fn is_found(alloc: Global, disk: &mut MemoryDisk, turn: &Turn) -> Result<bool, Fail> {
     let replica = opened(alloc, disk)?;
-    Ok(stands(&replica, turn.point, turn.names))
+    let stands = stands(&replica, turn.point, turn.names);
+    drop(replica);
+    Ok(stands)
 }
 
 /// Takes the turn of this number.

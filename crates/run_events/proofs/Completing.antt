@@ -1,15 +1,19 @@
 -- What is done where nothing is refused and nothing stops it.
-use Rattle.std.proofs.Common.{◌≡◌, ◌∙◌, ◌<◌, ◌+◌, ◌⊎◌, ℕ, true, false, List, Option, Some, None, inl, inr}
+use Rattle.std.proofs.Common.{◌≡◌, ◌∙◌, ◌<◌, ◌+◌, ◌⊎◌, ℕ, Bool, true, false, List, Option, Some, None, inl, inr}
 use Rattle.std.proofs.Common.{Result, Ok, Err, length, refl, sym, ap, subst, arith}
 use Rattle.std.proofs.lemmas.Option.{same_Some}
 use Rattle.std.specs.Prelude.{option_map}
 use Rattle.first_rows.specs.Parts.{SpecParts}
 use Rattle.kadm_commands.specs.declared.replies.Reply.{Reply}
+use Rattle.kadm_keytabs.specs.Renewals.{Renewal}
+use Rattle.kadm_keytabs.specs.declared.answers.Answer.{Answer}
+use Rattle.kadm_loading.specs.Loads.{LoadEnd, is_refused}
 use Rattle.kadm_session.specs.Courses.{course, end_with, ending, ending_by}
 use Rattle.kadm_session.specs.Steps.{said}
 use Rattle.kadm_session.specs.declared.intake.Asked.{Asked}
-use Rattle.kadm_top.specs.Openings.{AMoment, Drawn, Ends, Makes, Opening, Opens, Tells, behind}
-use Rattle.kadm_top.specs.Run.{RunEnd, RunEndsAs, Told, commands_for, end_made, end_opened, run_end}
+use Rattle.kadm_top.specs.Openings.{AMoment, Adds, AddsNew, Drawn, Ends, Filters, Loads, Makes, Opening, Opens}
+use Rattle.kadm_top.specs.Openings.{Renewed, Tells, behind}
+use Rattle.kadm_top.specs.Run.{RunEnd, RunEndsAs, Told, commands_for, end_made, end_opened, load_end, run_end}
 use Rattle.kadm_top.specs.Statuses.{Faults, IsRun}
 use Rattle.kdb_base.specs.Causes.{Rose}
 use Rattle.kdb_base.specs.declared.outcomes.Halt.{Halt}
@@ -34,8 +38,9 @@ use Rattle.primary_core.specs.Opening.{OpensAt, place_found}
 use Rattle.primary_events.proofs.Opened.{found_at}
 use Rattle.primary_events.specs.At.{StandsAt, StandsFor}
 use Rattle.run_events.specs.Coming.{HasHistory}
-use Rattle.run_events.specs.Completeness.{HasStashOf, IsCaused, IsDoneOrMemoryOut, IsPerformed}
-use Rattle.run_events.specs.Completeness.{IsReplyOrMemoryOut, NothingStopped, RefusesNothing, SaysNoRefusal}
+use Rattle.run_events.specs.Completeness.{EndedTooLong, HasStashOf, IsCaused, IsDoneOrMemoryOut, IsPerformed}
+use Rattle.run_events.specs.Completeness.{IsReplyOrMemoryOut, NothingFailed, NothingStopped}
+use Rattle.run_events.specs.Completeness.{RefusesNothing, SaysNoRefusal}
 use Rattle.run_events.specs.Completeness.{WasTooLong, model_reply}
 use Rattle.session_base.specs.Draws.{Draws, behind_moment}
 use Rattle.session_base.specs.Wholes.{WereTaken}
@@ -51,21 +56,32 @@ read_fault reads draws none other (inl rose) = none rose
 read_fault reads draws none other (inr rose) = other rose
 
 module _ (before after : Told) (o : Opening) (old now : View) (first last : Faults) where
-  pub run_done : (result : Status) → IsRun o old now before after result → IsCaused before after first last result
-      → RefusesNothing o before → NothingStopped before after first last → IsDoneOrMemoryOut result
-  run_done status.Done run caused nothing still = inl refl
-  run_done status.Refused run caused nothing still =
+  pub run_ended : (result : Status) → IsRun o old now before after result → IsCaused before after first last result
+      → RefusesNothing o before → NothingFailed first last
+      → IsDoneOrMemoryOut result ⊎ EndedTooLong before after result
+  run_ended status.Done run caused nothing still = inl (inl refl)
+  run_ended status.Refused run caused nothing still =
       let ends : RunEndsAs after.taken true after.draws old now nothing.end = run.ended nothing.end nothing.end_is in
       let both : true ≡ false = ends.refused_is ∙ nothing.none in
       absurd cc
-  run_done status.MemoryOut run caused nothing still = inr refl
-  run_done status.ReadFault run caused nothing still =
+  run_ended status.MemoryOut run caused nothing still = inl (inr refl)
+  run_ended status.ReadFault run caused nothing still =
       absurd (read_fault (Rose first.reads last.reads) (Rose first.draws last.draws) still.reads still.draws
       (caused.faults.read refl))
-  run_done status.WriteFault run caused nothing still = absurd (still.writes (caused.faults.writes.cause refl))
-  run_done status.DiskFault run caused nothing still = absurd (still.calls (caused.faults.calls.cause refl))
-  run_done status.LinkFault run caused nothing still = absurd (caused.faults.no_link refl)
-  run_done status.InputTooLong run caused nothing still = absurd (still.short (caused.long refl))
+  run_ended status.WriteFault run caused nothing still = absurd (still.writes (caused.faults.writes.cause refl))
+  run_ended status.DiskFault run caused nothing still = absurd (still.calls (caused.faults.calls.cause refl))
+  run_ended status.LinkFault run caused nothing still = absurd (caused.faults.no_link refl)
+  run_ended status.InputTooLong run caused nothing still = inr (refl, caused.long refl)
+
+  pub not_long : (result : Status) → (WasTooLong before after → ⊥)
+      → IsDoneOrMemoryOut result ⊎ EndedTooLong before after result → IsDoneOrMemoryOut result
+  not_long result short (inl ended) = ended
+  not_long result short (inr long) = absurd (short long.1)
+
+  pub run_done : (result : Status) → IsRun o old now before after result → IsCaused before after first last result
+      → RefusesNothing o before → NothingStopped before after first last → IsDoneOrMemoryOut result
+  run_done result run caused nothing still =
+      not_long result still.short (run_ended result run caused nothing still.failed)
 
 -- ---- what an input asks for
 
@@ -104,6 +120,26 @@ one_made spec before draws is =
 
 pub one_ended : (before : Told) → RefusesNothing Ends before
 one_ended before = refuses_none Ends before _ refl refl
+
+pub one_loaded : (begin : Place) (made : List Place) (at : Seen) (end : LoadEnd) (before : Told) (draws : Draws)
+    → before.draws ≡ Some draws → is_refused end ≡ false → RefusesNothing (Loads begin made at (Some end)) before
+one_loaded begin made at end before draws is none =
+    refuses_none (Loads begin made at (Some end)) before _
+    (ap (λ (x : Option Draws). load_end (Some end) x at.place before.taken) (ap (behind AMoment) is)) none
+
+pub one_added : (begin : Place) (made : List Place) (at : Seen) (reads : Bool) (answer : Answer) (before : Told)
+    → answer.refused ≡ false → RefusesNothing (Adds begin made at reads (Some answer)) before
+one_added begin made at reads answer before none =
+    refuses_none (Adds begin made at reads (Some answer)) before _ refl none
+
+pub one_renewed : (begin : Place) (made : List Place) (at : Seen) (reads : Bool) (renewal : Renewal) (before : Told)
+    → renewal.answer.refused ≡ false → RefusesNothing (AddsNew begin made at reads (Renewed renewal)) before
+one_renewed begin made at reads renewal before none =
+    refuses_none (AddsNew begin made at reads (Renewed renewal)) before _ refl none
+
+pub one_filtered : (answer : Answer) (before : Told) → answer.refused ≡ false
+    → RefusesNothing (Filters (Some answer)) before
+one_filtered answer before none = refuses_none (Filters (Some answer)) before _ refl none
 
 -- ---- an input that is not too long
 

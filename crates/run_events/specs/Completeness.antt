@@ -57,17 +57,25 @@ pub record IsCaused (before after : Told) (first last : Faults) (result : Status
   pub faults : StatusHasCauses first last result
   pub long : result ≡ status.InputTooLong → WasTooLong before after
 
--- No count of faults rose, and the input was not too long.
-pub record NothingStopped (before after : Told) (first last : Faults) : Type 0 where
+-- No count of faults rose.
+pub record NothingFailed (first last : Faults) : Type 0 where
   pub reads : Rose first.reads last.reads → ⊥
   pub writes : Rose first.writes last.writes → ⊥
   pub calls : Rose first.calls last.calls → ⊥
   pub draws : Rose first.draws last.draws → ⊥
+
+-- neither did it, nor was the input too long
+pub record NothingStopped (before after : Told) (first last : Faults) : Type 0 where
+  pub failed : NothingFailed first last
   pub short : WasTooLong before after → ⊥
 
 -- all was done and nothing refused, or memory was wanted and not given
 abbrev pub IsDoneOrMemoryOut : Status → Type 0
 IsDoneOrMemoryOut result = (result ≡ status.Done) ⊎ (result ≡ status.MemoryOut)
+
+-- the input was too long, of which so many bytes were taken
+abbrev pub EndedTooLong : Told → Told → Status → Type 0
+EndedTooLong before after result = (result ≡ status.InputTooLong) × WasTooLong before after
 
 -- ---- a command
 

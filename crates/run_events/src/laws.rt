@@ -1,11 +1,15 @@
 //! Laws that make events of a primary's history of what a whole run of the program says. They do no work.
 
-ghost use Rattle.std.specs.Prelude.{◌≡◌, ◌≢◌, ◌<◌, [], ℕ, Bool, List, Option, Some, Result, Ok, length};
+ghost use Rattle.std.specs.Prelude.{◌≡◌, ◌≢◌, ◌<◌, ◌⊎◌, [], false, ℕ, Bool, List};
+ghost use Rattle.std.specs.Prelude.{Option, Some, Result, Ok, length};
 ghost use Rattle.first_rows.specs.Parts.{SpecParts};
 ghost use Rattle.kadm_commands.specs.declared.replies.Reply.{Reply};
-ghost use Rattle.kadm_loading.specs.Loads.{LoadEnd};
+ghost use Rattle.kadm_keytabs.specs.Renewals.{Renewal};
+ghost use Rattle.kadm_keytabs.specs.declared.answers.Answer.{Answer};
+ghost use Rattle.kadm_loading.specs.Loads.{LoadEnd, is_refused};
 ghost use Rattle.kadm_session.specs.declared.intake.Asked.{Asked as Asks};
-ghost use Rattle.kadm_top.specs.Openings.{AddsNew, Drawn, Ends, Loads, Makes, Opening, Opens, Renewing, Tells};
+ghost use Rattle.kadm_top.specs.Openings.{Adds, AddsNew, Drawn, Ends, Filters, Loads, Makes, Opening, Opens};
+ghost use Rattle.kadm_top.specs.Openings.{Renewed, Renewing, Tells};
 ghost use Rattle.kadm_top.specs.Run.{RunEnd, RunLeaves, Same, Told, run_end};
 ghost use Rattle.kadm_top.specs.Statuses.{Faults, IsRun, OnEnd};
 ghost use Rattle.kdb_base.specs.Causes.{Rose};
@@ -23,8 +27,9 @@ ghost use Rattle.primary_events.specs.At.{StandsFor};
 ghost use Rattle.primary_events.specs.Premises.{MayOpenAt};
 ghost use Rattle.run_events.specs.Beginning.{Begins, HasOpened};
 ghost use Rattle.run_events.specs.Coming.{HasCome, HasHistory, RestsAt, RunsDown};
-ghost use Rattle.run_events.specs.Completeness.{HasStashOf, IsCaused, IsDoneOrMemoryOut, IsPerformed};
-ghost use Rattle.run_events.specs.Completeness.{IsReplyOrMemoryOut, NothingStopped, RefusesNothing, SaysNoRefusal};
+ghost use Rattle.run_events.specs.Completeness.{EndedTooLong, HasStashOf, IsCaused, IsDoneOrMemoryOut, IsPerformed};
+ghost use Rattle.run_events.specs.Completeness.{IsReplyOrMemoryOut, NothingFailed, NothingStopped, RefusesNothing};
+ghost use Rattle.run_events.specs.Completeness.{SaysNoRefusal};
 ghost use Rattle.run_events.specs.Completeness.{WasTooLong, model_reply};
 ghost use Rattle.session_base.specs.Draws.{Draws, moment_in};
 ghost use Rattle.store_files.specs.Found.{Found, found_in, recovers};
@@ -135,6 +140,12 @@ pub fn runs_complete<D: Disk>(_before: &D, _after: &D)
         → IsRun o (D.view _before.now) (D.view _after.now) before after result
         → IsCaused before after first last result
         → RefusesNothing o before → NothingStopped before after first last → IsDoneOrMemoryOut result }
+    // Where it is not told how long the input was, its status may be that of one that is too long, and then so many
+    // bytes of it were taken.
+    ensures unfailed { (before after : Told) (o : Opening) (first last : Faults) (result : Ended)
+        → IsRun o (D.view _before.now) (D.view _after.now) before after result
+        → IsCaused before after first last result → RefusesNothing o before → NothingFailed first last
+        → IsDoneOrMemoryOut result ⊎ EndedTooLong before after result }
     // Where a database is opened and asked, nothing is refused where no reply is a refusal. Neither is anything of a
     // text that is told, of a creation, whose clock and random bytes are told, or of an end.
     ensures lines { (begin : Place) (made : List Place) (at : Seen) (asked : Option Asks) (before : Told)
@@ -143,6 +154,16 @@ pub fn runs_complete<D: Disk>(_before: &D, _after: &D)
     ensures makes { (spec : SpecParts) (before : Told) (draws : Draws) → before.draws ≡ Some draws
         → RefusesNothing (Makes spec) before }
     ensures ends { (before : Told) → RefusesNothing Ends before }
+    // Neither is anything of a load or of a keytab, where what they come to is told, and is no refusal.
+    ensures loads { (begin : Place) (made : List Place) (at : Seen) (end : LoadEnd) (before : Told) (draws : Draws)
+        → before.draws ≡ Some draws → is_refused end ≡ false
+        → RefusesNothing (Loads begin made at (Some end)) before }
+    ensures adds { (begin : Place) (made : List Place) (at : Seen) (reads : Bool) (answer : Answer) (before : Told)
+        → answer.refused ≡ false → RefusesNothing (Adds begin made at reads (Some answer)) before }
+    ensures renews { (begin : Place) (made : List Place) (at : Seen) (reads : Bool) (renewal : Renewal) (before : Told)
+        → renewal.answer.refused ≡ false → RefusesNothing (AddsNew begin made at reads (Renewed renewal)) before }
+    ensures filters { (answer : Answer) (before : Told) → answer.refused ≡ false
+        → RefusesNothing (Filters (Some answer)) before }
     // An input of fewer bytes is not too long.
     ensures short { (before after : Told) (text : List ℕ) → before.left ≡ Some text → length text < 4294967296
         → WasTooLong before after → ⊥ }

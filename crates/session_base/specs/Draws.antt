@@ -2,6 +2,8 @@
 use Rattle.std.specs.Prelude.{ℕ, zero, ◌+◌, suc, List, [], ◌∷◌, Option, Some, None}
 use Rattle.kdb_base.specs.Moment.{Moment}
 use Rattle.kdb_ports.specs.Told.{later_bytes, later_moments}
+use Rattle.kdb_ports.specs.declared.clocks.Clock.{Ghosts as Clocks}
+use Rattle.kdb_ports.specs.declared.entropies.Entropy.{Ghosts as Entropies}
 
 -- the moments of the clock, and the random bytes, each by their number from here on
 pub record Draws : Type 0 where
@@ -12,6 +14,10 @@ abbrev pub told_draws : Option (ℕ → Moment) → Option (ℕ → ℕ) → Opt
 told_draws None stream = None
 told_draws (Some moments) None = None
 told_draws (Some moments) (Some stream) = Some (record { moments = moments; stream = stream })
+
+-- of this clock and this source
+abbrev pub draws_by : {C E : Type 0} → Clocks C → Entropies E → C → E → Option Draws
+draws_by c e clock entropy = told_draws (c.moments clock) (e.stream entropy)
 
 -- the first so many bytes of a stream
 unfoldable pub bytes_of : ℕ → (ℕ → ℕ) → List ℕ

@@ -56,6 +56,11 @@ stash_high format turn image log stash size block all =
     ⊎_elim (λ e. omega (arith, e)) (⊎_elim (λ e. omega (arith, e)) (λ e. omega (arith, e)))
     (ranged format turn image log stash size block all).stash_is
 
+-- the file of cells is one of the first two
+pub image_either : (format turn image log stash size block : ℕ)
+    → (is_format format && in_ranges turn image log stash size block) ≡ true → (image ≡ 1) ⊎ (image ≡ 2)
+image_either format turn image log stash size block all = (ranged format turn image log stash size block all).image_is
+
 image_low : {image : ℕ} → (image ≡ 1) ⊎ (image ≡ 2) → (1 ≤ image) × (image ≤ 2)
 image_low either = ⊎_elim (λ e. (omega (arith, e), omega (arith, e))) (λ e. (omega (arith, e), omega (arith, e))) either
 

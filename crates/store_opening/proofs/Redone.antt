@@ -5,6 +5,7 @@ use Rattle.std.proofs.lemmas.Bool.{cases_eq}
 use Rattle.kdb_disk.specs.Files.{Files}
 use Rattle.kdb_disk.specs.View.{View}
 use Rattle.kdb_disk.specs.Moments.{LeavesOnly, LeavesTorn, IsSettled, Keeps, Stands}
+use Rattle.kdb_disk.proofs.Puts.{written-other}
 use Rattle.kdb_disk.proofs.Runs.{started, weaken, torn_seen, settled_after, stands_other, at_end, kept_first}
 use Rattle.kdb_cells.specs.Cells.{Cell, unit_size, unit_text}
 use Rattle.kdb_cells.specs.CellFiles.{CellFile}
@@ -242,6 +243,18 @@ on_again {old} {new} a cells late is leads seen log wrote =
       };
       durable = record { durable = λ c now. ap (λ (files : Files). files a.parts.log.file) (wrote.settled.only c now) };
     }
+
+-- no other file is written
+pub again_others : {old new : View} (a : Again) (cells : List Cell) → IsAgain a cells → IsSettled old
+    → new.images new.seen
+    → LeavesTorn a.parts.cells.file (number_of a.write * unit_size a.parts.cells.format)
+    (unit_size a.parts.cells.format) old new
+    → (g : ℕ) → g ≢ a.parts.control.image → new.seen g ≡ old.seen g
+again_others {old} {new} a cells is settled seen run g other =
+    let torn = torn_seen settled (at_end run new.seen seen) in
+    ap (λ (files : Files). files g) torn.is
+    ∙ written-other a.parts.cells.file g (number_of a.write * unit_size a.parts.cells.format) torn.bytes old.seen
+    (λ e. other (e ∙ is.chosen.image))
 
 -- ---- what was read before
 

@@ -39,3 +39,8 @@ abbrev pub AnswersMade : {A : Type 0} → Result A Stop → Force → Type 0
 AnswersMade (Ok made) force = force ≡ Nothing
 AnswersMade (Err (Refused refusal)) force = (refusal ≡ AlreadyThere) × (force ≢ Nothing)
 AnswersMade (Err (Halt halt)) force = Unit {0}
+
+-- a making is refused so, or halts
+abbrev pub StopsMaking : Stop → Type 0
+StopsMaking (Refused refusal) = refusal ≡ AlreadyThere
+StopsMaking (Halt halt) = Unit {0}

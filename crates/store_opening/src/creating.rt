@@ -22,7 +22,7 @@ ghost use Rattle.store_files.specs.Recovery.{Creates};
 ghost use Rattle.store_files.specs.Standing.{Holds};
 ghost use Rattle.store_files.specs.Switches.{first_choice};
 ghost use Rattle.update_log.specs.Moments.{HasLog, IsDurable};
-ghost use Rattle.store_opening.specs.Made.{Making, first_stash, made_choice, made_found, AnswersMade};
+ghost use Rattle.store_opening.specs.Made.{Making, first_stash, made_choice, made_found, AnswersMade, StopsMaking};
 ghost use Rattle.store_opening.specs.Moments.{HasFile};
 ghost use Rattle.store_opening.specs.Parts.{IsToBeMade, IsPlan, kept_of, kept_made};
 
@@ -153,6 +153,7 @@ fn make_settled<D: Disk>(
     requires made { (m : Making) × IsToBeMade m control.now image.old log.now (option_map (λ s. s.now) stash) }
     requires settled { D.tells → IsSettled (D.view disk.old) }
     ensures answer { D.tells → AnswersMade result (in_force ((D.view disk.old).seen 0)) }
+    ensures stops { IfErr result StopsMaking }
     ensures holds { D.tells
         → (m : Making) → IsToBeMade m control.now image.old log.now (option_map (λ s. s.now) stash.entry)
         → OnOk result (Holds (made_found m) (D.view disk.new)) }
@@ -190,6 +191,7 @@ fn make_files<D: Disk>(
 ) -> Result<(), Stop>
     requires made { (m : Making) × IsToBeMade m control.now image.old log.now (option_map (λ s. s.now) stash) }
     ensures answer { D.tells → AnswersMade result (in_force ((D.view disk.old).seen 0)) }
+    ensures stops { IfErr result StopsMaking }
     ensures holds { D.tells
         → (m : Making) → IsToBeMade m control.now image.old log.now (option_map (λ s. s.now) stash.entry)
         → OnOk result (Holds (made_found m) (D.view disk.new)) }
@@ -217,6 +219,7 @@ fn make_files<D: Disk>(
 fn make_plan<D: Disk>(disk: &mut D, plan: Plan, stash: Option<&[u8]>) -> Result<Parts, Stop>
     requires plan { (m : Making) × (IsPlan m plan × (m.stash ≡ option_map (λ s. s.now) stash)) }
     ensures answer { D.tells → AnswersMade result (in_force ((D.view disk.old).seen 0)) }
+    ensures stops { IfErr result StopsMaking }
     ensures kept { (m : Making) → IsPlan m plan → IfOk result (λ p. kept_of p ≡ kept_made m plan.image.cells) }
     ensures on { D.tells → (m : Making) → IsPlan m plan → m.stash ≡ option_map (λ s. s.now) stash.entry
         → OnOk result (IsOnDisk (kept_made m plan.image.cells) (D.view disk.new)) }
@@ -269,6 +272,8 @@ pub fn create_parts<D: Disk>(
     // in format 1 rows are shorter, and have no string attributes
     requires rows { All (IsRowOf format) rows.princs }
     ensures answer { D.tells → AnswersMade result (in_force ((D.view disk.old).seen 0)) }
+    // whatever the disk tells
+    ensures stops { IfErr result StopsMaking }
     ensures place { IfOk result (λ p.
         place_kept (kept_of p) ≡ created realm.now rows base size block (option_map (λ s. s.now) stash.entry) format) }
     // The files are the first of each kind, and so is the turn of the slot.

@@ -232,14 +232,28 @@ fn plan_again(
         → IfOk result (λ a. IsLooked a cells files) }
     ensures log { IfOk result (λ a. a.parts.log ≡ log) }
 {
+    let write = match left_write(alloc, log.last(), log.last_cell()) {
+        Ok(write) => write,
+        Err(fault) => {
+            drop(scanned);
+            drop(log);
+            return Err(fault);
+        }
+    };
     let Scanned {
         cells,
         realm,
         princs,
         policies,
     } = scanned;
-    let write = left_write(alloc, log.last(), log.last_cell())?;
-    let rows = rows_after(alloc, &log.last().op, princs, policies)?;
+    let rows = match rows_after(alloc, &log.last().op, princs, policies) {
+        Ok(rows) => rows,
+        Err(fault) => {
+            drop(cells);
+            drop(log);
+            return Err(fault);
+        }
+    };
     Ok(Again {
         parts: Parts {
             control,
@@ -269,11 +283,18 @@ pub(crate) fn look<D: Disk>(alloc: Global, disk: &mut D) -> Result<Again, Stop>
     };
     let scanned = match read_cells(alloc, disk, &control, &log) {
         Ok(scanned) => scanned,
-        Err(stop) => return Err(stop),
+        Err(stop) => {
+            drop(log);
+            return Err(stop);
+        }
     };
     let stash = match read_stash(alloc, disk, &control) {
         Ok(stash) => stash,
-        Err(halt) => return Err(Stop::Halt(halt)),
+        Err(halt) => {
+            drop(scanned);
+            drop(log);
+            return Err(Stop::Halt(halt));
+        }
     };
     match plan_again(alloc, control, log, scanned, stash) {
         Ok(again) => Ok(again),

@@ -1,5 +1,5 @@
 //! A database opened: its files are read, and the last entry is done again.
-ghost use Rattle.std.specs.Prelude.{◌≡◌, IfOk, IfErr, IsErr, Err};
+ghost use Rattle.std.specs.Prelude.{◌≡◌, ◌≢◌, ◌⊎◌, ℕ, IfOk, IfErr, IsErr, Err};
 ghost use Rattle.kdb_base.specs.declared.outcomes.Halt.TheVariants.{MemoryOut as IsMemoryOut, DiskFault as IsDiskFault};
 ghost use Rattle.kdb_base.specs.declared.outcomes.Refusal.{Refusal as Refuses};
 ghost use Rattle.kdb_base.specs.declared.outcomes.Stop.TheVariants.{Refused, Halt as Halts};
@@ -18,8 +18,16 @@ use crate::looking::{Again, look};
 use crate::parts::Parts;
 use crate::unit_writes::write_unit;
 use kdb_base::{Halt, Stop};
+use kdb_control::Control;
 use kdb_disk::{Disk, DiskFailed, settle_all};
 use std::alloc::Global;
+
+// Tells a proof that the file of cells is one of the first two, and does nothing.
+fn holds_image(control: &Control)
+    ensures { (control.now.image ≡ 1) ⊎ (control.now.image ≡ 2) }
+{
+    let _image = control.image;
+}
 
 // Does the last entry again in its unit. It takes no memory, and makes two device calls at most.
 fn write_again<D: Disk>(disk: &mut D, again: Again) -> Result<Parts, DiskFailed>
@@ -30,12 +38,19 @@ fn write_again<D: Disk>(disk: &mut D, again: Again) -> Result<Parts, DiskFailed>
     ensures found { D.tells → IfOk result (λ p. IsFoundOf (kept_of p) (found_in (D.view disk.old).seen)) }
     ensures on { D.tells → IfOk result (λ p. IsOnDisk (kept_of p) (D.view disk.new)) }
     ensures moments { D.tells → LeavesOnly (D.view disk.old) (D.view disk.new) (IsLike (D.view disk.old)) }
+    ensures others { D.tells → (g : ℕ) → g ≢ 1 → g ≢ 2 → (D.view disk.new).seen g ≡ (D.view disk.old).seen g }
+    ensures image { D.tells → IfOk result (λ p. (g : ℕ) → g ≢ p.control.image
+        → (D.view disk.new).seen g ≡ (D.view disk.old).seen g) }
     ensures call { IsCall D.Disk disk.old disk.new (IsErr result) }
 {
     let Again { mut parts, write } = again;
+    holds_image(&parts.control);
     match write_unit(disk, &mut parts.cells, write) {
         Ok(()) => Ok(parts),
-        Err(failed) => Err(failed),
+        Err(failed) => {
+            drop(parts);
+            Err(failed)
+        }
     }
 }
 
@@ -51,6 +66,9 @@ fn recover_settled<D: Disk>(alloc: Global, disk: &mut D) -> Result<Parts, Stop>
     ensures refused_keeps { D.tells → (r : Refuses) → result ≡ Err (Refused r)
         → Keeps (D.view disk.old) (D.view disk.new) }
     ensures memory_keeps { D.tells → result ≡ Err (Halts IsMemoryOut) → Keeps (D.view disk.old) (D.view disk.new) }
+    ensures others { D.tells → (g : ℕ) → g ≢ 1 → g ≢ 2 → (D.view disk.new).seen g ≡ (D.view disk.old).seen g }
+    ensures image { D.tells → IfOk result (λ p. (g : ℕ) → g ≢ p.control.image
+        → (D.view disk.new).seen g ≡ (D.view disk.old).seen g) }
     ensures refused_settled { D.tells → (r : Refuses) → result ≡ Err (Refused r) → IsSettled (D.view disk.new) }
     ensures call { IsCall D.Disk disk.old disk.new (result ≡ Err (Halts IsDiskFault)) }
 {
@@ -81,6 +99,11 @@ pub fn recover_parts<D: Disk>(alloc: Global, disk: &mut D) -> Result<Parts, Stop
     ensures refused_keeps { D.tells → (r : Refuses) → result ≡ Err (Refused r)
         → Keeps (D.view disk.old) (D.view disk.new) }
     ensures memory_keeps { D.tells → result ≡ Err (Halts IsMemoryOut) → Keeps (D.view disk.old) (D.view disk.new) }
+    // Whatever the answer is, no file is written but one of the two of cells.
+    ensures others { D.tells → (g : ℕ) → g ≢ 1 → g ≢ 2 → (D.view disk.new).seen g ≡ (D.view disk.old).seen g }
+    // Where it was opened, it is the one that is in force.
+    ensures image { D.tells → IfOk result (λ p. (g : ℕ) → g ≢ p.control.image
+        → (D.view disk.new).seen g ≡ (D.view disk.old).seen g) }
     ensures refused_settled { D.tells → (r : Refuses) → result ≡ Err (Refused r) → IsSettled (D.view disk.new) }
     ensures call { IsCall D.Disk disk.old disk.new (result ≡ Err (Halts IsDiskFault)) }
 {

@@ -1,5 +1,5 @@
 -- What an end of a database answers.
-use Rattle.std.specs.Prelude.{◌≡◌, Result, Ok, Err}
+use Rattle.std.specs.Prelude.{◌≡◌, ◌⊎◌, ℕ, Result, Ok, Err}
 use Rattle.kdb_base.specs.declared.outcomes.Refusal.{Refusal}
 use Rattle.kdb_base.specs.declared.outcomes.Refusal.TheVariants.{NotADatabase, Damaged}
 use Rattle.kdb_base.specs.declared.outcomes.Stop.{Stop}
@@ -31,3 +31,12 @@ abbrev pub Chooses : Result Choice Stop → Force → Type 0
 Chooses (Ok choice) force = force ≡ Is choice
 Chooses (Err (Refused refusal)) force = RefusesEnd force refusal
 Chooses (Err (Halt halt)) force = Unit {0}
+
+-- no database is there, or the control file is damaged at some place
+abbrev pub IsUnended : Refusal → Type 0
+IsUnended refusal = (refusal ≡ NotADatabase) ⊎ ((file : ℕ) × ((place : ℕ) × (refusal ≡ Damaged file place)))
+
+-- an end is refused so, or halts
+abbrev pub StopsEnding : Stop → Type 0
+StopsEnding (Refused refusal) = IsUnended refusal
+StopsEnding (Halt halt) = Unit {0}

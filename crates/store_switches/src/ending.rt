@@ -1,5 +1,5 @@
 //! The end of a database.
-ghost use Rattle.std.specs.Prelude.{◌≡◌, ◌≤◌, ℕ, [], Err, OnOk, IsErr};
+ghost use Rattle.std.specs.Prelude.{◌≡◌, ◌≤◌, ℕ, [], Err, IfErr, OnOk, IsErr};
 ghost use Rattle.kdb_base.specs.declared.outcomes.Halt.TheVariants.{MemoryOut, DiskFault};
 ghost use Rattle.kdb_base.specs.declared.outcomes.Refusal.{Refusal as Refuses};
 ghost use Rattle.kdb_base.specs.declared.outcomes.Stop.TheVariants.{Refused, Halt as Halts};
@@ -10,7 +10,7 @@ ghost use Rattle.kdb_control.specs.declared.force.Force.TheVariants.{Is};
 ghost use Rattle.kdb_control.specs.Force.{in_force};
 ghost use Rattle.kdb_control.specs.Moments.{HasInForce, IsDurable};
 ghost use Rattle.store_files.specs.Recovery.{Destroys, RecoversToNone};
-ghost use Rattle.store_switches.specs.Ending.{AnswersEnded, Chooses, IsChosen};
+ghost use Rattle.store_switches.specs.Ending.{AnswersEnded, Chooses, IsChosen, StopsEnding};
 
 use crate::controls::holds_files;
 use kdb_base::{Halt, Refusal, Stop};
@@ -23,6 +23,7 @@ const CONTROL: u8 = 0;
 // What is in force, or why nothing is.
 fn read_control<D: Disk>(disk: &mut D) -> Result<Control, Stop>
     ensures force { D.tells → Chooses result (in_force ((D.view disk.old).seen 0)) }
+    ensures stops { IfErr result StopsEnding }
     ensures memory { result ≡ Err (Halts MemoryOut) → ⊥ }
     ensures keeps { D.tells → Keeps (D.view disk.old) (D.view disk.new) }
     ensures call { IsCall D.Disk disk.old disk.new (result ≡ Err (Halts DiskFault)) }
@@ -53,6 +54,7 @@ fn end_chosen<D: Disk>(disk: &mut D, control: &Control) -> Result<(), DiskFailed
 fn end_synced<D: Disk>(disk: &mut D) -> Result<(), Stop>
     requires { D.tells → IsDurable (D.view disk.old) }
     ensures answer { D.tells → AnswersEnded result (in_force ((D.view disk.old).seen 0)) }
+    ensures stops { IfErr result StopsEnding }
     ensures none { D.tells → OnOk result (RecoversToNone (D.view disk.new)) }
     ensures empty { D.tells → OnOk result ((g : ℕ) → 1 ≤ g → g ≤ 6 → (D.view disk.new).seen g ≡ []) }
     ensures crash { IsCrashSafe D.Disk disk.old disk.new (Destroys (D.view disk.old)) }
@@ -80,6 +82,8 @@ fn end_synced<D: Disk>(disk: &mut D) -> Result<(), Stop>
 /// the control file breaks its grammar.
 pub fn destroy_files<D: Disk>(disk: &mut D) -> Result<(), Stop>
     ensures answer { D.tells → AnswersEnded result (in_force ((D.view disk.old).seen 0)) }
+    // whatever the disk tells
+    ensures stops { IfErr result StopsEnding }
     ensures none { D.tells → OnOk result (RecoversToNone (D.view disk.new)) }
     ensures empty { D.tells → OnOk result ((g : ℕ) → 1 ≤ g → g ≤ 6 → (D.view disk.new).seen g ≡ []) }
     ensures crash { IsCrashSafe D.Disk disk.old disk.new (Destroys (D.view disk.old)) }

@@ -1,5 +1,5 @@
 //! Rows and a log written anew into the spare files, and the choice that names both put into force.
-ghost use Rattle.std.specs.Prelude.{◌≡◌, ◌≤◌, ◌-◌, ◌∷◌, [], true, List, ℕ, OnOk, IsErr};
+ghost use Rattle.std.specs.Prelude.{◌≡◌, ◌≢◌, ◌≤◌, ◌-◌, ◌∷◌, [], true, List, ℕ, OnOk, IsErr};
 ghost use Rattle.kdb_disk.specs.View.{View};
 ghost use Rattle.kdb_disk.specs.Frames.{IsCall};
 ghost use Rattle.kdb_disk.specs.Moments.{LeavesOnly};
@@ -77,6 +77,8 @@ pub fn renew_files<D: Disk>(
         → HasRows realm rows image.old
         → OnOk result (IsOnDisk (renewed next.now log.now image.old.cells realm rows k) (D.view disk.new)) }
     ensures written { D.tells → OnOk result ((D.view disk.new).seen next.now.image ≡ image.old.content) }
+    ensures others { D.tells → OnOk result ((g : ℕ) → g ≢ 0 → g ≢ next.now.image → g ≢ next.now.log
+        → (D.view disk.new).seen g ≡ (D.view disk.old).seen g) }
     ensures stays { image.new ≡ image.old }
     ensures call { IsCall D.Disk disk.old disk.new (IsErr result) }
 {

@@ -64,6 +64,8 @@ pub fn restash_files<D: Disk>(
         (D.view disk.new) (LeavesPart (place_kept k) (restashed bytes.now (place_kept k) ∷ [])) }
     ensures on { D.tells → (k : Kept) → IsUnder now.now k (D.view disk.old)
         → OnOk result (IsOnDisk (with_stash next.now bytes.now k) (D.view disk.new)) }
+    ensures others { D.tells
+        → OnOk result ((g : ℕ) → g ≢ 0 → g ≢ next.now.stash → (D.view disk.new).seen g ≡ (D.view disk.old).seen g) }
     ensures call { IsCall D.Disk disk.old disk.new (IsErr result) }
 {
     replace_file(disk, stash_file(next), bytes)?;

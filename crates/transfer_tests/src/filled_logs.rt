@@ -45,6 +45,7 @@ fn next_entry(last: &Point, op: Op) -> Result<Entry, Fail>
     entries_have_their_lengths();
     let op = Some(op);
     if last.sno == u32::MAX || entry_len(&op) > 2047 {
+        drop(op);
         return Err(Fail::from("a later serial and a short entry"));
     }
     let point = Point {
@@ -63,7 +64,9 @@ pub(crate) fn append(alloc: Global, log: &mut Log, op: Op) -> Result<(), Fail>
 {
     let (_, last) = log.held();
     let entry = next_entry(&last, op)?;
-    let _body = log.ready(alloc, &entry, last.sno)?;
+    let ready = log.ready(alloc, &entry, last.sno);
+    drop(entry);
+    let _body = ready?;
     log.take_prepared();
     Ok(())
 }

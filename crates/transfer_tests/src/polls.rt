@@ -20,6 +20,15 @@ fn append_drop(alloc: Global, log: &mut Log, name: &[u8]) -> Result<(), Fail>
     append(alloc, log, Op::DropPrinc(printed(alloc, name)?))
 }
 
+fn append_three(alloc: Global, log: &mut Log) -> Result<(), Fail>
+    requires { log.old.block ≡ 2048 }
+    ensures { OnOk result (log.new.block ≡ 2048) }
+{
+    append_drop(alloc, log, b"a@EXAMPLE.ORG")?;
+    append_drop(alloc, log, b"b@EXAMPLE.ORG")?;
+    append_drop(alloc, log, b"c@EXAMPLE.ORG")
+}
+
 /// A log that holds so many entries, of a base marker and three changes, all of one second: those of serials 2, 3 and 4
 /// drop a, b and c.
 fn filled(alloc: Global, size: u32) -> Result<Log, Fail>
@@ -27,17 +36,25 @@ fn filled(alloc: Global, size: u32) -> Result<Log, Fail>
     ensures block { IfOk result (λ log. log.block ≡ 2048) }
 {
     let mut log = begun(alloc, 1, size)?;
-    append_drop(alloc, &mut log, b"a@EXAMPLE.ORG")?;
-    append_drop(alloc, &mut log, b"b@EXAMPLE.ORG")?;
-    append_drop(alloc, &mut log, b"c@EXAMPLE.ORG")?;
-    Ok(log)
+    match append_three(alloc, &mut log) {
+        Ok(()) => Ok(log),
+        Err(fail) => {
+            drop(log);
+            Err(fail)
+        }
+    }
 }
 
 /// A log that holds two entries, behind four changes: those of serials 4 and 5, which drop c and d.
 fn overfull(alloc: Global) -> Result<Log, Fail> {
     let mut log = filled(alloc, 2)?;
-    append_drop(alloc, &mut log, b"d@EXAMPLE.ORG")?;
-    Ok(log)
+    match append_drop(alloc, &mut log, b"d@EXAMPLE.ORG") {
+        Ok(()) => Ok(log),
+        Err(fail) => {
+            drop(log);
+            Err(fail)
+        }
+    }
 }
 
 /// Whether the reply tells of the entries that drop these names, in their order, the first of this serial.
@@ -73,6 +90,13 @@ fn check_poll(rt: &impl Abort, alloc: Global, log: &Log, poll: &Poll) -> Result<
     Ok(())
 }
 
+fn check_polls(rt: &impl Abort, alloc: Global, log: &Log, polls: &[Poll]) -> Result<(), Fail> {
+    for poll in polls {
+        check_poll(rt, alloc, log, poll)?;
+    }
+    Ok(())
+}
+
 #[test]
 fn polls_of_four_entries(rt: HostRuntime) -> Result<(), Fail> {
     let log = filled(rt.alloc(), 10)?;
@@ -96,10 +120,9 @@ fn polls_of_four_entries(rt: HostRuntime) -> Result<(), Fail> {
         (at(5, SECS), false, ReplyCode::FullResyncNeeded, &[]),
         (at(2, SECS + 1), false, ReplyCode::FullResyncNeeded, &[]),
     ];
-    for poll in &polls {
-        check_poll(&rt, rt.alloc(), &log, poll)?;
-    }
-    Ok(())
+    let checked = check_polls(&rt, rt.alloc(), &log, &polls);
+    drop(log);
+    checked
 }
 
 #[test]
@@ -111,10 +134,9 @@ fn polls_of_entries_that_are_no_longer_held(rt: HostRuntime) -> Result<(), Fail>
         (at(3, SECS), false, ReplyCode::FullResyncNeeded, &[]),
         (at(2, SECS), false, ReplyCode::FullResyncNeeded, &[]),
     ];
-    for poll in &polls {
-        check_poll(&rt, rt.alloc(), &log, poll)?;
-    }
-    Ok(())
+    let checked = check_polls(&rt, rt.alloc(), &log, &polls);
+    drop(log);
+    checked
 }
 
 /// The point of this serial a microsecond behind the second.
@@ -129,8 +151,13 @@ fn just_behind(sno: u32) -> Point {
 /// both a microsecond later.
 fn renewed(alloc: Global) -> Result<Log, Fail> {
     let mut log = begun_at(alloc, just_behind(1), 1000)?;
-    append_drop(alloc, &mut log, b"bob@EXAMPLE.ORG")?;
-    Ok(log)
+    match append_drop(alloc, &mut log, b"bob@EXAMPLE.ORG") {
+        Ok(()) => Ok(log),
+        Err(fail) => {
+            drop(log);
+            Err(fail)
+        }
+    }
 }
 
 // What stood at serials 2 and 16 before is gone, though the log has a serial 2 again.
@@ -142,10 +169,9 @@ fn polls_of_points_before_the_log_was_begun_anew(rt: HostRuntime) -> Result<(), 
         (at(2, SECS), false, ReplyCode::FullResyncNeeded, &[]),
         (just_behind(2), false, ReplyCode::Nil, &[]),
     ];
-    for poll in &polls {
-        check_poll(&rt, rt.alloc(), &log, poll)?;
-    }
-    Ok(())
+    let checked = check_polls(&rt, rt.alloc(), &log, &polls);
+    drop(log);
+    checked
 }
 
 // The base marker of the database that was there before had the same serial, a second earlier.
@@ -156,8 +182,7 @@ fn polls_of_another_database_made_later(rt: HostRuntime) -> Result<(), Fail> {
         (at(1, SECS), false, ReplyCode::FullResyncNeeded, &[]),
         (at(1, SECS + 1), false, ReplyCode::Nil, &[]),
     ];
-    for poll in &polls {
-        check_poll(&rt, rt.alloc(), &log, poll)?;
-    }
-    Ok(())
+    let checked = check_polls(&rt, rt.alloc(), &log, &polls);
+    drop(log);
+    checked
 }

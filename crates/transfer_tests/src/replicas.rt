@@ -38,5 +38,6 @@ fn no_serial_comes_behind_no_database(rt: HostRuntime) -> Result<(), Fail> {
         PollReply::new(ReplyCode::Nil, asked, none),
     );
     assert_eq!(rt; answer, Ok(Taken4::Nil));
+    drop(replica);
     Ok(())
 }

@@ -10,6 +10,7 @@ use policy_rules::is_policy_name;
 use princ_record::{Princ, decode, decode_policy, is_row};
 use princ_rows::Op;
 use std::alloc::Global;
+use std::process::Abort;
 use std::test::*;
 use ulog_text::print_ulog;
 use update_log::Log;
@@ -41,12 +42,25 @@ const CHANGES: &str = "- first 3 1700000000.000000
 ok
 ";
 
+/// The lines of a log that is to hold at most so many entries.
+fn check_lines(
+    rt: &impl Abort,
+    alloc: Global,
+    log: &Log,
+    size: u32,
+    lines: &str,
+) -> Result<(), Fail> {
+    let text = print_ulog(alloc, log, size, 2048)?;
+    assert!(rt; text.as_slice() == lines.as_bytes());
+    Ok(())
+}
+
 #[test]
 fn a_log_of_its_base_marker(rt: HostRuntime) -> Result<(), Fail> {
     let log = begun(rt.alloc(), 3, 2)?;
-    let text = print_ulog(rt.alloc(), &log, 2, 2048)?;
-    assert!(rt; text.as_slice() == BASE.as_bytes());
-    Ok(())
+    let checked = check_lines(&rt, rt.alloc(), &log, 2, BASE);
+    drop(log);
+    checked
 }
 
 fn princ(alloc: Global) -> Result<Princ, Fail>
@@ -54,6 +68,7 @@ fn princ(alloc: Global) -> Result<Princ, Fail>
 {
     let princ = decode(alloc, PRINC)?;
     if !is_row(&princ) {
+        drop(princ);
         return Err(Fail::from("a row"));
     }
     Ok(princ)
@@ -109,11 +124,22 @@ fn append_each(alloc: Global, log: &mut Log) -> Result<(), Fail>
     append(alloc, log, policy_drop(alloc, b"std")?)
 }
 
+/// A log with one change of each kind.
+fn with_each(alloc: Global) -> Result<Log, Fail> {
+    let mut log = begun(alloc, 3, 10)?;
+    match append_each(alloc, &mut log) {
+        Ok(()) => Ok(log),
+        Err(fail) => {
+            drop(log);
+            Err(fail)
+        }
+    }
+}
+
 #[test]
 fn a_log_of_each_change(rt: HostRuntime) -> Result<(), Fail> {
-    let mut log = begun(rt.alloc(), 3, 10)?;
-    append_each(rt.alloc(), &mut log)?;
-    let text = print_ulog(rt.alloc(), &log, 10, 2048)?;
-    assert!(rt; text.as_slice() == CHANGES.as_bytes());
-    Ok(())
+    let log = with_each(rt.alloc())?;
+    let checked = check_lines(&rt, rt.alloc(), &log, 10, CHANGES);
+    drop(log);
+    checked
 }

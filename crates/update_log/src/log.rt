@@ -109,7 +109,9 @@ pub(crate) fn marker_body(alloc: Global, base: &Point, block: u32) -> Result<Vec
 {
     let marker = marker_of(base);
     holds_marker(&marker, base, block);
-    write_body(alloc, &marker.entry, marker.cell, block)
+    let body = write_body(alloc, &marker.entry, marker.cell, block);
+    drop(marker);
+    body
 }
 
 // The base marker alone, with room for the entry that comes next, where one is to come.
@@ -155,7 +157,9 @@ pub(crate) fn log_of(file: u8, base: Point, size: u32, block: u32, held: VecDequ
     requires len { deque_len held ≡ 1 }
     ensures { result ≡ begun file base size block }
 {
-    holds_marker(&marker_of(&base), &base, block);
+    let marker = marker_of(&base);
+    holds_marker(&marker, &base, block);
+    drop(marker);
     Log {
         file,
         base,
@@ -180,7 +184,7 @@ fn make_room(held: &mut VecDeque<Logged>, entry: Logged) -> Result<Logged, Memor
 fn set(place: &mut Option<Logged>, entry: Logged)
     ensures { place.new ≡ Some entry }
 {
-    *place = Some(entry);
+    drop(place.replace(entry));
 }
 
 // Takes what is prepared as the newest entry.
@@ -203,7 +207,7 @@ fn keep_newest(held: &mut VecDeque<Logged>, size: usize)
     ensures len { deque_len held.new ≡ length held.new.items }
 {
     if held.len() > size {
-        let _oldest = held.pop_front();
+        drop(held.pop_front());
     }
 }
 
@@ -356,7 +360,7 @@ impl Log {
     fn forget(&mut self)
         ensures { self.new ≡ with_prepared None self.old }
     {
-        self.prepared = None;
+        drop(self.prepared.take());
     }
 
     // Notes that the entry is prepared, with room for it among those that are held.

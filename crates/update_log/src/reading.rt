@@ -114,6 +114,7 @@ pub(crate) fn read_slot(
     }
     let logged = read_entry(alloc, control.block, bytes)?;
     if !belongs(control, slot, &logged) {
+        drop(logged);
         return Err(FormatFault::Malformed);
     }
     Ok(Some(logged))

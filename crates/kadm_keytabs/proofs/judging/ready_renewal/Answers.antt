@@ -9,4 +9,4 @@ prepare-requires c =
     c.requires.name c.requires.etypes
 
 pub returns : goal.returns
-returns c = c.in_ok-ready.ensures.command ∙ c.in_ok-command.ensures
+returns c = c.in-Ok.ensures.command ∙ c.in_ok-command.ensures

@@ -11,5 +11,5 @@ returns-clause-answer c = λ s has.
     let reply = c.in_ok-judged.judged.reply in
     let answered = c.decisions_are_asked.ensures.answers o
     (ask_for w c.args.now c.args.random.now) reply c.in_ok-judged.judged.change s c.in_ok-judged.ensures.decided has in
-    answer_so c.in_ok-answer.answer (seen (place_of o) s) w c.args.now c.args.random.now c.args.list reply answered
-    (c.in_ok-answer.ensures s has answered)
+    answer_so c.in-Ok.answer (seen (place_of o) s) w c.args.now c.args.random.now c.args.list reply answered
+    (c.in-Ok.ensures s has answered)

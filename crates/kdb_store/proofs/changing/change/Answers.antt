@@ -120,7 +120,11 @@ returns-in-Ok-clause-entered g c =
     let n = number_of c.in-Ok.field-0.write in
     on_ok_weaker c.write_begun.result (λ is. record {
       cell = n;
-      unit = record { given = c.in-Ok.ensures.plan.given; none = c.in-Ok.ensures.plan.none };
+      unit = record {
+        given = c.in-Ok.ensures.plan.given;
+        none = c.in-Ok.ensures.plan.none;
+        only = c.in-Ok.ensures.plan.only;
+      };
       held = ap (λ (j : Journal). j.held) is ∙ ap (λ (e : Entry). newest c.args.log.now.size
           (c.args.log.now.held ++ record { entry = e; cell = n } ∷ [])) c.in-Ok.ensures.entry;
     }) c.write_begun.ensures.held

@@ -11,7 +11,7 @@ use Rattle.kdb_store.specs.Parts.{LeadsAlike}
 use Rattle.kdb_store.specs.Writes.{number_of}
 use Rattle.kdb_store.proofs.Changed.{index_may, plan_within, indexed_after}
 use Rattle.kdb_store.proofs.Anew.{comes_behind, nothing_anew, same_size, rows_on}
-use Rattle.kdb_store.proofs.Anew.{anew_held, anew_numbers, on_err_at, still_anew}
+use Rattle.kdb_store.proofs.Anew.{anew_entry, anew_held, anew_numbers, on_err_at, still_anew}
 use Rattle.kdb_store.proofs.reset_changes.reset_change.Goals as goal
 
 pub reset_begun-requires-clause-comes : goal.reset_begun-requires-clause-comes
@@ -126,3 +126,11 @@ returns-in-Err-clause-crash g c tells k under =
     let kept = with_parts c.args.log.now c.args.cells.now c.args.rows.now k in
     let anew = log_anew c.args.base c.args.control.now.size c.args.block (place_kept kept) in
     nothing_anew kept anew (committed c.args.op c.args.time anew) (g.D.Disk.view c.args.disk.now) under.on
+
+pub returns-in-Ok-clause-entered : goal.returns-in-Ok-clause-entered
+returns-in-Ok-clause-entered g c =
+    on_ok_weaker c.reset_begun.result (λ is.
+    anew_entry c.reset_begun.new.control.log c.args.base c.size_of-size.result c.args.control.now.size c.args.block
+    c.reset_begun.new.log c.in-Ok.field-0.entry c.in-Ok.field-0.write c.behind-point.result c.args.time
+    c.args.op c.args.cells.now c.args.rows.now c.in-Ok.ensures.plan c.in-Ok.ensures.entry c.behind-point.ensures
+    c.size_of-size.ensures.value is) c.reset_begun.ensures.held

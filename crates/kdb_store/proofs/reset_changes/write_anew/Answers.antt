@@ -1,4 +1,5 @@
 use Rattle.std.proofs.Common.{◌≢◌, ℕ, ◌*◌, ◌≤◌, List, length, Some, sym, ap, subst, ◌∙◌}
+use Rattle.std.proofs.lemmas.Result.{on_ok_weaker}
 use Rattle.kdb_control.specs.Choice.{Choice}
 use Rattle.princ_rows.specs.declared.entries.Logged.{Logged}
 use Rattle.update_log.specs.Logs.{Journal, with_prepared}
@@ -90,3 +91,10 @@ returns-clause-on g c tells k op time behind =
     c.write_prepared.new.cells is c.write_prepared.ensures.held c.write_prepared.ensures.number
     (c.write_prepared.ensures.stands tells) (c.write_prepared.ensures.file tells) (c.write_prepared.ensures.log tells)
     (c.write_prepared.ensures.durable tells)
+
+pub returns-clause-others : goal.returns-clause-others
+returns-clause-others g c tells =
+    on_ok_weaker c.write_prepared.result
+    (λ wrote file some log image. wrote file (λ e. log (e ∙ ap (λ (j : Journal). j.file) c.requires.log)) image
+    ∙ c.in_ok-reset_files.ensures.others tells file some log)
+    (c.write_prepared.ensures.others tells)

@@ -5,11 +5,11 @@ use Rattle.kadm_replies.specs.Refusals.{refusal_text}
 use Rattle.kdb_base.specs.declared.outcomes.Refusal.TheVariants.{BadLine}
 use Rattle.kdb_disk.proofs.Runs.{kept}
 use Rattle.kdb_disk.specs.Moments.{LeavesOnly}
-use Rattle.kprop_runs.proofs.Running.{like_here, refusal_is, refusal_run}
+use Rattle.kprop_runs.proofs.Running.{like_here, refusal_is, refusal_run, refused_some}
 use Rattle.kprop_runs.proofs.Saying.{on_ok}
 use Rattle.kprop_runs.specs.Longs.{RunRoundsEnd, RunStopsLong}
 use Rattle.kprop_runs.specs.Openings.{opening_by}
-use Rattle.kprop_runs.specs.Runs.{HasRun, RunLeavesSome}
+use Rattle.kprop_runs.specs.Runs.{HasRun, RunEndsSome, RunLeavesSome}
 use Rattle.kprop_runs.specs.declared.words.Asked.{Asked}
 use Rattle.store_files.specs.Found.{recovers}
 use Rattle.kprop_runs.proofs.runs.run_asked.Goals as goal
@@ -39,6 +39,22 @@ returns-in-None-clause-some g c tells =
     let now = g.D.Disk.view c.args.disk.now in
     subst (λ (a : Option Asked). LeavesOnly now now
     (RunLeavesSome (opening_by a (recovers now.seen)) (recovers now.seen) now)) (sym c.in-None.is) (like_here now)
+
+pub returns-in-Some-clause-ends_some : goal.returns-in-Some-clause-ends_some
+returns-in-Some-clause-ends_some g c tells =
+    let old = g.D.Disk.view c.args.disk.now in
+    subst (λ (a : Option Asked). OnOk c.open_and_run.result (RunEndsSome (opening_by a (recovers old.seen))
+    (g.K.Sink.taken c.args.sink.now) (g.K.Sink.taken c.open_and_run.new.sink)
+    old (g.D.Disk.view c.open_and_run.new.disk))) (sym c.in-Some.is) (c.open_and_run.ensures.ends_some tells)
+
+pub returns-in-None-clause-ends_some : goal.returns-in-None-clause-ends_some
+returns-in-None-clause-ends_some g c tells =
+    let now = g.D.Disk.view c.args.disk.now in
+    let taken = g.K.Sink.taken c.args.sink.now in
+    let out = g.K.Sink.taken c.refuse.new.sink in
+    subst (λ (a : Option Asked).
+    OnOk c.refuse.result (RunEndsSome (opening_by a (recovers now.seen)) taken out now now)) (sym c.in-None.is)
+    (refused_some BadLine taken out now now c.refuse.result c.refuse.ensures.ok (kept now))
 
 pub returns-in-None-clause-other : goal.returns-in-None-clause-other
 returns-in-None-clause-other g c none =

@@ -10,7 +10,7 @@ use Rattle.kprop_runs.proofs.Running.{idle_refusal, idle_run, idle_some}
 use Rattle.kprop_runs.proofs.Overlong.{by_status}
 use Rattle.kprop_runs.specs.Longs.{RunRoundsEnd, RunStopsLong}
 use Rattle.kprop_runs.specs.Openings.{opening, opening_by}
-use Rattle.kprop_runs.specs.Runs.{HasRun, RunLeavesSome}
+use Rattle.kprop_runs.specs.Runs.{HasRun, RunEndsSome, RunLeavesSome}
 use Rattle.kprop_runs.specs.declared.halts.RunHalt.TheVariants as run
 use Rattle.kprop_runs.specs.declared.words.Asked.{Asked}
 use Rattle.store_files.specs.Found.{recovers}
@@ -34,6 +34,18 @@ returns-in-Ok-clause-some g c tells =
     subst (λ (a : Option Asked). LeavesOnly old (g.D.Disk.view c.run_asked.new.disk)
     (RunLeavesSome (opening_by a (recovers old.seen)) (recovers old.seen) old)) c.in-Ok.ensures.value
     (c.run_asked.ensures.some tells)
+
+pub returns-in-Ok-clause-ends_some : goal.returns-in-Ok-clause-ends_some
+returns-in-Ok-clause-ends_some g c tells =
+    let old = g.D.Disk.view c.args.disk.now in
+    let new = g.D.Disk.view c.run_asked.new.disk in
+    let taken = g.K.Sink.taken c.args.sink.now in
+    let out = g.K.Sink.taken c.run_asked.new.sink in
+    ends_by c.status_after.result c.run_asked.result c.status_after.ensures
+    (RunEndsSome (opening (map (λ word. word.items) c.args.words.now) old.seen) taken out old new)
+    (subst (λ (a : Option Asked).
+    OnOk c.run_asked.result (RunEndsSome (opening_by a (recovers old.seen)) taken out old new))
+    c.in-Ok.ensures.value (c.run_asked.ensures.ends_some tells))
 
 pub returns-in-Ok-clause-other : goal.returns-in-Ok-clause-other
 returns-in-Ok-clause-other g c none =

@@ -3,10 +3,10 @@ use Rattle.iprop_links.specs.Asking.{sent_in}
 use Rattle.kdb_disk.proofs.Runs.{weaken}
 use Rattle.kdb_disk.specs.Frames.{IsCrashSafe}
 use Rattle.kprop_runs.proofs.Running.{ran, ran_holds, rounds_end, rounds_hold, rounds_leave, rounds_long}
-use Rattle.kprop_runs.proofs.Running.{rounds_stopped, stands}
+use Rattle.kprop_runs.proofs.Running.{rounds_end_some, rounds_stopped, stands}
 use Rattle.kprop_runs.proofs.Saying.{call_said, links_said, on_ok}
 use Rattle.kprop_runs.specs.Runs.{first_stage}
-use Rattle.kprop_runs.specs.Stages.{LeavesUntold}
+use Rattle.kprop_runs.specs.Stages.{LeavesUntold, MayLead}
 use Rattle.replica_core.specs.Opened.{place_of}
 use Rattle.kprop_runs.proofs.runs.run_rounds.Goals as goal
 
@@ -51,6 +51,17 @@ pub returns-in-Ok-clause-some : goal.returns-in-Ok-clause-some
 returns-in-Ok-clause-some g c =
     subst (λ (m : ℕ). IsCrashSafe g.D.Disk c.args.disk.now c.all_rounds.new.disk
     (LeavesUntold m c.args.asked.now.rounds (place_of c.args.replica.now))) c.requires.size c.all_rounds.ensures.some
+
+pub returns-in-Ok-clause-ends_some : goal.returns-in-Ok-clause-ends_some
+returns-in-Ok-clause-ends_some g c tells =
+    let first = place_of c.args.replica.now in
+    let last = place_of c.all_rounds.new.replica in
+    rounds_end_some c.args.asked.now.size c.args.asked.now.rounds first c.all_rounds.new.replica.database
+    (g.D.Disk.view c.all_rounds.new.disk)
+    (subst (λ (m : ℕ). MayLead m c.args.asked.now.rounds first last) c.requires.size (c.in-Ok.ensures.leads tells))
+    (c.in-Ok.ensures.on tells)
+    c.point.result c.point.ensures (g.K.Sink.taken c.all_rounds.new.sink) (g.K.Sink.taken c.say_done.new.sink)
+    c.say_done.result c.say_done.ensures.ok
 
 pub returns-in-Ok-clause-call : goal.returns-in-Ok-clause-call
 returns-in-Ok-clause-call g c = call_said g.D.Disk c.args.disk.now c.all_rounds.new.disk c.say_done.result

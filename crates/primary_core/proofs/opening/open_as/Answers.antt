@@ -1,8 +1,9 @@
 use Rattle.std.proofs.Common.{◌≡◌, false, Err, refl, sym, ap, subst, ◌∙◌}
+use Rattle.kdb_histories.specs.Seen.{reset_point}
 use Rattle.primary_core.proofs.Recovered.{stop_same}
 use Rattle.primary_core.proofs.Shown.{opened_renewed}
 use Rattle.primary_core.proofs.opening.open_as.Goals as goal
-use Rattle.primary_core.specs.Opened.{Opened}
+use Rattle.primary_core.specs.Opened.{IsWrittenAnew, Opened}
 use Rattle.primary_core.specs.Opening.{OpensFrom}
 use Rattle.store_files.specs.Kept.{IsOnDisk, place_kept}
 
@@ -39,3 +40,8 @@ returns-in-Err-clause-call g c = record {
   later = c.renew.ensures.call.later;
   cause = λ e. c.renew.ensures.call.cause (c.in-Err.is ∙ ap Err (stop_same _ _ _ e));
 }
+
+pub returns-in-Ok-clause-written : goal.returns-in-Ok-clause-written
+returns-in-Ok-clause-written g c = λ t older. subst (λ (x : Opened). IsWrittenAnew (g.D.Disk.view c.renew.new.disk)
+    x.kept (reset_point c.args.now (place_kept c.args.database))) (sym c.of_parts.ensures)
+    (c.in-Ok.ensures.written t older)

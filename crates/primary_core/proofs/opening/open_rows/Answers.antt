@@ -1,10 +1,10 @@
 use Rattle.std.proofs.Common.{List, Err, ap, ◌∙◌}
 use Rattle.kdb_base.specs.declared.versions.Master.{Master}
-use Rattle.primary_core.proofs.Recovered.{kept_refused, kept_stays, not_found_halts, not_found_only}
+use Rattle.primary_core.proofs.Recovered.{kept_refused, kept_stays, masters_stop, not_found_halts, not_found_only}
 use Rattle.primary_core.proofs.Recovered.{not_found_refused, opened_only, opened_same}
-use Rattle.primary_core.proofs.Recovered.{settled_stays, stop_same, unopened_halts, unopened_only}
+use Rattle.primary_core.proofs.Recovered.{settled_stays, stop_same, unopened_halts, unopened_only, unopened_stops}
 use Rattle.primary_core.proofs.opening.open_rows.Goals as goal
-use Rattle.store_files.specs.Kept.{Kept}
+use Rattle.store_files.specs.Kept.{Kept, place_kept}
 
 pub returns-in-Err-clause-refused : goal.returns-in-Err-clause-refused
 returns-in-Err-clause-refused g c =
@@ -51,3 +51,10 @@ pub returns-in-Err-masters_of-clause-refused_stays : goal.returns-in-Err-masters
 returns-in-Err-masters_of-clause-refused_stays g c = λ t why e.
     kept_stays c.in-Ok.database (g.D.Disk.view c.args.disk.now).seen (g.D.Disk.view c.recover.new.disk)
     (c.in-Ok.ensures.found t) (c.what_is_kept_is_recovered.ensures _ (c.in-Ok.ensures.on t))
+
+pub returns-in-Err-clause-stops : goal.returns-in-Err-clause-stops
+returns-in-Err-clause-stops g c = unopened_stops c.in-Err.stop c.in-Err.ensures.stops
+
+pub returns-in-Err-masters_of-clause-stops : goal.returns-in-Err-masters_of-clause-stops
+returns-in-Err-masters_of-clause-stops g c = masters_stop (place_kept c.in-Ok.database) c.in-Ok.database.control.stash
+    c.in-Err-masters_of.stop c.masters_of.result c.in-Err-masters_of.is c.masters_of.ensures.refused

@@ -1,12 +1,14 @@
 use Rattle.std.proofs.Common.{List, Err, inl, inr, refl, sym, ap, subst, ◌∙◌}
+use Rattle.kdb_base.specs.declared.moments.Point.{Point}
 use Rattle.kdb_disk.proofs.Runs.{started}
 use Rattle.kdb_disk.specs.Frames.{IsCrashSafe}
 use Rattle.kdb_model.specs.Laws.{IsPoint}
 use Rattle.kdb_places.specs.Places.{Place, point_of}
 use Rattle.primary_core.proofs.Asked.{leaves_first}
-use Rattle.primary_core.proofs.Renewed.{ends_time, halt_same, has_time, none_made}
-use Rattle.primary_core.proofs.Renewed.{place_made, places_made, refused_same, stays_same}
+use Rattle.primary_core.proofs.Renewed.{base_is, ends_time, halt_same, has_time, none_made}
+use Rattle.primary_core.proofs.Renewed.{place_made, places_made, refused_same, same_format, stays_same}
 use Rattle.primary_core.proofs.opening.renew.Goals as goal
+use Rattle.primary_core.specs.Opened.{IsWrittenAnew}
 use Rattle.store_files.specs.Kept.{place_kept}
 use Rattle.store_files.specs.Recovery.{LeavesPart}
 
@@ -93,3 +95,15 @@ returns-in-Err-clause-call g c = record {
   later = c.begin_anew.ensures.call.later;
   cause = λ e. c.begin_anew.ensures.call.cause (c.in-Err.is ∙ ap Err (halt_same _ _ _ e));
 }
+
+pub returns-then-is_same-clause-written : goal.returns-then-is_same-clause-written
+returns-then-is_same-clause-written g c = λ t older. absurd (older (same_format (place_kept c.args.database.now)
+    c.args.size c.args.now c.size_or-size.result (point_of (place_kept c.args.database.now))
+    (record { size_is = c.size_or-size.ensures.value; last_is = refl }) (sym c.is_same.ensures ∙ c.if-is_same.true)))
+
+pub returns-in-Ok-clause-written : goal.returns-in-Ok-clause-written
+returns-in-Ok-clause-written g c = λ t older.
+    subst (λ (x : Point). IsWrittenAnew (g.D.Disk.view c.begin_anew.new.disk) c.begin_anew.new.database x)
+    (base_is (place_kept c.args.database.now) c.args.size c.args.now c.size_or-size.result c.point-last.result
+    (record { size_is = c.size_or-size.ensures.value; last_is = c.point-last.ensures }) c.reset_point-base.result
+    c.reset_point-base.ensures) (c.in-Ok.ensures.written t older)

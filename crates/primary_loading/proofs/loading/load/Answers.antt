@@ -1,7 +1,9 @@
-use Rattle.std.proofs.Common.{List}
+use Rattle.std.proofs.Common.{List, subst}
+use Rattle.std.specs.Prelude.{OnOk}
+use Rattle.kdb_base.specs.declared.moments.Point.{Point}
 use Rattle.kdb_base.specs.declared.versions.Master.{Master}
 use Rattle.kdb_disk.proofs.Runs.{started, weaken}
-use Rattle.primary_core.specs.Opened.{place_of}
+use Rattle.primary_core.specs.Opened.{IsWrittenAnew, place_of}
 use Rattle.primary_loading.proofs.Given.{filled_with, halt_loads}
 use Rattle.primary_loading.proofs.Loaded.{if_does, if_loads, load_leaves, load_stays}
 use Rattle.primary_loading.proofs.loading.load.Goals as goal
@@ -36,3 +38,8 @@ returns-in-Err-clause-crash g c s whole = record {
   told = λ t. started _ _ (λ f i. load_stays (place_of c.args.primary.now) s c.args.dump.rows c.args.now f
       (c.what_is_kept_is_recovered.ensures _ (c.requires.on t whole) f i));
 }
+
+pub returns-in-Ok-clause-written : goal.returns-in-Ok-clause-written
+returns-in-Ok-clause-written g c = λ t. subst (λ (base : Point). OnOk c.put_rows.result
+    (IsWrittenAnew (g.D.Disk.view c.put_rows.new.disk) c.put_rows.new.primary.kept base)) c.in-Ok.ensures.base
+    (c.put_rows.ensures.written t)

@@ -41,11 +41,11 @@ rows_after-requires-clause-joins c =
 
 pub returns-clause-again : goal.returns-clause-again
 returns-clause-again c cells fitting =
-    again_planned c.args.control c.args.log c.args.scanned cells c.in_ok-rows.rows c.args.stash c.in_ok-write.write
+    again_planned c.args.control c.args.log c.args.scanned cells c.in-Ok-rows_after.rows c.args.stash c.in-Ok.write
     c.last.result.now.op c.last-2.result.now.op c.last_cell.result c.requires.headed fitting
     (ap (λ (e : Entry). e.op) (c.last.ensures (marker_of c.args.control.base)))
     (ap (λ (e : Entry). e.op) (c.last-2.ensures (marker_of c.args.control.base)))
-    (c.last_cell.ensures (marker_of c.args.control.base)) c.in_ok-write.ensures c.in_ok-rows.ensures
+    (c.last_cell.ensures (marker_of c.args.control.base)) c.in-Ok.ensures c.in-Ok-rows_after.ensures
 
 pub returns-clause-looked : goal.returns-clause-looked
 returns-clause-looked c cells files looked = looked

@@ -1,4 +1,4 @@
-use Rattle.std.proofs.Common.{◌≡◌, subst}
+use Rattle.std.proofs.Common.{◌≡◌, ◌≢◌, ℕ, ap, subst, ◌∙◌}
 use Rattle.std.specs.Prelude.{Err, IfOk}
 use Rattle.kdb_disk.specs.Files.{Files}
 use Rattle.kdb_disk.proofs.Runs.{keeps_then}
@@ -31,3 +31,17 @@ returns-in-Err-clause-moments g c tells = like_kept (c.settle_all.ensures.keeps 
 pub returns-in-Ok-clause-memory_keeps : goal.returns-in-Ok-clause-memory_keeps
 returns-in-Ok-clause-memory_keeps g c tells is =
     keeps_then (c.settle_all.ensures.keeps tells) (c.recover_settled.ensures.memory_keeps tells is)
+
+pub returns-in-Ok-clause-others : goal.returns-in-Ok-clause-others
+returns-in-Ok-clause-others g c tells file one two = c.recover_settled.ensures.others tells file one two
+    ∙ ap (λ (f : Files). f file) (c.settle_all.ensures.keeps tells).seen
+
+pub returns-in-Ok-clause-image : goal.returns-in-Ok-clause-image
+returns-in-Ok-clause-image g c tells =
+    subst (λ (files : Files). IfOk c.recover_settled.result (λ p. (file : ℕ) → file ≢ p.control.image
+    → (g.D.Disk.view c.recover_settled.new.disk).seen file ≡ files file))
+    (c.settle_all.ensures.keeps tells).seen (c.recover_settled.ensures.image tells)
+
+pub returns-in-Err-clause-others : goal.returns-in-Err-clause-others
+returns-in-Err-clause-others g c tells file one two =
+    ap (λ (f : Files). f file) (c.settle_all.ensures.keeps tells).seen

@@ -1,4 +1,4 @@
-use Rattle.std.proofs.Common.{subst}
+use Rattle.std.proofs.Common.{ap, subst, ◌∙◌}
 use Rattle.kdb_disk.specs.Files.{Files}
 use Rattle.kdb_disk.proofs.Runs.{settled_keeps}
 use Rattle.store_files.specs.Found.{found_in}
@@ -34,3 +34,18 @@ returns-in-Err-write_again-clause-moments g c tells =
 pub returns-in-Err-clause-refused_settled : goal.returns-in-Err-clause-refused_settled
 returns-in-Err-clause-refused_settled g c tells r is =
     settled_keeps (c.requires.settled tells) (c.look.ensures.keeps tells)
+
+pub returns-in-Ok-write_again-clause-others : goal.returns-in-Ok-write_again-clause-others
+returns-in-Ok-write_again-clause-others g c tells file one two =
+    c.write_again.ensures.others tells file one two ∙ ap (λ (f : Files). f file) (c.look.ensures.keeps tells).seen
+
+pub returns-in-Err-write_again-clause-others : goal.returns-in-Err-write_again-clause-others
+returns-in-Err-write_again-clause-others g c tells file one two =
+    c.write_again.ensures.others tells file one two ∙ ap (λ (f : Files). f file) (c.look.ensures.keeps tells).seen
+
+pub returns-in-Ok-write_again-clause-image : goal.returns-in-Ok-write_again-clause-image
+returns-in-Ok-write_again-clause-image g c tells file other =
+    c.in-Ok-write_again.ensures.image tells file other ∙ ap (λ (f : Files). f file) (c.look.ensures.keeps tells).seen
+
+pub returns-in-Err-clause-others : goal.returns-in-Err-clause-others
+returns-in-Err-clause-others g c tells file one two = ap (λ (f : Files). f file) (c.look.ensures.keeps tells).seen

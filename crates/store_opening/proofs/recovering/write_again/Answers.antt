@@ -1,5 +1,6 @@
+use Rattle.std.proofs.Common.{⊎_elim, ◌∙◌}
 use Rattle.store_opening.proofs.Redone.{left_again, writes_again, within_again, kept_hangs}
-use Rattle.store_opening.proofs.Redone.{kept_found, again_runs, again_written, on_again}
+use Rattle.store_opening.proofs.Redone.{kept_found, again_runs, again_written, again_others, on_again}
 use Rattle.store_opening.proofs.recovering.write_again.Goals as goal
 
 pub write_unit-requires : goal.write_unit-requires
@@ -69,3 +70,26 @@ returns-in-Err-clause-moments g c tells =
     again_runs g.D.Disk.view c.args.disk.now c.write_unit.new.disk a cells is
     (c.requires.settled tells) (looked.read tells) c.write_unit.ensures.nothing (c.write_unit.ensures.crash tells)
     (g.met.D.Disk.reads_as_image c.args.disk.now tells)
+
+pub returns-in-Ok-clause-others : goal.returns-in-Ok-clause-others
+returns-in-Ok-clause-others g c tells file one two =
+    let a = c.args.again in
+    let looked = c.requires.looked in
+    again_others a looked.cells looked.again (c.requires.settled tells)
+    (g.met.D.Disk.reads_as_image c.write_unit.new.disk tells) (c.write_unit.ensures.crash tells) file
+    (λ e. ⊎_elim (λ is. one (e ∙ is)) (λ is. two (e ∙ is)) c.holds_image.ensures)
+
+pub returns-in-Err-clause-others : goal.returns-in-Err-clause-others
+returns-in-Err-clause-others g c tells file one two =
+    let a = c.args.again in
+    let looked = c.requires.looked in
+    again_others a looked.cells looked.again (c.requires.settled tells)
+    (g.met.D.Disk.reads_as_image c.write_unit.new.disk tells) (c.write_unit.ensures.crash tells) file
+    (λ e. ⊎_elim (λ is. one (e ∙ is)) (λ is. two (e ∙ is)) c.holds_image.ensures)
+
+pub returns-in-Ok-clause-image : goal.returns-in-Ok-clause-image
+returns-in-Ok-clause-image g c tells file other =
+    let a = c.args.again in
+    let looked = c.requires.looked in
+    again_others a looked.cells looked.again (c.requires.settled tells)
+    (g.met.D.Disk.reads_as_image c.write_unit.new.disk tells) (c.write_unit.ensures.crash tells) file other

@@ -1,8 +1,11 @@
-use Rattle.std.proofs.Common.{ap}
+use Rattle.std.proofs.Common.{ap, ◌∙◌}
 use Rattle.std.proofs.lemmas.Result.{on_ok_weaker}
 use Rattle.kdb_control.specs.Choice.{Choice}
+use Rattle.kdb_disk.proofs.Puts.{with_file-other}
+use Rattle.kdb_disk.specs.Files.{Files}
 use Rattle.store_switches.proofs.Renewed.{IsToRenew, image_begins, image_stays, log_begins}
 use Rattle.store_switches.proofs.Renewed.{renewal_force, renewal_leaves, renewal_on}
+use Rattle.update_log.specs.Logs.{Journal}
 use Rattle.store_switches.proofs.renewing.renew_files.Goals as goal
 
 pub returns-in_err-write-clause-crash : goal.returns-in_err-write-clause-crash
@@ -60,4 +63,14 @@ returns-clause-written g c tells =
     record { renewal = c.requires.next; file_is = c.requires.image; log_is = c.requires.log } in
     on_ok_weaker c.switch.result
     (λ set. image_stays to (c.in_ok-write.ensures.ok tells) (c.in_ok-write-2.ensures.others tells) set)
+    (c.switch.ensures.ok tells)
+
+pub returns-clause-others : goal.returns-clause-others
+returns-clause-others g c tells =
+    let old = (g.D.Disk.view c.args.disk.now).seen in
+    on_ok_weaker c.switch.result
+    (λ set file some image log. set.others file some
+    ∙ c.in_ok-write-2.ensures.others tells file (λ e. log (e ∙ ap (λ (j : Journal). j.file) c.requires.log))
+    ∙ ap (λ (files : Files). files file) (c.in_ok-write.ensures.ok tells).seen
+    ∙ with_file-other c.args.image.now.cells.file file c.args.image.now.content old (λ e. image (e ∙ c.requires.image)))
     (c.switch.ensures.ok tells)

@@ -1,5 +1,7 @@
-use Rattle.std.proofs.Common.{ℕ, subst}
+use Rattle.std.proofs.Common.{ℕ, ap, subst, ◌∙◌}
 use Rattle.std.proofs.lemmas.Result.{on_ok_weaker}
+use Rattle.kdb_disk.proofs.Puts.{with_file-other}
+use Rattle.kdb_disk.specs.Files.{Files}
 use Rattle.kdb_disk.specs.View.{IsAfter}
 use Rattle.kdb_disk.specs.Moments.{LeavesOnly, Differs, Replaced}
 use Rattle.store_switches.proofs.Switched.{stash_leaves, stash_begins, stash_on, force_kept}
@@ -49,4 +51,15 @@ returns-clause-on g c tells k under =
           (c.in_ok-replace_file.ensures.ok tells);
       switch = c.switch.ensures.crash.told tells;
     }) set)
+    (c.switch.ensures.ok tells)
+
+pub returns-clause-others : goal.returns-clause-others
+returns-clause-others g c tells =
+    let old = g.D.Disk.view c.args.disk.now in
+    let mid = g.D.Disk.view c.replace_file.new.disk in
+    let put = subst (λ (f : ℕ). Replaced f c.args.bytes.now old mid) c.stash_file.ensures
+    (c.in_ok-replace_file.ensures.ok tells) in
+    on_ok_weaker c.switch.result
+    (λ set f some other. set.others f some ∙ ap (λ (files : Files). files f) put.seen
+    ∙ with_file-other c.args.next.now.stash f c.args.bytes.now old.seen other)
     (c.switch.ensures.ok tells)

@@ -1,4 +1,4 @@
-use Rattle.std.proofs.Common.{◌≡◌, Ok, sym, subst}
+use Rattle.std.proofs.Common.{◌≡◌, ◌≢◌, ℕ, Ok, sym, subst}
 use Rattle.store_files.specs.Found.{place_in, found_in}
 use Rattle.store_files.specs.Kept.{Kept, place_kept}
 use Rattle.store_opening.specs.Parts.{kept_of}
@@ -21,3 +21,10 @@ returns-in-Ok-clause-found g c tells =
 pub returns-in-Err-clause-answer : goal.returns-in-Err-clause-answer
 returns-in-Err-clause-answer g c tells = answers_err place_kept c.in-Err.stop
     (found_in (g.D.Disk.view c.args.disk.now).seen) (c.in-Err.ensures.refused tells)
+
+pub returns-in-Ok-clause-image : goal.returns-in-Ok-clause-image
+returns-in-Ok-clause-image g c tells =
+    let old = (g.D.Disk.view c.args.disk.now).seen in
+    let new = (g.D.Disk.view c.recover_parts.new.disk).seen in
+    subst (λ (k : Kept). (file : ℕ) → file ≢ k.control.image → new file ≡ old file) (sym c.database_of.ensures)
+    (c.in-Ok.ensures.image tells)

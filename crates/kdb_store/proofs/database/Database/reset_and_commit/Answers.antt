@@ -1,7 +1,8 @@
 use Rattle.std.proofs.Common.{ap, ◌∙◌, Err}
 use Rattle.store_files.specs.Kept.{Kept}
 use Rattle.kdb_store.proofs.Switched.{is_under}
-use Rattle.kdb_store.proofs.Anew.{anew_place, anew_told}
+use Rattle.kdb_store.proofs.Anew.{anew_place, anew_told, anew_entered}
+use Rattle.kdb_store.specs.Anew.{point_behind}
 use Rattle.kdb_store.proofs.database.Database.reset_and_commit.Goals as goal
 
 pub reset_change-requires-clause-on : goal.reset_change-requires-clause-on
@@ -163,3 +164,16 @@ returns-in-Err-MemoryOut-clause-still g c tells none =
       broken = c.self.inside.broken;
     }) c.args.self.now (g.D.Disk.view c.args.disk.now) c.self.view_is c.self.invariant (c.requires.on tells))
     (c.in-Err-MemoryOut.is ∙ ap Err c.in-Err-MemoryOut.field-0-is)
+
+pub returns-in-Ok-clause-entered : goal.returns-in-Ok-clause-entered
+returns-in-Ok-clause-entered g c =
+    anew_entered (record {
+      control = c.self.inside.control;
+      log = c.self.inside.log;
+      cells = c.self.inside.cells;
+      rows = c.self.inside.rows;
+      realm = c.self.inside.realm;
+      stash = c.self.inside.stash;
+      broken = c.self.inside.broken;
+    }) c.args.self.now c.args.op (point_behind c.args.base c.args.time) c.reset_change.new.control.log c.args.base
+    c.args.block c.reset_change.new.log c.self.view_is c.in-Ok.ensures.entered

@@ -1,6 +1,7 @@
 use Rattle.std.proofs.Common.{ℕ, List, refl, sym, ap, subst, ◌∙◌}
 use Rattle.kdb_places.specs.Places.{replaced}
 use Rattle.primary_core.proofs.Filled.{filled_open, filled_state}
+use Rattle.primary_core.proofs.Whole.{written_as}
 use Rattle.primary_core.proofs.primary.Primary.fill_with.Goals as goal
 use Rattle.primary_core.specs.Opened.{Opened}
 use Rattle.row_keys.specs.Sound.{HasState as HasStateOf, ShowsValid, judged}
@@ -46,3 +47,8 @@ returns-in-Ok-clause-state g c t shows =
     (c.in-Ok.ensures.place ∙ ap (λ (x : List ℕ). replaced x c.args.rows c.args.base (place_kept c.self.inside.database))
     (c.requires.realm ∙ ap (λ (x : Opened). x.kept.realm) (sym c.self.view_is)))
     refl
+
+pub returns-in-Ok-clause-written : goal.returns-in-Ok-clause-written
+returns-in-Ok-clause-written g c = λ t. written_as c.replace.new.self
+    (replaced c.args.realm c.args.rows c.args.base (place_kept c.self.inside.database)) c.args.base
+    (g.D.Disk.view c.replace.new.disk) c.in-Ok.ensures.place (c.in-Ok.ensures.written t)

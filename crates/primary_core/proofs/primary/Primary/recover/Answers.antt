@@ -3,9 +3,9 @@ use Rattle.kdb_base.specs.declared.versions.Master.{Master}
 use Rattle.kdb_disk.proofs.Runs.{weaken}
 use Rattle.kdb_disk.specs.Moments.{LeavesOnly}
 use Rattle.kdb_disk.specs.View.{View}
-use Rattle.primary_core.proofs.Recovered.{halts_having, kept_stays, late_ends, late_having, late_kept}
-use Rattle.primary_core.proofs.Recovered.{late_only, late_refused, may_be_like, opened_at_ok}
-use Rattle.primary_core.proofs.Recovered.{opens_on, opens_to_if, rows_stop, stop_same, stopped_only}
+use Rattle.primary_core.proofs.Recovered.{found_written, halts_having, kept_stays, late_ends, late_having, late_kept}
+use Rattle.primary_core.proofs.Recovered.{late_only, late_refused, late_stops, may_be_like, opened_at_ok}
+use Rattle.primary_core.proofs.Recovered.{opens_on, opens_to_if, rows_stop, rows_stop_it, stop_same, stopped_only}
 use Rattle.primary_core.proofs.primary.Primary.recover.Goals as goal
 use Rattle.primary_core.specs.Opened.{Opened}
 use Rattle.primary_core.specs.Opening.{RecoversAs}
@@ -81,3 +81,14 @@ returns-in-Ok-clause-refused_stays g c = λ t why e.
     (c.open_as.ensures.refused why e) c.open_as.ensures.late)))
     (kept_stays c.in-Ok.database (g.D.Disk.view c.args.disk.now).seen (g.D.Disk.view c.open_rows.new.disk)
     (c.in-Ok.ensures.found t) (c.what_is_kept_is_recovered.ensures _ (c.in-Ok.ensures.on t)))
+
+pub returns-in-Err-clause-stops : goal.returns-in-Err-clause-stops
+returns-in-Err-clause-stops g c = rows_stop_it c.args.size c.args.now c.in-Err.stop c.in-Err.ensures.stops
+
+pub returns-in-Ok-clause-stops : goal.returns-in-Ok-clause-stops
+returns-in-Ok-clause-stops g c = late_stops (place_kept c.in-Ok.database) c.args.size c.args.now c.open_as.result
+    c.open_as.ensures.refused
+
+pub returns-in-Ok-clause-written : goal.returns-in-Ok-clause-written
+returns-in-Ok-clause-written g c = λ t. found_written c.in-Ok.database _ (c.in-Ok.ensures.found t) c.args.now
+    (g.D.Disk.view c.open_as.new.disk) c.open_as.result (c.open_as.ensures.written t)
